@@ -1,46 +1,43 @@
 -- What follows from what an operation answers to a message.
-use Rattle.std.proofs.Common.{◌≡◌, Bool, true, false, if◌then◌else◌, Option, refl, sym, ◌∙◌, ap, subst}
+use Rattle.std.proofs.Common.{◌≡◌, ℕ, Bool, true, false, if◌then◌else◌, Option, Some, None, refl, sym, ◌∙◌, ap, subst}
 use Rattle.fab_base.specs.declared.identities.BrickId.{BrickId}
 use Rattle.fab_base.specs.declared.stamps.Stamp.{Stamp}
+use Rattle.fab_base.specs.declared.notes.Note.{Note}
 use Rattle.messages.specs.declared.calls.Call.{Call}
 use Rattle.messages.specs.declared.packets.Message.{Message}
 use Rattle.messages.specs.declared.turns.Next.{Next}
 use Rattle.messages.specs.declared.turns.Next.TheVariants.{Wait, Send, End, Recover}
 use Rattle.messages.specs.declared.turns.Turn.{Turn}
-use Rattle.protocol.specs.declared.phases.Phase.{Phase}
-use Rattle.protocol.specs.declared.phases.Phase.TheVariants.{Looks, Orders, Recovers, Descends, Stores}
 use Rattle.protocol.specs.Coordinators as machine
 use Rattle.protocol.specs.Coordinators.{Coordinator}
 use Rattle.stripe_code.specs.Codes.{block_code}
 use Rattle.coord_phase.specs.Operations.{Operation, StaysAsked, counts}
-use Rattle.coord_phase.specs.Decisions.{Answers, IsWait, IsSend, SendsPhase, begins_in, decision, decided_on, note_told}
+use Rattle.coord_phase.specs.Decisions.{Answers, AsksRecovery, NeverRecovers, IsWait, IsSend, SendsPhase, begins_in, decision, decided_on, note_told}
 use Rattle.coord_recover.specs.Recoveries.{entered}
 use Rattle.node.specs.Decisions.{or_waits}
 use Rattle.node.proofs.Phases.{Begins, Follows, on_reply_follows}
 
 -- a phase that begins is no reply that is left out
-pub or_waits-begins : (c d : Coordinator) (phase : Phase) → or_waits c (begins_in phase d) ≡ begins_in phase d
-or_waits-begins c d Looks = refl
-or_waits-begins c d Orders = refl
-or_waits-begins c d Recovers = refl
-or_waits-begins c d (Descends bound) = refl
-or_waits-begins c d Stores = refl
+pub or_waits-begins : (c d : Coordinator) (note : Option Note) → or_waits c (begins_in note d) ≡ begins_in note d
+or_waits-begins c d None = refl
+or_waits-begins c d (Some note) = refl
 
 -- as a phase begins, what is told of a call is told of every one
-told-begins : (a b : Call) (phase : Phase) (c : Coordinator) → note_told a (begins_in phase c) ≡ note_told b (begins_in phase c)
-told-begins a b Looks c = refl
-told-begins a b Orders c = refl
-told-begins a b Recovers c = refl
-told-begins a b (Descends bound) c = refl
-told-begins a b Stores c = refl
+told-begins : (a b : Call) (note : Option Note) (c : Coordinator) → note_told a (begins_in note c) ≡ note_told b (begins_in note c)
+told-begins a b None c = refl
+told-begins a b (Some note) c = refl
 
 -- a phase that begins is the call's next, and no reply counts in it yet
-pub begins_so : (phase : Phase) (c d : Coordinator) → Follows c (begins_in phase d) → Begins c d
-begins_so Looks c d is = is
-begins_so Orders c d is = is
-begins_so Recovers c d is = is
-begins_so (Descends bound) c d is = is
-begins_so Stores c d is = is
+pub begins_so : (note : Option Note) (c d : Coordinator) → Follows c (begins_in note d) → Begins c d
+begins_so None c d is = is
+begins_so (Some note) c d is = is
+
+-- an operation that never asks for a recovery asks for one only where it may
+pub never_asks : (block : ℕ) (next : Next) (before after : Coordinator) → NeverRecovers next → AsksRecovery true block next before after
+never_asks block (Send messages) before after is = tt
+never_asks block Wait before after is = tt
+never_asks block (End answer) before after is = tt
+never_asks block (Recover turn) before after is = absurd is
 
 -- what follows from what a message lets an operation decide
 decided_follows : (fresh : Option Stamp) (op : Operation) (from : BrickId) (message : Message) → Follows op.state (decided_on fresh op from message)
@@ -83,11 +80,11 @@ module _ (fresh : Option Stamp) (before : Operation) (from : BrickId) (message :
 
   -- what is told as a phase begins is the phase's
   pub begun_note : (answered : Next) (after : Operation) → (IsWait answered → ⊥) → Answers fresh before from message answered after
-      → decision after answered ≡ begins_in after.state.phase after.state
-      → after.note ≡ note_told after.state.call (begins_in after.state.phase after.state)
+      → decision after answered ≡ begins_in after.note after.state
+      → after.note ≡ note_told after.state.call (begins_in after.note after.state)
   begun_note answered after busy is begins =
       is.told ∙ ap (note_told before.state.call) (decided_if_busy answered after busy is ∙ begins)
-      ∙ told-begins before.state.call after.state.call after.state.phase after.state
+      ∙ told-begins before.state.call after.state.call after.note after.state
 
   -- one that waits does so as the machine says, in the same phase of its call
   waits_by : (after : Operation) → Answers fresh before from message Wait after → (b : Bool) → counts before from message ≡ b

@@ -4,14 +4,13 @@ use Rattle.std.proofs.lemmas.List.{length-map}
 use Rattle.fab_base.specs.declared.identities.BrickId.{BrickId}
 use Rattle.fab_base.specs.declared.stamps.Stamp.{Stamp}
 use Rattle.fab_base.specs.declared.answers.Answer.{Answer}
+use Rattle.fab_base.specs.declared.notes.Note.{Note}
 use Rattle.messages.specs.declared.calls.Call.{Call}
 use Rattle.messages.specs.declared.packets.Message.{Message}
 use Rattle.messages.specs.declared.requests.Request.{Request}
 use Rattle.messages.specs.declared.turns.Next.{Next}
 use Rattle.messages.specs.declared.turns.Next.TheVariants.{Send, Wait, End, Recover}
 use Rattle.fab_base.specs.Layouts.{Layout}
-use Rattle.protocol.specs.declared.phases.Phase.{Phase}
-use Rattle.protocol.specs.declared.phases.Phase.TheVariants.{Looks, Orders, Recovers, Descends, Stores}
 use Rattle.protocol.specs.Coordinators as machine
 use Rattle.protocol.specs.Coordinators.{Coordinator, next_phase, request_of}
 use Rattle.protocol.specs.Nodes.{to_members, phase_packets, seen_told}
@@ -64,27 +63,18 @@ collects_more None P Q more is = tt
 collects_more (Some t) P Q more is = more is
 
 -- as a phase begins, it is sent, nothing is answered, and the operation is left open
-phase_carried : (layout : Layout) (me : BrickId) (c d : Coordinator) (phase : Phase)
-    → phase_packets (coding layout) me d ≡ packets_in layout me c (begins_in phase d)
-phase_carried layout me c d Looks = refl
-phase_carried layout me c d Orders = refl
-phase_carried layout me c d Recovers = refl
-phase_carried layout me c d (Descends bound) = refl
-phase_carried layout me c d Stores = refl
+phase_carried : (layout : Layout) (me : BrickId) (c d : Coordinator) (note : Option Note)
+    → phase_packets (coding layout) me d ≡ packets_in layout me c (begins_in note d)
+phase_carried layout me c d None = refl
+phase_carried layout me c d (Some note) = refl
 
-none_answered : (seq : ℕ) (d : Coordinator) (phase : Phase) → [] ≡ answers_in seq (begins_in phase d)
-none_answered seq d Looks = refl
-none_answered seq d Orders = refl
-none_answered seq d Recovers = refl
-none_answered seq d (Descends bound) = refl
-none_answered seq d Stores = refl
+none_answered : (seq : ℕ) (d : Coordinator) (note : Option Note) → [] ≡ answers_in seq (begins_in note d)
+none_answered seq d None = refl
+none_answered seq d (Some note) = refl
 
-phase_left : (d : Coordinator) (phase : Phase) → left_by (begins_in phase d) ≡ Some d
-phase_left d Looks = refl
-phase_left d Orders = refl
-phase_left d Recovers = refl
-phase_left d (Descends bound) = refl
-phase_left d Stores = refl
+phase_left : (d : Coordinator) (note : Option Note) → left_by (begins_in note d) ≡ Some d
+phase_left d None = refl
+phase_left d (Some note) = refl
 
 module _ (layout : Layout) (before after : Operation) (block : (shown_of after).block ≡ (shown_of before).block) where
   -- an operation that waits sends and tells nothing
@@ -104,17 +94,18 @@ module _ (layout : Layout) (before after : Operation) (block : (shown_of after).
   -- one that begins a phase sends and tells that
   pub begins_out : (known later : ℕ) (messages : List (BrickId × Message)) → SendsPhase layout after messages
       → (coordinator_of after).call ≡ next_phase (coordinator_of before).call
-      → (let next = begins_in (coordinator_of after).phase (coordinator_of after) in later ≡ known_by known next
+      → (let next = begins_in (shown_of after).note (coordinator_of after) in later ≡ known_by known next
       → CarriesOut layout before after known later next (record { messages = messages; told = told_in (coordinator_of after).call.seq next; answers = [] }))
   begins_out known later messages sends call knows =
       let c = coordinator_of before in
       let d = coordinator_of after in
+      let note = (shown_of after).note in
       record {
-        packets = λ me. sends me ∙ phase_carried layout me c d d.phase;
-        told = ap (λ (call : Call). told_in call.seq (begins_in d.phase d)) call;
-        answers = none_answered c.call.seq d d.phase;
+        packets = λ me. sends me ∙ phase_carried layout me c d note;
+        told = ap (λ (call : Call). told_in call.seq (begins_in note d)) call;
+        answers = none_answered c.call.seq d note;
         knows = knows;
-        left = phase_left d d.phase;
+        left = phase_left d note;
         keeps = ap (λ (call : Call). call.seq) call;
         block = block;
       }

@@ -1,5 +1,5 @@
 -- What becomes of a coordinator as it hears a reply.
-use Rattle.std.proofs.Common.{◌≡◌, ℕ, nat_lt, List, [], ◌∷◌, ◌++◌, length, Option, Some, None, refl}
+use Rattle.std.proofs.Common.{◌≡◌, ℕ, true, nat_lt, List, [], ◌∷◌, ◌++◌, length, Option, Some, None, refl}
 use Rattle.std.proofs.lemmas.Bool.{cond_both}
 use Rattle.fab_base.specs.declared.identities.BrickId.{BrickId}
 use Rattle.fab_base.specs.declared.stamps.Stamp.{Stamp}
@@ -7,7 +7,7 @@ use Rattle.fab_base.specs.declared.asks.Ask.{Ask}
 use Rattle.messages.specs.declared.calls.Call.{Call}
 use Rattle.messages.specs.declared.replies.Reply.{Reply}
 use Rattle.protocol.specs.declared.phases.Phase.{Phase}
-use Rattle.protocol.specs.declared.phases.Phase.TheVariants.{Looks, Orders, Recovers, Descends, Stores}
+use Rattle.protocol.specs.declared.phases.Phase.TheVariants.{Looks, LooksAt, Orders, OrdersAt, Recovers, Descends, Modifies, Bases, Stores}
 use Rattle.protocol.specs.declared.phases.Counted.{Counted}
 use Rattle.protocol.specs.declared.phases.Refuser.{Refuser}
 use Rattle.protocol.specs.declared.phases.FullMember.{FullMember}
@@ -15,7 +15,8 @@ use Rattle.fab_base.specs.Layouts.{Group}
 use Rattle.quorum.specs.Quorums.{quorum_of}
 use Rattle.reg_model.specs.Registers.{read_of}
 use Rattle.protocol.specs.Settings.{Code}
-use Rattle.protocol.specs.Coordinators.{Coordinator, Next, Ignores, Waits, Sends, Makes, Ends, next_phase, in_phase, fast_version, greatest_refuser, greatest_found, pieces_at, answered_fast, once_ordered, ordered_again, unless_refused, unless_told_full, lowest_full, read_back, answer_with, decided, once_full, counted_at, counts_at, on_reply, most_rounds}
+use Rattle.protocol.specs.Coordinators.{Coordinator, Next, Ignores, Waits, Sends, Makes, Ends, next_phase, in_phase, fast_version, fast_version_at, common_version_at, some_behind, greatest_refuser, greatest_found, pieces_at, answered_fast, answered_fast_at, modified_if, once_modified, rebuilt, once_ordered, ordered_again, unless_refused, unless_told_full, lowest_full, read_back, answer_with, decided, once_full, counted_at, counts_at, on_reply, most_rounds}
+use Rattle.coord_phase.specs.Operations.{is_storing}
 use Rattle.node.specs.Decisions.{Collects}
 
 -- the coordinator begins the next phase of its call, in which no reply counts yet
@@ -29,7 +30,7 @@ Follows c Ignores = Unit {0}
 Follows c (Waits d) = d.call ≡ c.call
 Follows c (Sends d) = Begins c d
 Follows c (Makes d) = Begins c d
-Follows c (Ends answer seen stored) = Collects stored (c.phase ≡ Stores)
+Follows c (Ends answer seen stored) = Collects stored (is_storing c.phase ≡ true)
 
 module _ (group : Group) (ask : Ask) (stamp : Stamp) (round : ℕ) (base : Option Stamp) (content : List ℕ) (call : Call) (counted more : List Counted) where
   -- the coordinator in a phase, before and after a reply counted
@@ -43,6 +44,10 @@ module _ (group : Group) (ask : Ask) (stamp : Stamp) (round : ℕ) (base : Optio
   fast code None = record { call = refl; counted = refl }
   fast code (Some v) = tt
 
+  fast_at : (j : ℕ) (v : Option Stamp) → Follows (before (LooksAt j)) (answered_fast_at (after (LooksAt j)) j v)
+  fast_at j None = record { call = refl; counted = refl }
+  fast_at j (Some v) = tt
+
   again : (phase : Phase) (fresh : Option Stamp) (r : Refuser) → Follows (before phase) (ordered_again fresh (after phase) r)
   again phase None r = tt
   again phase (Some t) r =
@@ -53,21 +58,43 @@ module _ (group : Group) (ask : Ask) (stamp : Stamp) (round : ℕ) (base : Optio
   orders fresh None = record { call = refl; counted = refl }
   orders fresh (Some r) = again Orders fresh r
 
-  reads_back : (code : Code) (phase : Phase) (v : Option Stamp) → Follows (before phase) (read_back code (after phase) v)
-  reads_back code phase None = refl
-  reads_back code phase (Some v) =
+  modified : (code : Code) (j : ℕ) (v : Option Stamp) → Follows (before (OrdersAt j)) (modified_if code (after (OrdersAt j)) j v)
+  modified code j None = record { call = refl; counted = refl }
+  modified code j (Some v) = record { call = refl; counted = refl }
+
+  orders_at : (code : Code) (fresh : Option Stamp) (j : ℕ) (r : Option Refuser)
+      → Follows (before (OrdersAt j)) (once_ordered fresh (after (OrdersAt j)) r (modified_if code (after (OrdersAt j)) j (common_version_at j more)))
+  orders_at code fresh j None = modified code j (common_version_at j more)
+  orders_at code fresh j (Some r) = again (OrdersAt j) fresh r
+
+  reads_back : (block : ℕ) (code : Code) (phase : Phase) (v : Option Stamp) → Follows (before phase) (read_back block code (after phase) v)
+  reads_back block code phase None = refl
+  reads_back block code phase (Some v) =
       cond_both (nat_lt (length (pieces_at v more)) group.m) _ _ (λ next. Follows (before phase) next)
       (λ few. record { call = refl; counted = refl }) (λ enough. record { call = refl; counted = refl })
 
-  recovers : (code : Code) (fresh : Option Stamp) (r : Option Refuser)
-      → Follows (before Recovers) (once_ordered fresh (after Recovers) r (read_back code (after Recovers) (greatest_found more)))
-  recovers code fresh None = reads_back code Recovers (greatest_found more)
-  recovers code fresh (Some r) = again Recovers fresh r
+  recovers : (block : ℕ) (code : Code) (fresh : Option Stamp) (r : Option Refuser)
+      → Follows (before Recovers) (once_ordered fresh (after Recovers) r (read_back block code (after Recovers) (greatest_found more)))
+  recovers block code fresh None = reads_back block code Recovers (greatest_found more)
+  recovers block code fresh (Some r) = again Recovers fresh r
 
-  descends : (code : Code) (bound : Stamp) (r : Option Refuser)
-      → Follows (before (Descends bound)) (unless_refused r (read_back code (after (Descends bound)) (greatest_found more)))
-  descends code bound None = reads_back code (Descends bound) (greatest_found more)
-  descends code bound (Some r) = tt
+  descends : (block : ℕ) (code : Code) (bound : Stamp) (r : Option Refuser)
+      → Follows (before (Descends bound)) (unless_refused r (read_back block code (after (Descends bound)) (greatest_found more)))
+  descends block code bound None = reads_back block code (Descends bound) (greatest_found more)
+  descends block code bound (Some r) = tt
+
+  modifies : (base : Stamp) (j : ℕ) (r : Option Refuser)
+      → Follows (before (Modifies base j)) (unless_refused r (once_modified (after (Modifies base j)) base))
+  modifies base j None =
+      cond_both (some_behind more) _ _ (λ next. Follows (before (Modifies base j)) next) (λ behind. record { call = refl; counted = refl }) (λ all. refl)
+  modifies base j (Some r) = tt
+
+  bases : (block : ℕ) (code : Code) (base : Stamp) (r : Option Refuser)
+      → Follows (before (Bases base)) (unless_refused r (rebuilt block code (after (Bases base)) base))
+  bases block code base None =
+      cond_both (nat_lt (length (pieces_at base more)) group.m) _ _ (λ next. Follows (before (Bases base)) next) (λ few. refl)
+      (λ enough. record { call = refl; counted = refl })
+  bases block code base (Some r) = tt
 
   stores : (block : ℕ) (r : Option Refuser)
       → Follows (before Stores) (unless_refused r (Ends (answer_with (read_of block ask.op content)) None (Some stamp)))
@@ -82,9 +109,13 @@ module _ (group : Group) (ask : Ask) (stamp : Stamp) (round : ℕ) (base : Optio
   decides : (block : ℕ) (code : Code) (fresh : Option Stamp) (phase : Phase) → Follows (before phase) (decided block code fresh (after phase))
   unfolding decided
   decides block code fresh Looks = unless_full (lowest_full more) Looks _ (fast code (fast_version more))
+  decides block code fresh (LooksAt j) = unless_full (lowest_full more) (LooksAt j) _ (fast_at j (fast_version_at j more))
   decides block code fresh Orders = unless_full (lowest_full more) Orders _ (orders fresh (greatest_refuser more))
-  decides block code fresh Recovers = unless_full (lowest_full more) Recovers _ (recovers code fresh (greatest_refuser more))
-  decides block code fresh (Descends bound) = unless_full (lowest_full more) (Descends bound) _ (descends code bound (greatest_refuser more))
+  decides block code fresh (OrdersAt j) = unless_full (lowest_full more) (OrdersAt j) _ (orders_at code fresh j (greatest_refuser more))
+  decides block code fresh Recovers = unless_full (lowest_full more) Recovers _ (recovers block code fresh (greatest_refuser more))
+  decides block code fresh (Descends bound) = unless_full (lowest_full more) (Descends bound) _ (descends block code bound (greatest_refuser more))
+  decides block code fresh (Modifies base j) = unless_full (lowest_full more) (Modifies base j) _ (modifies base j (greatest_refuser more))
+  decides block code fresh (Bases base) = unless_full (lowest_full more) (Bases base) _ (bases block code base (greatest_refuser more))
   decides block code fresh Stores = unless_full (lowest_full more) Stores _ (stores block (greatest_refuser more))
 
   once_full_follows : (block : ℕ) (code : Code) (fresh : Option Stamp) (phase : Phase) → Follows (before phase) (once_full block code fresh (after phase))

@@ -12,6 +12,8 @@ use Rattle.brick_state.specs.States.{StateOf, no_group}
 use Rattle.brick_store.specs.Bricks.{Brick}
 use Rattle.brick_store.specs.Images.{StandsFor}
 use Rattle.fab_base.specs.Layouts.{Layout, Group}
+use Rattle.protocol.specs.Settings.{Setting}
+use Rattle.stripe_code.specs.Codes.{coding}
 use Rattle.protocol.specs.Nodes.{Node, NodeStep, no_step, requested_in, requested_at, seat_served}
 use Rattle.protocol.specs.Nodes as machine
 use Rattle.replica.specs.Parts.{IsPartsOf, IsFirstView}
@@ -35,15 +37,17 @@ record KeepsCalls (old : Node) (step : NodeStep) : Type 0 where
 same_calls : (node : Node) → KeepsCalls node (no_step node)
 same_calls node = record { boot = refl; seq = refl; known = refl; busy = refl; calls = refl; told = refl; answers = refl }
 
-at_seat : (records : ℕ) (me from : BrickId) (node : Node) (call : Call) (request : Request) (seat : Option ℕ)
-    → KeepsCalls node (requested_at records me from node call request seat)
-at_seat records me from node call request None = same_calls node
-at_seat records me from node call request (Some seat) = record { boot = refl; seq = refl; known = refl; busy = refl; calls = refl; told = refl; answers = refl }
+at_seat : (setting : Setting) (m : ℕ) (me from : BrickId) (node : Node) (call : Call) (request : Request) (seat : Option ℕ)
+    → KeepsCalls node (requested_at setting m me from node call request seat)
+at_seat setting m me from node call request None = same_calls node
+at_seat setting m me from node call request (Some seat) = record { boot = refl; seq = refl; known = refl; busy = refl; calls = refl; told = refl; answers = refl }
 
 -- so a request does
 keeps_calls : (layout : Layout) (me from : BrickId) (node : Node) (call : Call) (request : Request) (group : Option Group)
-    → KeepsCalls node (requested_in layout me from node call request group)
-keeps_calls layout me from node call request group = at_seat layout.records me from node call request (seat_served layout me node call request group)
+    → KeepsCalls node (requested_in (coding layout) me from node call request group)
+keeps_calls layout me from node call request None = same_calls node
+keeps_calls layout me from node call request (Some group) =
+    at_seat (coding layout) group.m me from node call request (seat_served layout me node call request group)
 
 -- so does each message that a member serves
 serves_calls : (layout : Layout) (me from : BrickId) (node : Node) (message : Message) → KeepsCalls node (member_step layout me from node message)

@@ -5,11 +5,12 @@ use Rattle.fab_base.specs.Layouts.{Layout, Group}
 use Rattle.protocol.specs.Coordinators.{Coordinator}
 use Rattle.coord_phase.specs.Operations as phased
 use Rattle.node.specs.declared.operations.Operation.{Operation}
-use Rattle.node.specs.declared.operations.Operation.TheVariants.{Stripe, Recovery}
+use Rattle.node.specs.declared.operations.Operation.TheVariants.{Stripe, Block, Recovery}
 
 -- what its coordinator shows of an operation
 abbrev pub shown_of : Operation → phased.Operation
 shown_of (Stripe op) = op
+shown_of (Block op) = op
 shown_of (Recovery op) = op
 
 -- the machine's coordinator of an operation

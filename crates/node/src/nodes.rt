@@ -11,7 +11,7 @@ ghost use Rattle.brick_store.specs.Bricks.{Brick};
 ghost use Rattle.brick_store.specs.Images.{IsFound};
 ghost use Rattle.brick_store.specs.Openings.{IsAllowedOr};
 ghost use Rattle.protocol.specs.Nodes as machine;
-ghost use Rattle.protocol.specs.Nodes.{is_stripe_op, view_at, refusal_of, invoked, replied, received, absorbed, ticked, restarted};
+ghost use Rattle.protocol.specs.Nodes.{view_at, refusal_of, invoked, replied, received, absorbed, ticked, restarted};
 ghost use Rattle.messages.specs.declared.packets.Message.TheVariants as message;
 ghost use Rattle.stripe_code.specs.Codes.{coding};
 ghost use Rattle.replica.specs.Parts.{IsFirstView, part_seen};
@@ -140,7 +140,7 @@ impl<D: Disk> Node<D> {
         })
     }
 
-    /// Begins an operation on a whole stripe, at this time of the brick's clock.
+    /// Begins an operation, at this time of the brick's clock.
     ///
     /// # Errors
     ///
@@ -148,7 +148,6 @@ impl<D: Disk> Node<D> {
     /// there is: there is no such group or stripe; no such data block; the bytes are not one block, or m blocks; 64 operations are open;
     /// no later time or call number is left. `NoMemory` where no memory was left.
     pub fn invoke(&mut self, now: u64, ask: &Ask) -> Result<Begun, NodeFault>
-        requires stripe { is_stripe_op ask.now.op ≡ true }
         ensures refused { RefusesAs result (refusal_of self.old.layout (state_of self.old) ask.now) }
         ensures begun { IfOk result (BeginsAs self.old.me (state_of self.new) (invoked (coding self.old.layout) self.old.me now (state_of self.old) ask.now)) }
         ensures err { OnErr result (state_of self.new ≡ state_of self.old) }

@@ -56,7 +56,7 @@ impl OpenCalls {
     ghost use Rattle.std.specs.Result.{result_err};
     ghost use Rattle.fab_base.specs.Layouts as layouts;
     ghost use Rattle.fab_base.specs.Layouts.{group_of};
-    ghost use Rattle.protocol.specs.Nodes.{is_stripe_op, has_length, refusal_in, refusal_of, coordinator_in, began_in, replied, ticked, no_calls};
+    ghost use Rattle.protocol.specs.Nodes.{has_block, has_length, refusal_in, refusal_of, coordinator_in, began_in, replied, ticked, no_calls};
     ghost use Rattle.quorum.specs.Quorums.{IsWithinLimits};
     ghost use Rattle.coord_phase.specs.Operations.{group_in_view};
     ghost use Rattle.messages.specs.declared.packets.Message.TheVariants as message;
@@ -110,6 +110,7 @@ impl OpenCalls {
         ensures known { result ≡ None → self.now.stamps.known + 1 < 2 ^ 64 }
         ensures room { result ≡ None → btree_map_len self.now.operations < 64 }
         ensures seq { result ≡ None → self.now.seq + 1 < 2 ^ 64 }
+        ensures block { result ≡ None → has_block group.now.m ask.now.op ≡ true }
         ensures fits { result ≡ None → has_length group.now.m block ask.now.op ≡ true }
     {
         if ask.stripe.0 >= group.stripes() {
@@ -135,6 +136,7 @@ impl OpenCalls {
         ensures room { OnOk result (btree_map_len self.now.operations < 64) }
         ensures known { OnOk result (self.now.stamps.known + 1 < 2 ^ 64) }
         ensures seq { OnOk result (self.now.seq + 1 < 2 ^ 64) }
+        ensures block { IfOk result (λ group. has_block group.now.m ask.now.op ≡ true) }
         ensures fits { IfOk result (λ group. has_length group.now.m layout.now.block ask.now.op ≡ true) }
     {
         let Some(group) = layout.group(ask.group) else {
@@ -165,8 +167,8 @@ impl OpenCalls {
         requires room { btree_map_len self.old.operations < 64 }
         requires known { self.old.stamps.known + 1 < 2 ^ 64 }
         requires seq { self.old.seq + 1 < 2 ^ 64 }
-        requires stripe { is_stripe_op ask.now.op ≡ true }
         requires limits { IsWithinLimits (group_in_view layout.now view.members ask.now.group.0).m (length view.members) }
+        requires block { has_block (group_in_view layout.now view.members ask.now.group.0).m ask.now.op ≡ true }
         requires fits { has_length (group_in_view layout.now view.members ask.now.group.0).m layout.now.block ask.now.op ≡ true }
         requires node { AreCallsOf layout.now self.old }
         ensures begun { (parts : KeptParts) → IfOk result

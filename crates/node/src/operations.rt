@@ -1,21 +1,19 @@
 //! The open operations of a brick.
 
-ghost use Rattle.std.specs.Prelude.{◌≡◌, ◌-◌, ◌<◌, ◌^◌, IfOk, OnErr, length};
+ghost use Rattle.std.specs.Prelude.{◌≡◌, length};
 ghost use Rattle.quorum.specs.Quorums.{IsWithinLimits};
 ghost use Rattle.coord_phase.specs.Operations.{with_state, without_last};
-ghost use Rattle.coord_phase.specs.Decisions as decisions;
-ghost use Rattle.coord_phase.specs.Decisions.{IsSend, HasBlocks};
-ghost use Rattle.coord_recover.specs.Recoveries.{entered};
 ghost use Rattle.node.specs.Operations.{first_view};
 ghost use Rattle.node.specs.Decisions.{messages_in};
 
 use crate::outs::Outs;
 use crate::sending::put_collects;
+use coord_block::BlockOp;
 use coord_recover::Recovery;
 use coord_stripe::StripeOp;
-use fab_base::{Answer, Ask, BrickId, CallId, NoMem, Note, Stamp, View, ViewNo};
+use fab_base::{Answer, Ask, BrickId, CallId, NoMem, Note, Op, Stamp, View, ViewNo};
 use layout::{Group, Layout};
-use messages::{Call, Message, Messages, Next, Turn};
+use messages::{Call, Message, Messages, Next};
 use protocol::{Answered, Told};
 use stamp_store::StampSource;
 use std::alloc::Global;
@@ -49,91 +47,63 @@ fn messages_in(alloc: Global, next: Next) -> Messages
 pub enum Operation {
     /// The read or write of a stripe.
     Stripe(StripeOp),
-    /// The recovery of a stripe, for a read that found no version that all tell.
+    /// The read or write of one data block.
+    Block(BlockOp),
+    /// The recovery of a stripe, for an operation that asked for it.
     Recovery(Recovery),
 }
 
 impl Operation {
-    ghost use Rattle.std.specs.Prelude.{◌≡◌, ◌≤◌, ◌↔◌, IsTrue, true, IfOk, OnErr, [], ◌∷◌, length, vec_len, vec_capacity, option_copied};
+    ghost use Rattle.std.specs.Prelude.{◌≡◌, ◌≤◌, true, IfOk, OnErr, [], ◌∷◌, length, vec_len, vec_capacity, option_copied};
     ghost use Rattle.quorum.specs.Quorums.{IsWithinLimits};
     ghost use Rattle.fab_base.specs.Layouts.{Layout};
-    ghost use Rattle.protocol.specs.declared.phases.Phase.TheVariants.{Stores};
-    ghost use Rattle.protocol.specs.Nodes.{is_stripe_op, has_length, seen_told};
-    ghost use Rattle.coord_phase.specs.Operations.{group_in_view};
+    ghost use Rattle.protocol.specs.Nodes.{has_block, has_length, seen_told};
+    ghost use Rattle.coord_phase.specs.Operations.{group_in_view, first_op, is_storing};
     ghost use Rattle.coord_phase.specs.Decisions as decisions;
-    ghost use Rattle.coord_phase.specs.Decisions.{Answers, NeverRecovers, IsSend, decided_on, begins_in, seen_in, note_told};
+    ghost use Rattle.coord_phase.specs.Decisions.{Answers, AsksRecovery, NeverRecovers, IsSend, decided_on, begins_in, seen_in, note_told};
     ghost use Rattle.coord_phase.specs.Messages.{phase_messages};
-    ghost use Rattle.coord_stripe.specs.StripeOps.{first_op};
     ghost use Rattle.node.specs.declared.operations.Operation.TheVariants as variant;
     ghost use Rattle.node.specs.Operations.{shown_of, coordinator_of, IsOperationOf};
     ghost use Rattle.node.specs.Decisions.{made_in, told_in, or_waits, known_by, SendsPhase, CarriesOut, Collects};
     ghost use Rattle.node.specs.Sending.{collect_messages};
 
+    /// The operation, as the coordinators of all kinds share it.
+    fn shown(&self) -> &coord_phase::Operation
+        ensures { result.now ≡ shown_of self.now }
+    {
+        match self {
+            Operation::Stripe(op) => op.operation(),
+            Operation::Block(op) => op.operation(),
+            Operation::Recovery(op) => op.operation(),
+        }
+    }
+
     /// The call of the present phase.
     pub fn call(&self) -> Call
         ensures { result ≡ (coordinator_of self.now).call }
     {
-        match self {
-            Operation::Stripe(op) => op.call(),
-            Operation::Recovery(op) => op.call(),
-        }
+        self.shown().stage().call
     }
 
     /// The operation's stamp.
     pub fn stamp(&self) -> Stamp
         ensures { result ≡ (coordinator_of self.now).stamp }
     {
-        match self {
-            Operation::Stripe(op) => op.stamp(),
-            Operation::Recovery(op) => op.stamp(),
-        }
+        self.shown().stage().stamp
     }
 
     /// The group, with the members that are asked.
     pub fn group(&self) -> &Group
         ensures { result.now ≡ (coordinator_of self.now).group }
     {
-        match self {
-            Operation::Stripe(op) => op.group(),
-            Operation::Recovery(op) => op.group(),
-        }
-    }
-
-    /// Whether the operation stores its version.
-    fn is_storing(&self) -> bool
-        ensures { IsTrue result ↔ ((coordinator_of self.now).phase ≡ Stores) }
-    {
-        match self {
-            Operation::Stripe(op) => op.is_storing(),
-            Operation::Recovery(op) => op.is_storing(),
-        }
-    }
-
-    /// What the last message let the operation tell of its version.
-    fn note(&self) -> Option<&Note>
-        ensures { option_copied result ≡ (shown_of self.now).note }
-    {
-        match self {
-            Operation::Stripe(op) => op.note(),
-            Operation::Recovery(op) => op.note(),
-        }
-    }
-
-    /// The version that it stored, which may be collected.
-    fn made(&self) -> Option<Stamp>
-        ensures { result ≡ (shown_of self.now).made }
-    {
-        match self {
-            Operation::Stripe(op) => op.made(),
-            Operation::Recovery(op) => op.made(),
-        }
+        self.shown().group()
     }
 
     /// The stamp and the base of the version that the last message let the operation make, if it did.
     fn version(&self) -> Option<(Stamp, Option<Stamp>)>
         ensures { result ≡ made_in (shown_of self.now).note }
     {
-        match self.note() {
+        match self.shown().note() {
             Some(Note::Made { stamp, base, .. }) => Some((*stamp, *base)),
             Some(Note::Seen { .. }) | None => None,
         }
@@ -143,13 +113,41 @@ impl Operation {
     fn seen(&self) -> Option<Stamp>
         ensures { result ≡ seen_in (shown_of self.now).note }
     {
-        match self.note() {
+        match self.shown().note() {
             Some(Note::Seen { stamp, .. }) => Some(*stamp),
             Some(Note::Made { .. }) | None => None,
         }
     }
 
-    /// Begins an operation on a whole stripe of a group, in this view: the operation, and the messages of its first phase.
+    /// Begins an operation on a stripe of a group, or on a block of it, in this view.
+    fn start(
+        alloc: Global,
+        layout: &Layout,
+        view: View,
+        call: CallId,
+        ask: Ask,
+        stamp: Stamp,
+    ) -> Result<(Operation, Next), NoMem>
+        requires limits { IsWithinLimits (group_in_view layout.now view.members ask.group.0).m (length view.members) }
+        requires block { has_block (group_in_view layout.now view.members ask.group.0).m ask.op ≡ true }
+        requires fits { has_length (group_in_view layout.now view.members ask.group.0).m layout.now.block ask.op ≡ true }
+        ensures operation { IfOk result (λ begun. shown_of begun.0 ≡ first_op layout.now view call ask stamp) }
+        ensures send { IfOk result (λ begun. IsSend begun.1) }
+        ensures sent { IfOk result (λ begun. decisions.SendsPhase (shown_of begun.0) begun.1) }
+    {
+        match &ask.op {
+            Op::ReadBlock(_) | Op::WriteBlock(_, _) => {
+                let (op, next) = BlockOp::start(alloc, layout, view, call, ask, stamp)?;
+                Ok((Operation::Block(op), next))
+            }
+            Op::ReadStripe | Op::WriteStripe(_) => {
+                let (op, next) = StripeOp::start(alloc, layout, view, call, ask, stamp)?;
+                Ok((Operation::Stripe(op), next))
+            }
+        }
+    }
+
+    /// Begins an operation on a stripe of a group, or on a block of it, in this view: the operation, and the messages of its first phase.
     pub fn begin(
         alloc: Global,
         layout: &Layout,
@@ -159,16 +157,16 @@ impl Operation {
         stamp: Stamp,
     ) -> Result<(Operation, Messages), NoMem>
         requires limits { IsWithinLimits (group_in_view layout.now view.members ask.now.group.0).m (length view.members) }
-        requires stripe { is_stripe_op ask.now.op ≡ true }
+        requires block { has_block (group_in_view layout.now view.members ask.now.group.0).m ask.now.op ≡ true }
         requires fits { has_length (group_in_view layout.now view.members ask.now.group.0).m layout.now.block ask.now.op ≡ true }
         ensures operation { IfOk result (λ begun. shown_of begun.0 ≡ first_op layout.now view call ask.now stamp) }
         ensures sends { IfOk result (λ begun. SendsPhase layout.now begun.0 begun.1.items) }
         ensures few { IfOk result (λ begun. vec_len begun.1 ≤ 32) }
     {
-        let (op, next) = StripeOp::start(alloc, layout, view, call, ask.copy(alloc)?, stamp)?;
+        let (op, next) = Operation::start(alloc, layout, view, call, ask.copy(alloc)?, stamp)?;
         // There is a message for each member, and these are few.
         let _ = op.group().policy();
-        Ok((Operation::Stripe(op), messages_in(alloc, next)))
+        Ok((op, messages_in(alloc, next)))
     }
 
     /// The messages of the present phase again, to each member of the group without a reply that counts.
@@ -178,19 +176,8 @@ impl Operation {
     {
         // There is at most a message for each member, and these are few.
         let _ = self.member_count();
-        let next = self.phase_again()?;
+        let next = self.shown().on_tick(alloc)?;
         Ok(messages_in(alloc, next))
-    }
-
-    /// The present phase again.
-    fn phase_again(&self) -> Result<Next, NoMem>
-        ensures send { IfOk result (λ next. IsSend next) }
-        ensures sent { IfOk result (λ next. decisions.SendsPhase (shown_of self.now) next) }
-    {
-        match self {
-            Operation::Stripe(op) => op.on_tick(),
-            Operation::Recovery(op) => op.on_tick(),
-        }
     }
 
     /// How many members are asked, at most 32.
@@ -201,21 +188,52 @@ impl Operation {
         self.group().policy().n() as usize
     }
 
-    /// Room for the messages that let all members collect. Only an operation that stores its version may end with such messages.
+    /// Room for the messages that let all members collect. Only an operation that has members keep its version may end with such messages.
     fn room_to_collect(&self, alloc: Global) -> Result<Messages, NoMem>
         ensures empty { IfOk result (λ room. room.items ≡ []) }
         ensures few { length (coordinator_of self.now).group.members ≤ 32 }
-        ensures room { IfOk result (λ room. (coordinator_of self.now).phase ≡ Stores → length (coordinator_of self.now).group.members ≤ vec_capacity room) }
+        ensures room { IfOk result (λ room. is_storing (coordinator_of self.now).phase ≡ true → length (coordinator_of self.now).group.members ≤ vec_capacity room) }
     {
         let most = self.member_count();
-        if !self.is_storing() {
+        if !self.shown().is_storing() {
             return Ok(Vec::new(alloc));
         }
         Ok(Vec::with_capacity(alloc, most)?)
     }
 
-    /// Takes a message in place. A new round of ordering would have the fresh stamp; there is none where no later time is left. A read
-    /// whose stripe is to be recovered becomes the recovery, in the next phase of its call.
+    /// Takes a message in place, and may ask that its stripe be recovered. A new round of ordering would have the fresh stamp; there is
+    /// none where no later time is left.
+    fn hear(
+        &mut self,
+        from: BrickId,
+        message: &Message,
+        fresh: Option<Stamp>,
+    ) -> Result<Next, NoMem>
+        ensures answers { IfOk result (λ next. Answers fresh (shown_of self.old) from message.now next (shown_of self.new)) }
+        ensures recovery { IfOk result (λ next. AsksRecovery true (shown_of self.old).block next (shown_of self.old).state
+            (without_last (shown_of self.new).state)) }
+        ensures same { OnErr result (shown_of self.new ≡ shown_of self.old) }
+    {
+        match self {
+            Operation::Stripe(op) => op.on_reply(from, message, fresh),
+            Operation::Block(op) => op.on_reply(from, message, fresh),
+            Operation::Recovery(op) => op.on_reply(from, message, fresh),
+        }
+    }
+
+    /// Takes the last reply that counted back.
+    fn take_back(&mut self)
+        ensures { shown_of self.new ≡ with_state (shown_of self.old) (without_last (shown_of self.old).state) }
+    {
+        match self {
+            Operation::Stripe(op) => op.take_back(),
+            Operation::Block(op) => op.take_back(),
+            Operation::Recovery(op) => op.take_back(),
+        }
+    }
+
+    /// Takes a message in place, as `hear`. An operation whose stripe is to be recovered becomes the recovery, in the next phase of its
+    /// call; where memory runs out for that, it takes the reply back on which it asked for this.
     fn take_reply(
         &mut self,
         alloc: Global,
@@ -228,18 +246,18 @@ impl Operation {
         ensures same { OnErr result (coordinator_of self.new ≡ coordinator_of self.old) }
         ensures block { OnErr result ((shown_of self.new).block ≡ (shown_of self.old).block) }
     {
-        match self {
-            Operation::Recovery(op) => op.on_reply(from, message, fresh),
-            Operation::Stripe(op) => match op.on_reply(from, message, fresh)? {
-                Next::Recover(turn) => match recover(alloc, op, turn) {
-                    Ok((recovery, next)) => {
-                        self.become_recovery(recovery);
-                        Ok(next)
-                    }
-                    Err(fault) => Err(fault),
-                },
-                next => Ok(next),
+        match self.hear(from, message, fresh)? {
+            Next::Recover(turn) => match Recovery::follow(alloc, self.shown(), turn) {
+                Ok((recovery, next)) => {
+                    self.become_recovery(recovery);
+                    Ok(next)
+                }
+                Err(fault) => {
+                    self.take_back();
+                    Err(fault)
+                }
             },
+            next => Ok(next),
         }
     }
 
@@ -252,13 +270,13 @@ impl Operation {
 
     /// What is sent and told as a phase begins: the version, where the operation makes it. The stamp of a new round is known from now on.
     fn begin_phase(&self, messages: Messages, stamps: &mut StampSource) -> Outs
-        requires { (shown_of self.now).note ≡ note_told (coordinator_of self.now).call (begins_in (coordinator_of self.now).phase (coordinator_of self.now)) }
+        requires { (shown_of self.now).note ≡ note_told (coordinator_of self.now).call (begins_in (shown_of self.now).note (coordinator_of self.now)) }
         ensures outs { result ≡ record {
           messages = messages.items;
-          told = told_in (coordinator_of self.now).call.seq (begins_in (coordinator_of self.now).phase (coordinator_of self.now));
+          told = told_in (coordinator_of self.now).call.seq (begins_in (shown_of self.now).note (coordinator_of self.now));
           answers = [];
         } }
-        ensures known { stamps.new.known ≡ known_by stamps.old.known (begins_in (coordinator_of self.now).phase (coordinator_of self.now)) }
+        ensures known { stamps.new.known ≡ known_by stamps.old.known (begins_in (shown_of self.now).note (coordinator_of self.now)) }
         ensures boot { stamps.new.boot ≡ stamps.old.boot }
     {
         let Some((stamp, base)) = self.version() else {
@@ -290,7 +308,7 @@ impl Operation {
             None => None,
         };
         Outs {
-            messages: put_collects(room, self.group(), call, self.made()),
+            messages: put_collects(room, self.group(), call, self.shown().made()),
             told,
             answer: Some(Answered { seq, answer }),
         }
@@ -325,25 +343,6 @@ impl Operation {
             Next::Send(messages) => Ok(self.begin_phase(messages, stamps)),
             Next::End(answer) => Ok(self.end(room, call, answer)),
             Next::Recover(_) => unreachable!(),
-        }
-    }
-}
-
-/// The recovery of the stripe of a read that asks for it, in the next phase of the read's call. Where memory runs out, the read takes
-/// the reply back on which it asked for this.
-fn recover(alloc: Global, op: &mut StripeOp, turn: Turn) -> Result<(Recovery, Next), NoMem>
-    requires phase { op.old.state.call.phase < 2 ^ 32 - 1 }
-    requires content { HasBlocks op.old.block op.old.state.group.m turn }
-    ensures op { IfOk result (λ begun. begun.0 ≡ entered op.old turn) }
-    ensures send { IfOk result (λ begun. IsSend begun.1) }
-    ensures sent { IfOk result (λ begun. decisions.SendsPhase begun.0 begun.1) }
-    ensures err { OnErr result (op.new ≡ with_state op.old (without_last op.old.state)) }
-{
-    match Recovery::follow(alloc, op.operation(), turn) {
-        Ok(begun) => Ok(begun),
-        Err(fault) => {
-            op.take_back();
-            Err(fault)
         }
     }
 }

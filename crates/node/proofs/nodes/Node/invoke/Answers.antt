@@ -4,7 +4,7 @@ use Rattle.std.proofs.lemmas.Bool.{true≢false}
 use Rattle.fab_base.specs.declared.member_lists.View.{View}
 use Rattle.fab_base.specs.Layouts.{Group}
 use Rattle.quorum.specs.Quorums.{IsWithinLimits}
-use Rattle.protocol.specs.Nodes.{Node, refusal_of, invoked, began_in, coordinator_in, has_length}
+use Rattle.protocol.specs.Nodes.{Node, refusal_of, invoked, began_in, coordinator_in, has_block, has_length}
 use Rattle.stripe_code.specs.Codes.{coding}
 use Rattle.coord_phase.specs.Operations.{group_in_view}
 use Rattle.node.specs.States.{KeptParts, state_with, parts_in, BeginsAs}
@@ -64,6 +64,15 @@ begin-requires-clause-limits g c =
     (sym c.first_view-view.ensures.view)
     (subst (λ (k : Group). IsWithinLimits k.m (length group.members))
     (sym (group_in_first_view x.layout c.args.ask.now.group.0 group c.in-Ok.ensures.group)) c.first_view-view.ensures.limits)
+
+pub begin-requires-clause-block : goal.begin-requires-clause-block
+begin-requires-clause-block g c =
+    let x = c.self.inside in
+    let group = c.in-Ok.group.now in
+    let is : group_in_view x.layout c.first_view-view.result.members c.args.ask.now.group.0 ≡ group =
+    ap (λ (view : View). group_in_view x.layout view.members c.args.ask.now.group.0) c.first_view-view.ensures.view
+    ∙ group_in_first_view x.layout c.args.ask.now.group.0 group c.in-Ok.ensures.group in
+    subst (λ (k : Group). has_block k.m c.args.ask.now.op ≡ true) (sym is) c.in-Ok.ensures.block
 
 pub begin-requires-clause-fits : goal.begin-requires-clause-fits
 begin-requires-clause-fits g c =

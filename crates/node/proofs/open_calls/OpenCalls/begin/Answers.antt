@@ -9,8 +9,7 @@ use Rattle.protocol.specs.Coordinators.{Coordinator}
 use Rattle.protocol.specs.Nodes.{put, new_stamp, phase_packets, coordinator_in}
 use Rattle.stripe_code.specs.Codes.{coding}
 use Rattle.coord_phase.specs.Operations as phased
-use Rattle.coord_phase.specs.Operations.{group_in_view}
-use Rattle.coord_stripe.specs.StripeOps.{first_op}
+use Rattle.coord_phase.specs.Operations.{group_in_view, first_op}
 use Rattle.node.specs.declared.operations.Operation.{Operation}
 use Rattle.node.specs.Operations.{coordinator_of}
 use Rattle.node.specs.States.{KeptParts, state_with, IsAt}

@@ -1,9 +1,9 @@
 -- What the operation did with the message is carried out.
-use Rattle.std.proofs.Common.{◌≡◌, ◌≤◌, length, vec_capacity, refl, ap, sym, ◌∙◌, subst, arith}
+use Rattle.std.proofs.Common.{◌≡◌, ◌≤◌, true, length, vec_capacity, refl, ap, sym, ◌∙◌, subst, arith}
 use Rattle.messages.specs.declared.turns.Next.TheVariants.{Wait, Send, End}
 use Rattle.fab_base.specs.Layouts.{Group}
 use Rattle.protocol.specs.Coordinators as machine
-use Rattle.protocol.specs.declared.phases.Phase.TheVariants.{Stores}
+use Rattle.coord_phase.specs.Operations.{is_storing}
 use Rattle.coord_phase.specs.Decisions.{begins_in, seen_in}
 use Rattle.coord_phase.specs.Messages.{packets_from}
 use Rattle.node.specs.Operations.{shown_of, coordinator_of}
@@ -39,17 +39,18 @@ returns-in-Send-clause-step c = λ layout of.
     let after = c.take_reply.new.self in
     let was = coordinator_of before in
     let d = coordinator_of after in
+    let note = (shown_of after).note in
     let known = c.args.stamps.now.known in
     let later = c.begin_phase.new.stamps.known in
     let is = answers_as c.args.fresh (shown_of c.args.self.now) c.args.from c.args.message.now _ (Send c.in-Send.messages) (shown_of c.take_reply.new.self)
     c.in-Send.is c.in_ok-take_reply.ensures.answers in
-    let begins = begins_so d.phase was d
+    let begins = begins_so note was d
     (follows_if_busy c.args.fresh (shown_of before) c.args.from c.args.message.now (Send c.in-Send.messages) (shown_of after) (λ wrong. wrong) is) in
-    let decided = sym (or_waits-begins was d d.phase)
+    let decided = sym (or_waits-begins was d note)
     ∙ ap (or_waits was) (sym (decided_if_busy c.args.fresh (shown_of before) c.args.from c.args.message.now (Send c.in-Send.messages) (shown_of after)
     (λ wrong. wrong) is)) in
     subst (λ (next : machine.Next). CarriesOut layout before after known later next c.begin_phase.result) decided
-    (subst (λ (outs : Outcome). CarriesOut layout before after known later (begins_in d.phase d) outs) (sym c.begin_phase.ensures.outs)
+    (subst (λ (outs : Outcome). CarriesOut layout before after known later (begins_in note d) outs) (sym c.begin_phase.ensures.outs)
     (begins_out layout before after is.stays.block known later c.in-Send.messages.items
     (λ me. ap (packets_from me) is.sent ∙ phase_sent layout (shown_of after) me (is.stays.block ∙ of) begins.counted) begins.call
     c.begin_phase.ensures.known))
@@ -70,7 +71,7 @@ end-requires-clause-room c =
     let is = answers_as c.args.fresh (shown_of c.args.self.now) c.args.from c.args.message.now _ (End c.in-End.answer) (shown_of c.take_reply.new.self)
     c.in-End.is c.in_ok-take_reply.ensures.answers in
     let stored = follows_if_busy c.args.fresh before c.args.from c.args.message.now (End c.in-End.answer) after (λ wrong. wrong) is in
-    collects_more after.made (before.state.phase ≡ Stores) (length after.state.group.members ≤ vec_capacity c.in_ok-room.room)
+    collects_more after.made (is_storing before.state.phase ≡ true) (length after.state.group.members ≤ vec_capacity c.in_ok-room.room)
     (λ stores. subst (λ (group : Group). length group.members ≤ vec_capacity c.in_ok-room.room) (sym is.stays.group) (c.in_ok-room.ensures.room stores)) stored
 
 pub returns-in-End-clause-step : goal.returns-in-End-clause-step
