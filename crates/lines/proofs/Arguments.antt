@@ -1,6 +1,6 @@
 -- What stands behind a line's first word, where there are so many words of it.
 use Rattle.std.proofs.Common.{◌≡◌, ◌≢◌, ◌-◌, ◌<◌, ◌≤◌, ℕ, List, [], ◌∷◌, length, map, take, drop, take_all, get_or, Bor, Some, None, refl, arith}
-use Rattle.lines.specs.Grammar.{write_all, read_all, fault, deliver, start, clock, one_brick}
+use Rattle.lines.specs.Grammar.{write_block, read_block, write_all, read_all, fault, deliver, start, clock, one_brick}
 
 -- the words that stand in a slice
 abbrev pub words : List (Bor (List ℕ)) → List (List ℕ)
@@ -10,7 +10,7 @@ words found = map (λ token. token.now) found
 abbrev pub word_at : List (Bor (List ℕ)) → ℕ → List ℕ
 word_at found place = (get_or found place (record { ref_ptr = (0, 0); now = [] })).now
 
--- one word, two words, three words and four words are what stands at their places
+-- one word to five words are what stands at their places
 pub one_word : (found : List (Bor (List ℕ))) → length found ≡ 1 → words found ≡ word_at found 0 ∷ []
 one_word [] count = absurd (omega arith)
 one_word (x ∷ []) count = refl
@@ -38,6 +38,16 @@ four_words (x ∷ y ∷ []) count = absurd (omega arith)
 four_words (x ∷ y ∷ z ∷ []) count = absurd (omega arith)
 four_words (x ∷ y ∷ z ∷ w ∷ []) count = refl
 four_words (x ∷ y ∷ z ∷ w ∷ v ∷ more) count = absurd (omega arith)
+
+pub five_words : (found : List (Bor (List ℕ))) → length found ≡ 5
+    → words found ≡ word_at found 0 ∷ word_at found 1 ∷ word_at found 2 ∷ word_at found 3 ∷ word_at found 4 ∷ []
+five_words [] count = absurd (omega arith)
+five_words (x ∷ []) count = absurd (omega arith)
+five_words (x ∷ y ∷ []) count = absurd (omega arith)
+five_words (x ∷ y ∷ z ∷ []) count = absurd (omega arith)
+five_words (x ∷ y ∷ z ∷ w ∷ []) count = absurd (omega arith)
+five_words (x ∷ y ∷ z ∷ w ∷ v ∷ []) count = refl
+five_words (x ∷ y ∷ z ∷ w ∷ v ∷ u ∷ more) count = absurd (omega arith)
 
 -- with another count of words a form is none
 pub deliver_none : (found : List (Bor (List ℕ))) → length found < 1 → None ≡ deliver (words found)
@@ -102,3 +112,22 @@ write_all_count (b ∷ g ∷ []) other = refl
 write_all_count (b ∷ g ∷ s ∷ []) other = refl
 write_all_count (b ∷ g ∷ s ∷ t ∷ []) other = absurd (other refl)
 write_all_count (b ∷ g ∷ s ∷ t ∷ a ∷ more) other = refl
+
+pub read_block_count : (found : List (Bor (List ℕ))) → length found ≢ 4 → None ≡ read_block (words found)
+unfolding read_block
+read_block_count [] other = refl
+read_block_count (b ∷ []) other = refl
+read_block_count (b ∷ g ∷ []) other = refl
+read_block_count (b ∷ g ∷ s ∷ []) other = refl
+read_block_count (b ∷ g ∷ s ∷ j ∷ []) other = absurd (other refl)
+read_block_count (b ∷ g ∷ s ∷ j ∷ a ∷ more) other = refl
+
+pub write_block_count : (found : List (Bor (List ℕ))) → length found ≢ 5 → None ≡ write_block (words found)
+unfolding write_block
+write_block_count [] other = refl
+write_block_count (b ∷ []) other = refl
+write_block_count (b ∷ g ∷ []) other = refl
+write_block_count (b ∷ g ∷ s ∷ []) other = refl
+write_block_count (b ∷ g ∷ s ∷ j ∷ []) other = refl
+write_block_count (b ∷ g ∷ s ∷ j ∷ t ∷ []) other = absurd (other refl)
+write_block_count (b ∷ g ∷ s ∷ j ∷ t ∷ a ∷ more) other = refl

@@ -7,7 +7,7 @@ use Rattle.lines.specs.Tokens.{tokens, number, bytes_of_hex}
 use Rattle.lines.specs.declared.forms.Line.{Line}
 use Rattle.lines.specs.declared.forms.Line.TheVariants.{Nothing, Invoke, Deliver, SetClock, Tick, Crash, Start}
 use Rattle.lines.specs.declared.forms.Access.{Access}
-use Rattle.lines.specs.declared.forms.Access.TheVariants.{WriteStripe, ReadStripe}
+use Rattle.lines.specs.declared.forms.Access.TheVariants.{WriteBlock, ReadBlock, WriteStripe, ReadStripe}
 use Rattle.lines.specs.declared.forms.Fault.{Fault}
 use Rattle.lines.specs.declared.forms.Fault.TheVariants.{Cut, Fail}
 
@@ -23,6 +23,21 @@ invoke b g s access = do
   group ← number g
   stripe ← number s
   Some (Invoke brick group stripe access)
+
+-- `write B G S J HEX`, behind its first word
+unfoldable pub write_block : List (List ℕ) → Option Line
+write_block (b ∷ g ∷ s ∷ j ∷ text ∷ []) = do
+  block ← number j
+  bytes ← bytes_of_hex text
+  invoke b g s (WriteBlock block bytes)
+write_block _ = None
+
+-- `read B G S J`, behind its first word
+unfoldable pub read_block : List (List ℕ) → Option Line
+read_block (b ∷ g ∷ s ∷ j ∷ []) = do
+  block ← number j
+  invoke b g s (ReadBlock block)
+read_block _ = None
 
 -- `writeall B G S HEX`, behind its first word
 unfoldable pub write_all : List (List ℕ) → Option Line
@@ -100,7 +115,9 @@ one_brick _ = None
 -- what a line says whose first word and the words behind it are these; nothing else is a line
 unfoldable pub form : List ℕ → List (List ℕ) → Option Line
 form word arguments =
-    if bytes_eq word (codes "writeall") then write_all arguments
+    if bytes_eq word (codes "write") then write_block arguments
+    else if bytes_eq word (codes "read") then read_block arguments
+    else if bytes_eq word (codes "writeall") then write_all arguments
     else if bytes_eq word (codes "readall") then read_all arguments
     else if bytes_eq word (codes "deliver") then deliver arguments
     else if bytes_eq word (codes "clock") then clock arguments

@@ -1,6 +1,6 @@
 // The forms of a line.
 ghost use Rattle.std.specs.Prelude.{◌≡◌, map, IfOk};
-ghost use Rattle.lines.specs.Grammar.{line_of, line_of_tokens, form, write_all, read_all, invoke, call_number, fail, cut, fault, deliver, start, clock, one_brick};
+ghost use Rattle.lines.specs.Grammar.{line_of, line_of_tokens, form, write_all, read_all, write_block, read_block, invoke, call_number, fail, cut, fault, deliver, start, clock, one_brick};
 
 use crate::tokens::{parse_hex, parse_number, split};
 use fab_base::{Bytes, NoMem};
@@ -9,9 +9,14 @@ use std::alloc::Global;
 /// The most bytes of a line, not counting its line feed and the one carriage return before that.
 pub const LINE_LIMIT: usize = 70_000;
 
-/// What an operation is to do with its stripe.
+/// What an operation is to do with its stripe. A data block goes by its number, any below 2^64: whether the stripe has such a block is for the
+/// one who runs the line to find.
 #[derive(Drop)]
 pub enum Access {
+    /// To read this data block.
+    ReadBlock(u64),
+    /// To write this data block: these bytes.
+    WriteBlock(u64, Bytes),
     /// To read all data blocks.
     ReadStripe,
     /// To write all data blocks: these bytes.
@@ -41,7 +46,7 @@ pub enum Fault {
 pub enum Line {
     /// Nothing: the line is blank, or its first token begins with `#`.
     Nothing,
-    /// An operation on a stripe is to begin: `writeall B G S HEX` or `readall B G S`.
+    /// An operation on a stripe is to begin: `write B G S J HEX` or `read B G S J`, of data block J, or `writeall B G S HEX` or `readall B G S`.
     Invoke {
         /// The brick that is asked.
         brick: u64,
@@ -119,7 +124,11 @@ fn parse_tokens(alloc: Global, tokens: &[&[u8]]) -> Result<Option<Line>, NoMem>
 fn parse_form(alloc: Global, word: &[u8], arguments: &[&[u8]]) -> Result<Option<Line>, NoMem>
     ensures { IfOk result (λ line. line ≡ form word.now (map (λ token. token.now) arguments.now)) }
 {
-    if word == b"writeall".as_slice() {
+    if word == b"write".as_slice() {
+        parse_write_block(alloc, arguments)
+    } else if word == b"read".as_slice() {
+        Ok(parse_read_block(arguments))
+    } else if word == b"writeall".as_slice() {
         parse_write_all(alloc, arguments)
     } else if word == b"readall".as_slice() {
         Ok(parse_read_all(arguments))
@@ -136,6 +145,43 @@ fn parse_form(alloc: Global, word: &[u8], arguments: &[&[u8]]) -> Result<Option<
     } else {
         Ok(None)
     }
+}
+
+/// `write B G S J HEX`, behind its first word.
+fn parse_write_block(alloc: Global, arguments: &[&[u8]]) -> Result<Option<Line>, NoMem>
+    ensures { IfOk result (λ line. line ≡ write_block (map (λ token. token.now) arguments.now)) }
+{
+    if arguments.len() != 5 {
+        return Ok(None);
+    }
+    let Some(block) = parse_number(arguments[3]) else {
+        return Ok(None);
+    };
+    let Some(bytes) = parse_hex(alloc, arguments[4])? else {
+        return Ok(None);
+    };
+    Ok(parse_invoke(
+        arguments[0],
+        arguments[1],
+        arguments[2],
+        Access::WriteBlock(block, bytes),
+    ))
+}
+
+/// `read B G S J`, behind its first word.
+fn parse_read_block(arguments: &[&[u8]]) -> Option<Line>
+    ensures { result ≡ read_block (map (λ token. token.now) arguments.now) }
+{
+    if arguments.len() != 4 {
+        return None;
+    }
+    let block = parse_number(arguments[3])?;
+    parse_invoke(
+        arguments[0],
+        arguments[1],
+        arguments[2],
+        Access::ReadBlock(block),
+    )
 }
 
 /// `writeall B G S HEX`, behind its first word.
