@@ -134,12 +134,9 @@ impl Decide for BlockOp {
 
     ghost may_recover = { true };
 
-    /// What a quorum of replies decides. A member's full store aborts the operation, whatever the others told.
+    /// What a quorum of replies decides, by the phase.
     #[tactic(auto, unfolding(protocol::specs::Coordinators::decided))]
     fn decide(op: &mut Operation, alloc: Global, fresh: Option<Stamp>) -> Result<Next, NoMem> {
-        if let Some(member) = op.full_member() {
-            return Ok(op.abort_full(member));
-        }
         match op.stage().phase {
             Phase::LooksAt(j) => end_look(op, alloc, j),
             Phase::OrdersAt(j) => end_order(op, alloc, j, fresh),

@@ -14,7 +14,8 @@ use Rattle.messages.specs.declared.turns.Next.TheVariants.{Wait, Send, End, Reco
 use Rattle.fab_base.specs.declared.notes.Note.{Note}
 use Rattle.quorum.specs.Quorums.{quorum_of}
 use Rattle.protocol.specs.declared.phases.Counted.{Counted}
-use Rattle.protocol.specs.Coordinators.{Next, Ignores, Waits, counts_at, decided, on_reply, counted_at}
+use Rattle.protocol.specs.declared.phases.FullMember.{FullMember}
+use Rattle.protocol.specs.Coordinators.{Next, Ignores, Waits, counts_at, lowest_full, aborted_full, decided, on_reply, counted_at}
 use Rattle.stripe_code.specs.Codes.{block_code}
 use Rattle.coord_phase.specs.Operations.{Operation, StaysAsked, with_state, without_last, telling, seat_told, counts, heard, heard_at}
 use Rattle.coord_phase.specs.Decisions.{decided_on, decision, Answers, AsksRecovery, HasBlocks, SendsPhase, IsWait, note_told}
@@ -192,6 +193,23 @@ answers_decided fresh before from message mid after answered full heard_is some 
           ∙ sym (ap (note_told before.state.call) machine);
       stays = heard_then before from message mid after heard_is stays;
     }
+
+-- where a member's store is full, that aborts it
+full_decided : (fresh : Option Stamp) (op : Operation) (f : FullMember) → lowest_full op.state.counted ≡ Some f
+    → decided op.block (block_code op.block) fresh op.state ≡ aborted_full f
+unfolding decided
+full_decided fresh op f is = rw is refl
+
+pub answers_full : (fresh : Option Stamp) (before : Operation) (from : BrickId) (message : Message) (mid after : Operation) (answered : Answer)
+    (full : Bool) (f : FullMember)
+    → mid ≡ heard before from message → counts before from message ≡ true → full ≡ is_full mid → full ≡ true
+    → lowest_full mid.state.counted ≡ Some f → decision after answered ≡ aborted_full f → SendsPhase after answered
+    → after ≡ telling mid mid.state None
+    → Answers fresh before from message answered after
+answers_full fresh before from message mid after answered full f heard_is some full_is enough told aborts sent is =
+    let decides = full_decided fresh mid f told in
+    answers_decided fresh before from message mid after answered full heard_is some full_is enough (aborts ∙ sym decides) sent
+    (ap (λ (op : Operation). op.note) is ∙ sym (ap (note_told mid.state.call) decides)) (stays_telling mid after None is)
 
 -- a recovery that is asked for once a reply counted is asked for by the operation as it was before the reply
 pub asked_as_before : (before : Operation) (from : BrickId) (message : Message) (mid after : Operation) (may : Bool) (answered : Answer)

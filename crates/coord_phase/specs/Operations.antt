@@ -131,7 +131,7 @@ is_ordering = is_among (Orders ∷ OrdersAt 0 ∷ Recovers ∷ [])
 abbrev pub is_storing : Phase → Bool
 is_storing = is_among (Modifies first_stamp 0 ∷ Stores ∷ [])
 
--- no member tells a version without the bytes of its block
+-- whoever tells a version tells the bytes of its block
 abbrev pub wants_all : Phase → Bool
 wants_all (LooksAt j) = false
 wants_all (OrdersAt j) = false

@@ -25,8 +25,8 @@ fn first_phase(op: &Op) -> Phase
 
 /// How the operations of one kind go on once a quorum of replies counts.
 pub trait Decide {
-    ghost use Rattle.std.specs.Prelude.{◌≡◌, ◌-◌, ◌<◌, ◌≤◌, ◌^◌, true, IfOk, OnOk, OnErr, length};
-    ghost use Rattle.protocol.specs.Coordinators.{decided};
+    ghost use Rattle.std.specs.Prelude.{◌≡◌, ◌-◌, ◌<◌, ◌≤◌, ◌^◌, true, None, IfOk, OnOk, OnErr, length};
+    ghost use Rattle.protocol.specs.Coordinators.{decided, lowest_full};
     ghost use Rattle.protocol.specs.Nodes.{has_length};
     ghost use Rattle.stripe_code.specs.Codes.{block_code};
     ghost use Rattle.coord_phase.specs.Operations.{StaysAsked};
@@ -38,13 +38,14 @@ pub trait Decide {
     // whether they may ask that their stripe be recovered
     ghost may_recover: { Bool };
 
-    /// What a quorum of replies decides, where a new round of ordering would have the fresh stamp.
+    /// What a quorum of replies decides, none of which tells of a full store. A new round of ordering would have the fresh stamp.
     ///
     /// # Errors
     ///
     /// `NoMemory` where no memory was left; then nothing has changed.
     fn decide(op: &mut Operation, alloc: Global, fresh: Option<Stamp>) -> Result<Next, NoMem>
         requires own { is_own op.old.state.phase ≡ true }
+        requires room { lowest_full op.old.state.counted ≡ None }
         requires long { has_length op.old.state.group.m op.old.block op.old.state.ask.op ≡ true }
         requires enough { op.old.state.group.m ≤ length op.old.state.counted }
         requires few { op.old.state.call.phase < 2 ^ 32 - 1 }
@@ -94,8 +95,8 @@ impl Operation {
         Ok((op, Next::Send(messages)))
     }
 
-    /// What an operation of this kind does with a message: it counts a reply, and decides once a quorum counts. A new round of ordering
-    /// would have the fresh stamp; there is none where no later time is left.
+    /// What an operation of this kind does with a message: it counts a reply, and decides once a quorum counts. A member's full store aborts
+    /// it, whatever the others told. A new round of ordering would have the fresh stamp; there is none where no later time is left.
     ///
     /// # Errors
     ///
@@ -118,6 +119,9 @@ impl Operation {
         }
         if !self.is_full() {
             return Ok(self.wait());
+        }
+        if let Some(member) = self.full_member() {
+            return Ok(self.abort_full(member));
         }
         match D::decide(self, alloc, fresh) {
             Ok(next) => Ok(next),

@@ -138,7 +138,7 @@ impl Operation {
 
     /// The member of the lowest seat that told that its store is full, if one did.
     #[tactic(auto, using(crate::proofs::Foremost::lowest_full_is))]
-    pub fn full_member(&self) -> Option<FullMember>
+    pub(crate) fn full_member(&self) -> Option<FullMember>
         ensures { result ≡ lowest_full self.now.state.counted }
     {
         foremost(self.counted())

@@ -268,7 +268,7 @@ impl Operation {
     }
 
     /// Ends the operation, since this member's store is full.
-    pub fn abort_full(&mut self, member: FullMember) -> Next
+    pub(crate) fn abort_full(&mut self, member: FullMember) -> Next
         ensures next { decision self.new result ≡ aborted_full member }
         ensures state { self.new ≡ telling self.old self.old.state None }
         ensures sent { SendsPhase self.new result }

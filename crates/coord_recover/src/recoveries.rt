@@ -125,12 +125,9 @@ impl Decide for Recovery {
 
     ghost may_recover = { false };
 
-    /// What a quorum of replies decides. A member's full store aborts the operation, whatever the others told.
+    /// What a quorum of replies decides, by the phase.
     #[tactic(auto, unfolding(protocol::specs::Coordinators::decided))]
     fn decide(op: &mut Operation, alloc: Global, fresh: Option<Stamp>) -> Result<Next, NoMem> {
-        if let Some(member) = op.full_member() {
-            return Ok(op.abort_full(member));
-        }
         match op.stage().phase {
             Phase::Recovers => end_order(op, alloc, fresh),
             Phase::Descends(_) => end_descent(op, alloc),
