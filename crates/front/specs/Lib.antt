@@ -1,0 +1,4 @@
+pub mod Pieces
+pub mod Halts
+pub mod Ranges
+pub mod Inside
