@@ -3,6 +3,7 @@
 ghost use Rattle.std.specs.Prelude.{◌≡◌, ◌+◌, ◌*◌, ◌<◌, ◌≤◌, ◌^◌, length, vec_len, IfOk, IfSome, OnOk, OnErr, [], Some, None, IsSome, option_map, option_copied};
 ghost use Rattle.std.specs.Option.{ForSome};
 ghost use Rattle.layout.specs.Places.{length_of, volume_of};
+ghost use Rattle.front.specs.Blocks.{AsksEach};
 ghost use Rattle.front.specs.Halts.{halt_of};
 ghost use Rattle.front.specs.declared.steps.Halt.TheVariants.{Stopped};
 ghost use Rattle.front.specs.Inside.{first_piece, progress_of, IsSound};
@@ -106,7 +107,8 @@ impl<'l> Range<'l> {
         byte: u64,
         length: u64,
     ) -> Range<'l>
-        ensures { result ≡ begun layout.now volume.now byte length None }
+        ensures begun { result ≡ begun layout.now volume.now byte length None }
+        ensures each { AsksEach layout.now volume.now byte length None }
     {
         Range::begin(alloc, layout, volume, byte, length, None)
     }
@@ -123,7 +125,8 @@ impl<'l> Range<'l> {
         byte: u64,
         from: &[u8],
     ) -> Result<Range<'l>, NoMem>
-        ensures { IfOk result (λ range. range ≡ begun layout.now volume.now byte (length from.now) (Some from.now)) }
+        ensures begun { IfOk result (λ range. range ≡ begun layout.now volume.now byte (length from.now) (Some from.now)) }
+        ensures each { OnOk result (AsksEach layout.now volume.now byte (length from.now) (Some from.now)) }
     {
         let content = Bytes::from_slice(alloc, from)?;
         Ok(Range::begin(
@@ -146,7 +149,8 @@ impl<'l> Range<'l> {
         content: Option<Bytes>,
     ) -> Range<'l>
         requires { ForSome content (λ written. length written ≡ bytes) }
-        ensures { result ≡ begun layout.now volume.now byte bytes content }
+        ensures begun { result ≡ begun layout.now volume.now byte bytes content }
+        ensures each { AsksEach layout.now volume.now byte bytes content }
     {
         let _ = layout.bricks();
         let block = u64::from(layout.block());
