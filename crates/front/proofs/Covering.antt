@@ -84,7 +84,7 @@ whole_fits place m more is =
     (zeroth, fits)
 
 -- how many blocks a piece has behind its first
-behind_fits : (place : Place) (m more : ℕ) (t : Bool) → is_whole place m (suc more) ≡ t → (piece_of place m (suc more)).behind ≤ more
+pub behind_fits : (place : Place) (m more : ℕ) (t : Bool) → is_whole place m (suc more) ≡ t → (piece_of place m (suc more)).behind ≤ more
 behind_fits place m more true is =
     let fits = whole_fits place m (suc more) is in
     let behind : (piece_of place m (suc more)).behind ≡ m - 1 = ap (λ (t : Bool). cond t (m - 1) 0) is in
@@ -222,21 +222,32 @@ has_place layout volume byte is below =
     by_length None below = absurd (omega (arith, below))
     by_length (Some e) below = below
 
--- the operations of a range are on each of its data blocks
-pub asks_each : (layout : Layout) (volume : List ℕ) (byte length : ℕ) (content : Option (List ℕ)) → IsLayout layout
-    → AsksEach layout volume byte length content
-asks_each layout volume byte length content is = λ going.
+-- each data block of a range that nothing halts has a place
+pub all_placed : (layout : Layout) (volume : List ℕ) (byte length : ℕ) → IsLayout layout → halt_of layout volume byte length ≡ None → (k : ℕ)
+    → k < byte / layout.block + length / layout.block → IsSome (place_of layout volume (k * layout.block))
+all_placed layout volume byte length is going k below =
     let b = layout.block in
     let fits = going_within layout volume byte length going in
     let first : byte / b * b ≡ byte = omega (arith, div-add-mod' byte b, fits.first) in
     let more : length / b * b ≡ length = omega (arith, div-add-mod' length b, fits.last) in
     let limit = byte / b + length / b in
     let end : limit * b ≤ unwrap_or (length_of layout volume) 0 = omega (arith, first, more, fits.end) in
-    let held : (k : ℕ) → k < limit → IsSome (place_of layout volume (k * b)) =
-    λ k below.
     let most : suc k * b ≤ limit * b = mul-le-mul_right b below in
-    has_place layout volume (k * b) is (omega (arith, most, end, is.some_byte)) in
+    has_place layout volume (k * b) is (omega (arith, most, end, is.some_byte))
+
+-- a range that nothing halts has whole data blocks
+pub all_whole : (layout : Layout) (volume : List ℕ) (byte length : ℕ) → halt_of layout volume byte length ≡ None
+    → length / layout.block * layout.block ≡ length
+all_whole layout volume byte length going =
+    omega (arith, div-add-mod' length layout.block, (going_within layout volume byte length going).last)
+
+-- the operations of a range are on each of its data blocks
+pub asks_each : (layout : Layout) (volume : List ℕ) (byte length : ℕ) (content : Option (List ℕ)) → IsLayout layout
+    → AsksEach layout volume byte length content
+asks_each layout volume byte length content is = λ going.
+    let b = layout.block in
     let at : byte / b + 0 + 0 ≡ byte / b = omega arith in
     let all : length / b - 0 ≡ length / b = omega arith in
-    covers (wish_of layout volume byte content) limit 0 (length / b) 0 is.some_byte held (omega arith) (omega arith)
+    covers (wish_of layout volume byte content) (byte / b + length / b) 0 (length / b) 0 is.some_byte
+    (all_placed layout volume byte length is going) (omega arith) (omega arith)
     ∙ ap (λ k. places_at layout volume k (length / b - 0)) at ∙ ap (places_at layout volume (byte / b)) all

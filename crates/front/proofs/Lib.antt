@@ -3,4 +3,5 @@ pub mod Progressing
 pub mod Beginning
 pub mod StripeRuns
 pub mod Covering
+pub mod Writing
 mod Worked

@@ -1,5 +1,5 @@
 -- Which data blocks the operations of a range are on.
-use Rattle.std.specs.Prelude.{◌≡◌, ℕ, zero, suc, ◌*◌, ◌/◌, List, [], ◌∷◌, map, Option, Some, None}
+use Rattle.std.specs.Prelude.{◌≡◌, ℕ, zero, suc, ◌*◌, ◌/◌, List, [], ◌∷◌, length, map, Option, Some, None}
 use Rattle.std.specs.List.{flat_map}
 use Rattle.fab_base.specs.declared.asks.Ask.{Ask}
 use Rattle.fab_base.specs.declared.asks.Op.{Op}
@@ -43,3 +43,16 @@ AsksEach layout volume byte length content =
     halt_of layout volume byte length ≡ None
     → map Some (flat_map (blocks_in layout) (asks_of layout volume byte length content))
     ≡ places_at layout volume (byte / layout.block) (length / layout.block)
+
+-- the bytes that an operation writes
+abbrev pub bytes_by : Op → List ℕ
+bytes_by (ReadBlock j) = []
+bytes_by (WriteBlock j bytes) = bytes
+bytes_by ReadStripe = []
+bytes_by (WriteStripe bytes) = bytes
+
+-- The operations of a write that nothing halts write its bytes, in their order.
+abbrev pub WritesAll : Layout → List ℕ → ℕ → List ℕ → Type 0
+WritesAll layout volume byte written =
+    halt_of layout volume byte (length written) ≡ None
+    → flat_map (λ ask. bytes_by ask.op) (asks_of layout volume byte (length written) (Some written)) ≡ written

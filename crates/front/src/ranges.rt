@@ -3,7 +3,7 @@
 ghost use Rattle.std.specs.Prelude.{◌≡◌, ◌+◌, ◌*◌, ◌<◌, ◌≤◌, ◌^◌, length, vec_len, IfOk, IfSome, OnOk, OnErr, [], Some, None, IsSome, option_map, option_copied};
 ghost use Rattle.std.specs.Option.{ForSome};
 ghost use Rattle.layout.specs.Places.{length_of, volume_of};
-ghost use Rattle.front.specs.Blocks.{AsksEach};
+ghost use Rattle.front.specs.Blocks.{AsksEach, WritesAll};
 ghost use Rattle.front.specs.Halts.{halt_of};
 ghost use Rattle.front.specs.declared.steps.Halt.TheVariants.{Stopped};
 ghost use Rattle.front.specs.Inside.{first_piece, progress_of, IsSound};
@@ -127,7 +127,9 @@ impl<'l> Range<'l> {
     ) -> Result<Range<'l>, NoMem>
         ensures begun { IfOk result (λ range. range ≡ begun layout.now volume.now byte (length from.now) (Some from.now)) }
         ensures each { OnOk result (AsksEach layout.now volume.now byte (length from.now) (Some from.now)) }
+        ensures bytes { WritesAll layout.now volume.now byte from.now }
     {
+        let _ = layout.bricks();
         let content = Bytes::from_slice(alloc, from)?;
         Ok(Range::begin(
             alloc,
