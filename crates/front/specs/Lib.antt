@@ -1,0 +1,5 @@
+pub mod Pieces
+pub mod Halts
+pub mod Ranges
+pub mod Inside
+pub mod Blocks
