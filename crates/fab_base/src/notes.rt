@@ -20,7 +20,7 @@ pub enum Note {
         stamp: Stamp,
         /// The version that it was made from; a write of the whole stripe is made from none.
         base: Option<Stamp>,
-        /// The stripe's m data blocks, in order.
+        /// The stripe's m data blocks, in order; or, where members are sent what one block changes by, that block.
         content: Bytes,
     },
     /// A read answered this version at once, and made none.
