@@ -5,3 +5,4 @@ pub mod Coordinators
 pub mod Nodes
 pub mod Worlds
 pub mod Happenings
+pub mod Calms

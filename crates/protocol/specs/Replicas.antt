@@ -1,5 +1,5 @@
 -- A member's part of a stripe, and what it does with each request (Frølund 2004, the storage replica).
-use Rattle.std.specs.Prelude.{ℕ, Bool, true, false, not, nat_eq, nat_lt, ◌||◌, ◌&&◌, if◌then◌else◌, List, [], ◌∷◌, ◌++◌, Option, Some, None, replicate, filter}
+use Rattle.std.specs.Prelude.{ℕ, Bool, true, false, not, nat_eq, nat_lt, ◌||◌, ◌&&◌, if◌then◌else◌, List, [], ◌∷◌, ◌++◌, Option, Some, None, replicate, filter, length}
 use Rattle.fab_base.specs.declared.stamps.Stamp.{Stamp}
 use Rattle.fab_base.specs.Stamps.{stamp_below, stamp_same, first_stamp}
 use Rattle.messages.specs.declared.requests.Version.{Version}
@@ -152,15 +152,34 @@ modified code m full seat replica t base j delta =
 abbrev pub ignored : Replica → Reaction
 ignored replica = record { replica = replica; reply = None; adds = 0; drops = 0 }
 
--- What the member at a seat does with a request, where a stripe has m data blocks. Versions are not collected yet, and no coordinator sends the other
--- requests that are ignored here.
+-- the versions of a log that are not below a stamp
+abbrev pub not_below : Stamp → List Version → List Version
+not_below c log = filter (λ version. not (stamp_below version.stamp c)) log
+
+-- a version takes room: the first one, with which each log begins, takes none
+abbrev pub takes_room : Version → Bool
+takes_room version = not (stamp_same version.stamp first_stamp)
+
+-- Drop the versions below one that is held. Where that is not held, nothing changes. There is no reply.
+abbrev pub collected : Replica → Stamp → Reaction
+collected replica c =
+    if is_held c replica.log
+    then record {
+      replica = record { order = replica.order; log = not_below c replica.log };
+      reply = None;
+      adds = 0;
+      drops = length (filter takes_room (below c replica.log));
+    }
+    else ignored replica
+
+-- What the member at a seat does with a request, where a stripe has m data blocks. No coordinator sends the requests that are ignored here.
 unfoldable pub handle : Code → ℕ → Option ℕ → ℕ → Replica → Request → Reaction
 handle code m full seat replica (Read want) = stays replica (Found replica.order (told_version (is_wanted want seat) (newest_of replica.log)))
 handle code m full seat replica (Order t) = ordered full replica t
 handle code m full seat replica (Write t block) = written full replica t block
 handle code m full seat replica (OrderRead t look want) = order_read full replica t look (is_wanted want seat)
 handle code m full seat replica (Modify t base j delta) = modified code m full seat replica t base j delta
-handle code m full seat replica (Collect t) = ignored replica
+handle code m full seat replica (Collect t) = collected replica t
 handle code m full seat replica (OldRead bound) = ignored replica
 handle code m full seat replica (Prepare ballot) = ignored replica
 handle code m full seat replica (Accept ballot members) = ignored replica

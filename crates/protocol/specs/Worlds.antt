@@ -60,9 +60,9 @@ pub record Operation : Type 0 where
 -- sent, in order; the marks; how many operations have begun, and each by its number; the number of the
 -- operation of each call (by brick, boot and call number); and, for the proof alone, the time that a brick
 -- knew last in each earlier boot, the content of each version (by group, stripe and stamp), which stamps each
--- brick ever had in its log of a stripe (by brick, group and stripe), and the replies that counted in each
--- phase of an operation (by its number and the phase's). Of a brick that is down, `nodes`
--- has what it kept before the handling that its stop cut short, and `after` what that would have kept.
+-- brick ever had in its log of a stripe (by brick, group and stripe), the replies that counted in each
+-- phase of an operation (by its number and the phase's), and which messages, by number, were delivered to a brick that was up. Of a brick that is
+-- down, `nodes` has what it kept before the handling that its stop cut short, and `after` what that would have kept.
 pub record World : Type 0 where
   pub nodes : ℕ → Node
   pub after : ℕ → Node
@@ -77,6 +77,7 @@ pub record World : Type 0 where
   pub contents : ℕ → ℕ → Stamp → List ℕ
   pub held : ℕ → ℕ → ℕ → Stamp → Bool
   pub replies : ℕ → ℕ → List Counted
+  pub reached : ℕ → Bool
 
 -- the zero bytes of a group's stripe
 abbrev pub zero_content : ℕ → Option Group → List ℕ
@@ -100,6 +101,7 @@ first_world layout =
       contents = λ g s t. zero_content layout.block (group_of layout g);
       held = λ i g s t. is_held t (fresh_replica layout.block (view_of t)).log;
       replies = λ n p. [];
+      reached = λ k. false;
     }
 
 -- a brick of the layout
@@ -250,13 +252,13 @@ replies_with setting w packet = replies_of packet.message
     replies_of (Message.Reply call reply) = replies_at setting w packet.to packet.from call reply ((w.nodes packet.to.0).calls call.seq)
     replies_of message = w.replies
 
--- a packet is delivered to a brick of the layout that is up
-abbrev pub delivered : Setting → World → Option Packet → World
-delivered setting w None = w
-delivered setting w (Some packet) =
+-- the packet of a number is delivered to a brick of the layout that is up
+abbrev pub delivered : Setting → World → ℕ → Option Packet → World
+delivered setting w number None = w
+delivered setting w number (Some packet) =
     if is_up setting.layout w packet.to
     then (let step = received setting packet.to (w.clocks packet.to.0) (w.nodes packet.to.0) packet in
-    world_stepped setting (record w { replies = replies_with setting w packet }) packet.to step)
+    world_stepped setting (record w { replies = replies_with setting w packet; reached = put w.reached number true }) packet.to step)
     else w
 
 -- a brick's clock ticks
@@ -278,6 +280,16 @@ abbrev pub packet_during : List Packet → Option ℕ → Option Packet
 packet_during packets None = None
 packet_during packets (Some number) = packet_of packets number
 
+-- which messages were delivered, with that of a number where it goes to this brick
+abbrev pub reached_at : (ℕ → Bool) → BrickId → ℕ → Option Packet → ℕ → Bool
+reached_at reached brick number None = reached
+reached_at reached brick number (Some packet) = if nat_eq packet.to.0 brick.0 then put reached number true else reached
+
+-- the same, where a brick stopped during the handling of the message of a number, or during none: that message counts as delivered
+abbrev pub reached_during : World → BrickId → Option ℕ → ℕ → Bool
+reached_during w brick None = w.reached
+reached_during w brick (Some number) = reached_at w.reached brick number (packet_of w.packets number)
+
 -- the world after a brick stopped, during the handling of the message of a number or during none
 abbrev pub world_stopped : Setting → World → BrickId → Option ℕ → World
 world_stopped setting w brick during =
@@ -286,6 +298,7 @@ world_stopped setting w brick during =
       after = put w.after brick.0 (left_after setting brick (w.nodes brick.0) (packet_during w.packets during));
       up = put w.up brick.0 false;
       marks = w.marks ++ (Crash (length w.marks) brick ∷ []);
+      reached = reached_during w brick during;
     }
 
 -- the world in which a stopped brick keeps what its store is found to hold
@@ -317,7 +330,7 @@ known_in w i boot = if nat_eq boot (w.nodes i).boot then (w.nodes i).known else 
 unfoldable pub happens : Setting → World → Event → World
 happens setting w (Invokes brick ask) =
     if may_begin setting w brick ask then world_began w brick ask (invoked setting brick (w.clocks brick.0) (w.nodes brick.0) ask) else w
-happens setting w (Delivers number) = delivered setting w (packet_of w.packets number)
+happens setting w (Delivers number) = delivered setting w number (packet_of w.packets number)
 happens setting w (Sets brick time) = if is_brick setting.layout brick then record w { clocks = put w.clocks brick.0 time } else w
 happens setting w (Ticks brick) = if is_up setting.layout w brick then world_ticked setting w brick else w
 happens setting w (Stops brick during) = if is_up setting.layout w brick then world_stopped setting w brick during else w
