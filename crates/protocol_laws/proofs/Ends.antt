@@ -102,6 +102,7 @@ module _ (setting : Setting) (w : World) (stamps : Stamping) (me : BrickId) (c :
         contents = w.contents;
         held = with_held w.held me.0 node;
         replies = w.replies;
+        reached = w.reached;
       }
 
   next_is : (saw : Option Stamp)

@@ -1,5 +1,5 @@
 -- No event lowers what a brick has promised or stored, or drops a version that it holds.
-use Rattle.std.proofs.Common.{◌≡◌, ℕ, List, [], ◌∷◌, Option, Some, None, refl, ⊎_elim, sym, subst, false, ap}
+use Rattle.std.proofs.Common.{◌≡◌, ℕ, List, [], ◌∷◌, Option, Some, None, refl, ⊎_elim, sym, subst, false, ap, true}
 use Rattle.std.proofs.lemmas.Bool.{cond_both}
 use Rattle.fab_base.specs.declared.identities.BrickId.{BrickId}
 use Rattle.fab_base.specs.declared.asks.Ask.{Ask}
@@ -76,11 +76,11 @@ restarted_replicas : (openings : ℕ) (node : Node) → (restarted openings node
 unfolding restarted
 restarted_replicas openings node = refl
 
-delivery_stays : (setting : Setting) (w : World) (z : Option Packet) → HeldIsLogged w → PartsStay w (delivered setting w z)
-delivery_stays setting w None logged = parts_same w w refl refl logged
-delivery_stays setting w (Some packet) logged =
+delivery_stays : (setting : Setting) (w : World) (number : ℕ) (z : Option Packet) → HeldIsLogged w → PartsStay w (delivered setting w number z)
+delivery_stays setting w number None logged = parts_same w w refl refl logged
+delivery_stays setting w number (Some packet) logged =
     let step : NodeStep = received setting packet.to (w.clocks packet.to.0) (w.nodes packet.to.0) packet in
-    let counted : World = record w { replies = replies_with setting w packet } in
+    let counted : World = record w { replies = replies_with setting w packet; reached = put w.reached number true } in
     cond_both (is_up setting.layout w packet.to) (world_stepped setting counted packet.to step) w (λ (next : World). PartsStay w next)
     (λ is. parts_by w (world_stepped setting counted packet.to step) packet.to.0 step.node refl refl logged
     (message_keeps setting packet.to packet.from packet.to (w.clocks packet.to.0) (w.nodes packet.to.0) packet.message))
@@ -120,7 +120,7 @@ parts_stay setting w (Invokes brick ask) leaves logged =
     cond_both (may_begin setting w brick ask) (world_began w brick ask step) w (λ (next : World). PartsStay w next)
     (λ may. parts_kept w (world_began w brick ask step) brick.0 step.node refl refl logged (invoked_replicas setting brick (w.clocks brick.0) (w.nodes brick.0) ask))
     (λ isnt. parts_same w w refl refl logged)
-parts_stay setting w (Delivers number) leaves logged = delivery_stays setting w (packet_of w.packets number) logged
+parts_stay setting w (Delivers number) leaves logged = delivery_stays setting w number (packet_of w.packets number) logged
 parts_stay setting w (Sets brick time) leaves logged =
     cond_both (is_brick setting.layout brick) (record w { clocks = put w.clocks brick.0 time }) w (λ (next : World). PartsStay w next)
     (λ is. parts_same w (record w { clocks = put w.clocks brick.0 time }) refl refl logged)

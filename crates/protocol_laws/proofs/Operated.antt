@@ -40,6 +40,7 @@ operated w me node more marks n p contents =
       contents = contents;
       held = with_held w.held me.0 node;
       replies = w.replies;
+      reached = w.reached;
     }
 
 -- what such a change keeps: operation n was o, is open, and goes on as p

@@ -23,7 +23,7 @@ use Rattle.protocol.specs.Replicas.{Reaction, first_replica, top_of, handle}
 use Rattle.protocol.specs.declared.phases.Counted.{Counted}
 use Rattle.protocol.specs.Coordinators.{Coordinator}
 use Rattle.protocol.specs.Nodes.{Node, NodeStep, put, with_known, with_replica, replica_at, reacted, full_at, reply_packets, absorbed, ticked, stopped, restarted, new_stamp, fresh_stamp, no_step, began, invoked, requested, known_after, replied_at, replied, received, group_at, view_at, seat_served}
-use Rattle.protocol.specs.Worlds.{World, Found, Before, After, Event, Invokes, Delivers, Sets, Ticks, Stops, Starts, replies_with, first_world, zero_content, is_brick, is_up, may_start, world_ticked, left_after, packet_during, world_stopped, world_found, world_started, may_begin, world_began, world_stepped, delivered, packet_of, happens, run, with_held}
+use Rattle.protocol.specs.Worlds.{World, Found, Before, After, Event, Invokes, Delivers, Sets, Ticks, Stops, Starts, replies_with, first_world, zero_content, is_brick, is_up, may_start, world_ticked, left_after, packet_during, world_stopped, world_found, world_started, may_begin, world_began, world_stepped, delivered, packet_of, happens, run, with_held, reached_during}
 use Rattle.protocol_laws.specs.Laws.{WasSent}
 use Rattle.protocol_laws.proofs.BooksKept.{keeps_all}
 use Rattle.protocol_laws.proofs.FirstViews.{group_first, view_first}
@@ -31,7 +31,7 @@ use Rattle.protocol_laws.proofs.Books.{Books, IsCall}
 use Rattle.protocol_laws.proofs.Left.{IsLeft, Leaves, always_leaves, leaves_happens, packet_was_sent}
 use Rattle.protocol_laws.proofs.Said.{Stamping, Said, IsSaid, IsStampOf, VersionSays}
 use Rattle.protocol_laws.proofs.BooksQuiet.{books_quiet}
-use Rattle.protocol_laws.proofs.BooksEvents.{known_grows, fresh_is, BeginFits, begin_fits, start_fits, books_found, books_run, books}
+use Rattle.protocol_laws.proofs.BooksEvents.{known_grows, fresh_is, BeginFits, begin_fits, start_fits, books_found, books_run, books, books_beside}
 use Rattle.protocol_laws.proofs.Tables.{get_one, get_kept, get_grown}
 use Rattle.protocol_laws.proofs.Lives.{last_grows}
 use Rattle.protocol_laws.proofs.Stampings.{ages_within}
@@ -179,22 +179,17 @@ absorbed_said setting w stamps me from to (Message.Request call request) books s
     request_kept setting w stamps me from call request books said sent
 absorbed_said setting w stamps me from to message books said sent = nothing_said setting w stamps me books said
 
--- the books do not change with the replies that count
-books_beside : (setting : Setting) (w : World) (replies : ℕ → ℕ → List Counted) → Books setting w → Books setting (record w { replies = replies })
-books_beside setting w replies books =
-    books_quiet setting w w.nodes w.held w.clocks w.packets replies books (λ i. keeps_all (w.nodes i)) (λ i k. refl)
-
-delivered_said : (setting : Setting) (w : World) (stamps : Stamping) (z : Option Packet) → IsSound setting → Books setting w → Said setting w stamps
-    → ((packet : Packet) → z ≡ Some packet → WasSent w packet) → IsSaid setting (delivered setting w z)
-delivered_said setting w stamps None sound books said sent = (stamps, said)
-delivered_said setting w stamps (Some packet) sound books said sent =
-    let counted : World = record w { replies = replies_with setting w packet } in
+delivered_said : (setting : Setting) (w : World) (stamps : Stamping) (number : ℕ) (z : Option Packet) → IsSound setting → Books setting w → Said setting w stamps
+    → ((packet : Packet) → z ≡ Some packet → WasSent w packet) → IsSaid setting (delivered setting w number z)
+delivered_said setting w stamps number None sound books said sent = (stamps, said)
+delivered_said setting w stamps number (Some packet) sound books said sent =
+    let counted : World = record w { replies = replies_with setting w packet; reached = put w.reached number true } in
     cond_both (is_up setting.layout w packet.to)
     (stepped setting counted packet.to (received setting packet.to (w.clocks packet.to.0) (w.nodes packet.to.0) packet)) w
     (λ (next : World). IsSaid setting next)
     (λ is. message_said setting counted stamps packet.to packet.from (w.clocks packet.to.0) packet.message sound
-    (books_beside setting w (replies_with setting w packet) books)
-    (said_beside setting w stamps w.clocks (replies_with setting w packet) books said)
+    (books_beside setting w (replies_with setting w packet) (put w.reached number true) books)
+    (said_beside setting w stamps w.clocks (replies_with setting w packet) (put w.reached number true) books said)
     (sent packet refl))
     (λ isnt. (stamps, said))
 
@@ -228,7 +223,7 @@ ticked_said : (setting : Setting) (w : World) (stamps : Stamping) (me : BrickId)
     → Said setting (world_ticked setting w me) stamps
 ticked_said setting w stamps me books said =
     let more : List Packet = ticked setting me (w.nodes me.0) in
-    said_added setting w stamps w.clocks w.replies (w.packets ++ more) books said
+    said_added setting w stamps w.clocks w.replies w.reached (w.packets ++ more) books said
     (λ packet sent. (sent.0, get_kept w.packets more sent.0 packet sent.1))
     (λ packet sent. ⊎_elim
     (λ (old : slice_get w.packets sent.0 ≡ Some packet). (sent.0, old))
@@ -243,7 +238,8 @@ stopped_said setting w stamps me during books said =
     let crash : Mark = Crash (length w.marks) me in
     let longer : length (w.marks ++ (crash ∷ [])) ≡ length w.marks + 1 = length-append w.marks (crash ∷ []) in
     said_idle setting w stamps me.0 (stopped (w.nodes me.0))
-    (put w.after me.0 (left_after setting me (w.nodes me.0) (packet_during w.packets during))) (put w.up me.0 false) w.past (w.marks ++ (crash ∷ [])) books said refl (λ k. refl)
+    (put w.after me.0 (left_after setting me (w.nodes me.0) (packet_during w.packets during))) (put w.up me.0 false) w.past (w.marks ++ (crash ∷ []))
+    (reached_during w me during) books said refl (λ k. refl)
     (ages_within (w.nodes me.0) (stopped (w.nodes me.0)) refl (omega arith) (omega arith)) (omega arith)
     (λ a. last_grows w.marks crash a (λ k mark at. let place = books.places k mark at in omega (arith, place)) refl)
     (λ k p n answer at. ⊎_elim
@@ -258,7 +254,7 @@ started_said : (setting : Setting) (w : World) (stamps : Stamping) (me : BrickId
 unfolding restarted
 started_said setting w stamps me openings books said some =
     said_idle setting w stamps me.0 (restarted openings (w.nodes me.0)) w.after (put w.up me.0 true)
-    (put w.past me.0 (put (w.past me.0) (w.nodes me.0).boot (w.nodes me.0).known)) w.marks books said refl (λ k. refl)
+    (put w.past me.0 (put (w.past me.0) (w.nodes me.0).boot (w.nodes me.0).known)) w.marks w.reached books said refl (λ k. refl)
     (record { boot = omega arith; known = λ same. absurd (omega arith); seq = λ same. absurd (omega arith) }) (omega arith) (λ a. omega arith)
     (λ k p n answer at. at)
 
@@ -282,10 +278,10 @@ said_happens setting w (Invokes brick ask) sound leaves books said =
     (λ may. invoked_said setting w said.0 brick ask books said.1 may)
     (λ isnt. said)
 said_happens setting w (Delivers number) sound leaves books said =
-    delivered_said setting w said.0 (packet_of w.packets number) sound books said.1 (packet_was_sent w number)
+    delivered_said setting w said.0 number (packet_of w.packets number) sound books said.1 (packet_was_sent w number)
 said_happens setting w (Sets brick time) sound leaves books said =
     cond_both (is_brick setting.layout brick) (record w { clocks = put w.clocks brick.0 time }) w (λ (next : World). IsSaid setting next)
-    (λ is. (said.0, said_beside setting w said.0 (put w.clocks brick.0 time) w.replies books said.1))
+    (λ is. (said.0, said_beside setting w said.0 (put w.clocks brick.0 time) w.replies w.reached books said.1))
     (λ isnt. said)
 said_happens setting w (Ticks brick) sound leaves books said =
     cond_both (is_up setting.layout w brick) (world_ticked setting w brick) w (λ (next : World). IsSaid setting next)

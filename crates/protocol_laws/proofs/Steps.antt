@@ -307,12 +307,13 @@ phase_asked setting w me c packets is seat member at =
     (sent.0, subst (λ (l : List Packet). slice_get l sent.0 ≡ Some packet) (sym is) sent.1)
 
 -- a world that sends again what was sent, and whose clocks and counted replies are other, says what was said
-pub said_added : (setting : Setting) (w : World) (stamps : Stamping) (clocks : ℕ → ℕ) (replies : ℕ → ℕ → List Counted) (packets : List Packet)
+pub said_added : (setting : Setting) (w : World) (stamps : Stamping) (clocks : ℕ → ℕ) (replies : ℕ → ℕ → List Counted) (reached : ℕ → Bool)
+    (packets : List Packet)
     → Books setting w → Said setting w stamps → ((packet : Packet) → WasSent w packet → WasSent (record w { packets = packets }) packet)
     → ((packet : Packet) → WasSent (record w { packets = packets }) packet → WasSent w packet)
-    → Said setting (record w { clocks = clocks; packets = packets; replies = replies }) stamps
-said_added setting w stamps clocks replies packets books said kept old =
-    let next : World = record w { clocks = clocks; packets = packets; replies = replies } in
+    → Said setting (record w { clocks = clocks; packets = packets; replies = replies; reached = reached }) stamps
+said_added setting w stamps clocks replies reached packets books said kept old =
+    let next : World = record w { clocks = clocks; packets = packets; replies = replies; reached = reached } in
     let grows : Grows w next stamps stamps = record {
       parts = parts_same w next refl refl said.logged;
       sent = kept;
@@ -335,22 +336,22 @@ said_added setting w stamps clocks replies packets books said kept old =
       order = said.order;
     })
 
--- other clocks, and other replies that count, change nothing of what is said
-pub said_beside : (setting : Setting) (w : World) (stamps : Stamping) (clocks : ℕ → ℕ) (replies : ℕ → ℕ → List Counted) → Books setting w
-    → Said setting w stamps → Said setting (record w { clocks = clocks; replies = replies }) stamps
-said_beside setting w stamps clocks replies books said =
-    said_added setting w stamps clocks replies w.packets books said (λ packet sent. sent) (λ packet sent. sent)
+-- other clocks, other replies that count, and other messages that were delivered, change nothing of what is said
+pub said_beside : (setting : Setting) (w : World) (stamps : Stamping) (clocks : ℕ → ℕ) (replies : ℕ → ℕ → List Counted) (reached : ℕ → Bool)
+    → Books setting w → Said setting w stamps → Said setting (record w { clocks = clocks; replies = replies; reached = reached }) stamps
+said_beside setting w stamps clocks replies reached books said =
+    said_added setting w stamps clocks replies reached w.packets books said (λ packet sent. sent) (λ packet sent. sent)
 
 -- a brick that has no operation open any more, as it stopped or was started again, changes nothing of what is said, where no operation's
 -- last position comes forward
 pub said_idle : (setting : Setting) (w : World) (stamps : Stamping) (me : ℕ) (node : Node) (after : ℕ → Node) (up : ℕ → Bool) (past : ℕ → ℕ → ℕ)
-    (marks : List Mark)
+    (marks : List Mark) (reached : ℕ → Bool)
     → Books setting w → Said setting w stamps → node.replicas ≡ (w.nodes me).replicas → ((k : ℕ) → node.calls k ≡ None) → Ages (w.nodes me) node
     → length w.marks ≤ length marks → ((a : ℕ) → last_of (life_of w.marks a) ≤ last_of (life_of marks a))
     → ((k p n : ℕ) (answer : Answer) → slice_get marks k ≡ Some (End p n answer) → slice_get w.marks k ≡ Some (End p n answer))
-    → Said setting (record w { nodes = put w.nodes me node; after = after; up = up; past = past; marks = marks }) stamps
-said_idle setting w stamps me node after up past marks books said same none ages longer lasts ends =
-    let next : World = record w { nodes = put w.nodes me node; after = after; up = up; past = past; marks = marks } in
+    → Said setting (record w { nodes = put w.nodes me node; after = after; up = up; past = past; marks = marks; reached = reached }) stamps
+said_idle setting w stamps me node after up past marks reached books said same none ages longer lasts ends =
+    let next : World = record w { nodes = put w.nodes me node; after = after; up = up; past = past; marks = marks; reached = reached } in
     said_after setting w next stamps stamps books said
     (record {
       parts = parts_kept w next me node refl refl said.logged same;
