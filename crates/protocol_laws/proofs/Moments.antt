@@ -16,7 +16,7 @@ use Rattle.messages.specs.declared.replies.Reply.{Reply}
 use Rattle.fab_base.specs.Layouts.{Group}
 use Rattle.protocol.specs.Settings.{Setting, Code}
 use Rattle.protocol_laws.proofs.Reactions.{modified_each}
-use Rattle.protocol.specs.Replicas.{Replica, Reaction, top_of, is_held, is_wanted, told_version, stays, unless_full, promised, stored, looked_up, handle}
+use Rattle.protocol.specs.Replicas.{Replica, Reaction, top_of, is_held, is_wanted, told_version, stays, unless_full, promised, stored, looked_up, handle, ignored}
 use Rattle.protocol.specs.declared.phases.Counted.{Counted}
 use Rattle.protocol.specs.Coordinators.{Coordinator, Next, Ignores, Waits, Sends, Makes, Ends, has_seat, request_of, on_reply}
 use Rattle.protocol.specs.Nodes.{view_at, Node, NodeStep, replica_at, full_at, reply_packets, to_members, collect_packets, resent_to, resent, resent_up_to, ticked, began, invoked, requested, known_after, fresh_stamp, carried_out, group_at, replied_at, replied, received, put}
@@ -113,7 +113,8 @@ handle_true code m full seat replica (Request.OrderRead t look want) =
 handle_true code m full seat replica (Request.Modify t base j delta) =
     modified_each code m seat (λ (z : Reaction). SaysTrue full replica z.reply) full replica t base j delta
     tt (λ below. (refl, (t, below))) (λ newest. tt) (λ live is. is) (λ at old is same. tt)
-handle_true code m full seat replica (Request.Collect t) = tt
+handle_true code m full seat replica (Request.Collect t) =
+    cond_both (is_held t replica.log) _ (ignored replica) (λ (z : Reaction). SaysTrue full replica z.reply) (λ held. tt) (λ isnt. tt)
 handle_true code m full seat replica (Request.OldRead bound) = tt
 handle_true code m full seat replica (Request.Prepare ballot) = tt
 handle_true code m full seat replica (Request.Accept ballot members) = tt

@@ -1,14 +1,15 @@
 -- What is said is so in every world that a run reaches.
+use Rattle.protocol_laws.proofs.Blocking.{first_fits}
 use Rattle.std.proofs.Common.{◌≡◌, ℕ, ◌<◌, ◌≤◌, ◌+◌, inl, true, false, List, [], ◌∷◌, ◌++◌, length, replicate, Option, Some, None, refl, sym, ap, ◌∙◌, subst, ⊎_elim, arith}
 use Rattle.std.specs.Prelude.{slice_get}
 use Rattle.std.proofs.lemmas.List.{append-nil, length-append}
-use Rattle.std.proofs.lemmas.Bool.{cond_both, cond-false, false≢true, or_left}
+use Rattle.std.proofs.lemmas.Bool.{cond_both, cond-false, false≢true, or_left, or_cases}
 use Rattle.fab_base.specs.declared.identities.BrickId.{BrickId}
 use Rattle.fab_base.specs.declared.identities.ViewNo.{ViewNo}
 use Rattle.fab_base.specs.declared.stamps.Stamp.{Stamp}
 use Rattle.fab_base.specs.declared.asks.Ask.{Ask}
 use Rattle.fab_base.specs.Stamps.{stamp_below, stamp_same, first_stamp}
-use Rattle.fab_base.proofs.StampOrder.{stamp_below_irrefl, stamp_same_refl}
+use Rattle.fab_base.proofs.StampOrder.{stamp_below_irrefl, stamp_same_refl, stamp_same_true}
 use Rattle.messages.specs.declared.calls.Call.{Call}
 use Rattle.messages.specs.declared.packets.Message.{Message}
 use Rattle.messages.specs.declared.packets.Packet.{Packet}
@@ -19,7 +20,7 @@ use Rattle.reg_model.specs.declared.marks.Mark.{Mark}
 use Rattle.reg_model.specs.declared.marks.Mark.TheVariants.{End, Crash}
 use Rattle.fab_base.specs.Layouts.{Group, group_of, seat_in}
 use Rattle.protocol.specs.Settings.{Setting, IsSound}
-use Rattle.protocol.specs.Replicas.{Reaction, first_replica, top_of, handle}
+use Rattle.protocol.specs.Replicas.{Reaction, first_replica, top_of, handle, is_held, fresh_replica}
 use Rattle.protocol.specs.declared.phases.Counted.{Counted}
 use Rattle.protocol.specs.Coordinators.{Coordinator}
 use Rattle.protocol.specs.Nodes.{Node, NodeStep, put, with_known, with_replica, replica_at, reacted, full_at, reply_packets, absorbed, ticked, stopped, restarted, new_stamp, fresh_stamp, no_step, began, invoked, requested, known_after, replied_at, replied, received, group_at, view_at, seat_served}
@@ -314,7 +315,6 @@ said_first setting sound = (
   record {
     stamps_say = record { are = λ i b k p t is. cc; begun = λ i b k p t is. cc; apart = λ i b k l p q t is its. cc };
     tops = λ g s i. inl (first_top setting.layout.block);
-    ascends = λ g s i. ((λ d held. absurd (false≢true held)), tt);
     first_held = λ g s i. or_left (stamp_same first_stamp first_stamp) false (stamp_same_refl first_stamp);
     logs = λ g s i k version is.
         let same : record { stamp = first_stamp; block = replicate setting.layout.block 0 } ≡ version
@@ -331,7 +331,15 @@ said_first setting sound = (
     ends = λ k p n answer is. cc;
     order = λ a b earlier late u earlier_is late_is groups stripes version. cc;
     first = λ g s. refl;
-    logged = λ i g s t. refl;
+    lowest = λ g s i x log is.
+        let same : record { stamp = first_stamp; block = replicate setting.layout.block 0 } ≡ x = cc in inl (ap (λ (z : Version). z.stamp) (sym same));
+    held_made = λ g s i t view held.
+        let there = subst (λ (e : ℕ). is_held t (fresh_replica setting.layout.block e).log ≡ true) view held in
+        ⊎_elim
+        (λ (first : stamp_same first_stamp t ≡ true). inl (sym (stamp_same_true first_stamp t first)))
+        (λ (none : false ≡ true). absurd (false≢true none))
+        (or_cases (stamp_same first_stamp t) false there);
+    logged = first_fits setting;
   },
 )
 

@@ -292,6 +292,7 @@ module _ (setting : Setting) (sound : IsSound setting) (w : World) (stamps : Sta
         version = λ v has. let e : Some v ≡ None = sym has ∙ unmade.0 in cc;
         made = λ v has. let e : Some v ≡ None = sym has ∙ unmade.0 in cc;
         base = λ v has. let e : Some v ≡ None = sym has ∙ unmade.0 in cc;
+        answered = λ is. is;
       };
       kept = kept;
       longer = omega arith;

@@ -30,9 +30,9 @@ use Rattle.protocol_laws.proofs.Parts.{part_of, PartsGuard, PartsBlock}
 use Rattle.protocol_laws.proofs.FirstViews.{AreInFirst, own_members, view_first, view_below, top_first, others_empty}
 use Rattle.protocol_laws.proofs.Books.{Books}
 use Rattle.protocol_laws.proofs.BooksEvents.{books_run, books}
-use Rattle.protocol_laws.proofs.Logs.{below_above, held_stands}
-use Rattle.protocol_laws.proofs.Reactions.{max_left, max_right, max_most}
-use Rattle.protocol_laws.proofs.Blocking.{PartsStay, was_held, passes_by, passes, blocked_by, blocked_stays, blocked_never_stands, count_split}
+use Rattle.protocol_laws.proofs.Logs.{below_above, held_stands, IsUnder, nothing_kept, IsKept}
+use Rattle.protocol_laws.proofs.Reactions.{max_left, max_right, max_most, under_top}
+use Rattle.protocol_laws.proofs.Blocking.{PartsStay, was_kept, passes_by, passes, blocked_by, blocked_stays, blocked_never_stands, count_split}
 use Rattle.protocol_laws.proofs.Said.{Stamping, Said, IsSaid, IsMadeOrFirst, IsBlockOf, ToldSays, MakerSays, WriteSays, ModifySays, RequestSays, ReplySays, WritesWhole, ReadsBack}
 use Rattle.protocol_laws.proofs.Stampings.{known_first, known_view}
 use Rattle.protocol_laws.proofs.OwnStamps.{made_view, made_first}
@@ -281,9 +281,13 @@ never_lowers setting events more sound = (falls, adds)
         let made : IsMadeOrFirst next g s t
         = subst (λ (z : Stamp). IsMadeOrFirst next g s z) at.3 (later.1.logs g s i at.0 at.1 at.2).made in
         ⊎_elim
-        (λ (first : t ≡ first_stamp).
-        inl (subst (λ (z : Stamp). is_held z (part_of w g s i).log ≡ true) (sym first)
-        (was_held w said.1.logged g s i first_stamp refl (said.1.first_held g s i))))
+        (λ (first : t ≡ first_stamp). ⊎_elim
+        (λ (there : is_held first_stamp (part_of w g s i).log ≡ true).
+        inl (subst (λ (z : Stamp). is_held z (part_of w g s i).log ≡ true) (sym first) there))
+        (λ (under : IsUnder first_stamp (part_of w g s i).log).
+        absurd (false≢true (sym (subst (λ (z : Stamp). stamp_below z (top_of (part_of w g s i)) ≡ false) first new)
+        ∙ under_top (part_of w g s i) first_stamp (said.1.logged.ascends g 1 s i) under)))
+        (was_kept w said.1.logged g s i first_stamp refl (said.1.first_held g s i)))
         (λ (above : stamp_below (floor_of 1) t ≡ true).
         inr (subst (λ (z : Stamp). stamp_below t z ≡ false) (sym (top_is setting w before g s i))
         (max_most (floor_of 1) (top_of (part_of w g s i)) t (stamp_below_asym (floor_of 1) t above) new)))
@@ -377,12 +381,10 @@ never_surfaces setting views events more g s group v sound follows found lost he
     unheld : (i : ℕ) → stamp_below (floor_of 1) v ≡ false → next.held i g s v ≡ true → ⊥
     unheld i not_over is = ⊎_elim
         (λ (one : view_of v ≡ 1).
-        let at = held_stands v (part_of next g s i).log (was_held next later.1.logged g s i v one is) in
-        let made : IsMadeOrFirst next g s v
-        = subst (λ (z : Stamp). IsMadeOrFirst next g s z) at.3 (later.1.logs g s i at.0 at.1 at.2).made in
+        let made : IsMadeOrFirst next g s v = later.1.held_made g s i v one is in
         ⊎_elim not_first (λ (over : stamp_below (floor_of 1) v ≡ true). false≢true (sym not_over ∙ over))
         (made_first setting next later.0 booked later.1 g s v made))
         (λ (other : view_of v ≢ 1).
-        false≢true (ap (λ l. is_held v l) (sym (others_empty setting.layout (next.nodes i) g (view_of v) s (booked.first i) other))
-        ∙ sym (later.1.logged i g s v) ∙ is))
+        nothing_kept v (subst (λ l. IsKept v l) (others_empty setting.layout (next.nodes i) g (view_of v) s (booked.first i) other)
+        (later.1.logged.kept i g s v is)))
         (cases_eq (view_of v) 1)
