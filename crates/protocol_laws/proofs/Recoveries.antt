@@ -1,6 +1,6 @@
 -- What a quorum of replies to a recovery decides: nothing that a quorum holds, or ever will, lies between the greatest version found and the
 -- recovery's stamp; nor that version itself, where too few blocks of it were found.
-use Rattle.std.proofs.Common.{◌≡◌, ℕ, ◌+◌, ◌<◌, ◌≤◌, Bool, true, false, not, List, [], ◌∷◌, length, Option, Some, None, refl, sym, ap, ◌∙◌, subst, ⊎_elim, arith, ◌⊎◌, inl, inr, ◌&&◌}
+use Rattle.std.proofs.Common.{◌≡◌, ℕ, ◌+◌, ◌<◌, ◌≤◌, Bool, true, false, not, List, [], ◌∷◌, length, Option, Some, None, refl, sym, ap, ◌∙◌, subst, ⊎_elim, arith, ◌&&◌}
 use Rattle.std.specs.Prelude.{filter}
 use Rattle.std.specs.Option.{option_map}
 use Rattle.std.proofs.lemmas.Bool.{cond_both, false≢true, cases_Bool, not-true, not_from_false}
@@ -23,7 +23,7 @@ use Rattle.messages.specs.declared.requests.Look.TheVariants.{Below, At}
 use Rattle.messages.specs.declared.requests.Want.{Want}
 use Rattle.messages.specs.declared.requests.Want.TheVariants.{All}
 use Rattle.protocol.specs.declared.phases.Phase.{Phase}
-use Rattle.protocol.specs.declared.phases.Phase.TheVariants.{OrdersAt, Recovers, Descends, Bases}
+use Rattle.protocol.specs.declared.phases.Phase.TheVariants.{Descends, Bases}
 use Rattle.protocol.specs.Coordinators.{Coordinator, told_in, told_stamp, finds, bytes_of, pieces_at, greater_stamp, greatest_found, greatest_refuser, lowest_full}
 use Rattle.protocol.specs.Worlds.{World, Operation}
 use Rattle.fab_base.specs.Layouts.{brick_at}

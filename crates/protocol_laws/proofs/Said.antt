@@ -40,7 +40,7 @@ use Rattle.protocol_laws.proofs.Parts.{part_of, PartsGuard, PartsBlock}
 use Rattle.protocol_laws.proofs.Books.{IsOperation, IsCall}
 use Rattle.protocol_laws.proofs.Blocking.{LogsFit}
 use Rattle.protocol_laws.proofs.FirstViews.{floor_at}
-use Rattle.protocol_laws.proofs.Logs.{LogAscends, IsWithin}
+use Rattle.protocol_laws.proofs.Logs.{IsWithin}
 
 -- a phase that was begun: its stamp, and what it does
 pub record Begun : Type 0 where
