@@ -1,9 +1,9 @@
 -- What a member's part of a stripe keeps through a request: its stamp never falls, and its log loses only what is below all that is left.
-use Rattle.std.proofs.Common.{nat_lt, ◌≡◌, ℕ, ◌⊎◌, inl, inr, Bool, true, false, cond, List, [], ◌∷◌, ◌++◌, Option, Some, None, refl, sym, ap, ◌∙◌, subst, ⊎_elim}
-use Rattle.std.specs.Prelude.{slice_get}
+use Rattle.std.proofs.Common.{nat_lt, ◌≡◌, ℕ, ◌⊎◌, inl, inr, Bool, true, false, cond, List, [], ◌∷◌, ◌++◌, Option, Some, None, refl, sym, ap, ◌∙◌, subst, ⊎_elim, not}
+use Rattle.std.specs.Prelude.{slice_get, ◌&&◌}
 use Rattle.std.proofs.lemmas.Bool.{cond_both, cond-false, false≢true, or_left, or_right, or_cases}
 use Rattle.fab_base.specs.declared.stamps.Stamp.{Stamp}
-use Rattle.fab_base.specs.Stamps.{stamp_below, stamp_same}
+use Rattle.fab_base.specs.Stamps.{stamp_below, stamp_same, first_stamp}
 use Rattle.fab_base.proofs.StampOrder.{stamp_below_irrefl, stamp_below_asym, stamp_not_below_trans, stamp_neither_below, stamp_same_refl, stamp_same_true}
 use Rattle.messages.specs.declared.requests.Version.{Version}
 use Rattle.messages.specs.declared.requests.Look.{Look}
@@ -75,11 +75,11 @@ max_of_higher a b h = cond_both (stamp_below a b) b a (λ (z : Stamp). z ≡ b) 
 
 -- the part with a promise of t
 abbrev pub with_order : Replica → Stamp → Replica
-with_order replica t = record { order = t; log = replica.log }
+with_order replica t = record replica { order = t }
 
 -- the part with one more version
 abbrev pub with_version : Replica → Stamp → List ℕ → Replica
-with_version replica t block = record { order = replica.order; log = replica.log ++ (record { stamp = t; block = block } ∷ []) }
+with_version replica t block = record replica { log = replica.log ++ (record { stamp = t; block = block } ∷ []) }
 
 -- after a promise the top is the promised stamp
 pub top_promised : (replica : Replica) (t : Stamp) → stamp_below t (top_of replica) ≡ false → top_of (with_order replica t) ≡ t
@@ -123,16 +123,17 @@ pub record HasWritten (code : Code) (m seat : ℕ) (replica : Replica) (request 
   pub above : stamp_below stamp (top_of replica) ≡ false
   pub next_is : next ≡ with_version replica stamp block
 
--- the part with these versions
-abbrev pub with_log : Replica → List Version → Replica
-with_log replica log = record { order = replica.order; log = log }
+-- the part without what is below a stamp
+abbrev pub with_least : Replica → Stamp → Replica
+with_least replica c =
+    record replica { log = among (at_least c) replica.log; from_start = replica.from_start && not (stamp_below first_stamp c) }
 
 -- a request made the member drop what is below a version that it holds
 pub record HasCollected (replica : Replica) (request : Request) (next : Replica) : Type 0 where
   pub stamp : Stamp
   pub request_is : request ≡ Collect stamp
   pub held : is_held stamp replica.log ≡ true
-  pub next_is : next ≡ with_log replica (among (at_least stamp) replica.log)
+  pub next_is : next ≡ with_least replica stamp
 
 -- the part after a request: as before, or with a promise, or with one more version, or without some of the lowest
 abbrev pub IsAfter : Code → ℕ → ℕ → Replica → Request → Replica → Type 0
@@ -365,14 +366,14 @@ handle_says code m full seat replica (Accept ballot members) = tt
 
 -- the top is as before once the lowest versions were dropped
 top_collected : (replica : Replica) (c : Stamp) → LogAscends replica.log → is_held c replica.log ≡ true
-    → top_of (with_log replica (among (at_least c) replica.log)) ≡ top_of replica
+    → top_of (with_least replica c) ≡ top_of replica
 top_collected replica c ascends held =
     let same : newest_of (among (at_least c) replica.log) ≡ newest_of replica.log = newest_kept c replica.log ascends held in
     ⊎_elim
     (λ (some : (version : Version) × (newest_of replica.log ≡ Some version)).
-    top_is (with_log replica (among (at_least c) replica.log)) some.0 (same ∙ some.1) ∙ sym (top_is replica some.0 some.1))
+    top_is (with_least replica c) some.0 (same ∙ some.1) ∙ sym (top_is replica some.0 some.1))
     (λ (none : newest_of replica.log ≡ None).
-    top_is_order (with_log replica (among (at_least c) replica.log)) (same ∙ none) ∙ sym (top_is_order replica none))
+    top_is_order (with_least replica c) (same ∙ none) ∙ sym (top_is_order replica none))
     (newest_cases replica.log)
 
 -- a request does not lower the top
