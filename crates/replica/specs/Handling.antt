@@ -14,7 +14,7 @@ use Rattle.brick_store.specs.Bricks.{Brick, IsOrdered}
 use Rattle.brick_store.specs.Images.{StandsFor, LeavesState}
 use Rattle.replica.specs.declared.faults.ReplicaFault.{ReplicaFault}
 use Rattle.replica.specs.declared.faults.ReplicaFault.TheVariants.{Disk, Halted, NoMemory}
-use Rattle.replica.specs.Parts.{part_in}
+use Rattle.replica.specs.Parts.{part_in, IsAboveStart}
 
 -- the brick that a store was made for
 abbrev pub me_of : {D : Type 0} → Brick D → BrickId
@@ -39,6 +39,7 @@ pub record Runs {D : Type 0} (tells : Type 0) (may_leave : D → List ℕ → Ty
   pub runs : store.halted ≡ false
   pub durable : tells → LeavesState store.shape store.state (may_leave store.disk)
   pub ordered : IsOrdered store.shape.block store.state
+  pub above_start : IsAboveStart store.state
 
 -- the parts of all stripes are as they were
 abbrev pub KeepsParts : ℕ → StateOf Version → StateOf Version → Type 0
@@ -64,9 +65,9 @@ pub record Handles {D A : Type 0} (tells : Type 0) (seen : D → List ℕ) (may_
   pub no_call : OnErr result (result ≢ Err Disk → IsUntouched seen may_leave moment left_since old.disk new.disk)
   pub cause : Kept (faults old.disk) (faults new.disk) (sound old.disk) (sound new.disk) (result ≡ Err Disk)
 
--- what a change's answer makes of the reply to be given; no change of a running store answers the others
-abbrev pub answered : Reply → Result (Unit {0}) StoreFault → Result (Option Reply) ReplicaFault
-answered reply (Ok done) = Ok (Some reply)
+-- what a change's answer makes of the reply to be given, if there is one; no change of a running store answers the others
+abbrev pub answered : Option Reply → Result (Unit {0}) StoreFault → Result (Option Reply) ReplicaFault
+answered reply (Ok done) = Ok reply
 answered reply (Err faults.Disk) = Err Disk
 answered reply (Err (faults.Full live)) = Ok (Some (Full live))
 answered reply (Err faults.Halted) = Err Halted

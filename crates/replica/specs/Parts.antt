@@ -1,11 +1,13 @@
 -- What a store keeps, as the parts of stripes that a brick of the machine has.
-use Rattle.std.specs.Prelude.{◌≡◌, ℕ, Bool, Option, Some, None, is_some, List, map}
+use Rattle.std.specs.Prelude.{◌≡◌, ℕ, Bool, Option, Some, None, is_some, List, map, IsTrue}
+use Rattle.std.specs.List.{AllByRecursion}
 use Rattle.fab_base.specs.declared.member_lists.View.{View}
 use Rattle.fab_base.specs.declared.stamps.Stamp.{Stamp}
+use Rattle.fab_base.specs.Stamps.{first_stamp, stamp_below}
 use Rattle.fab_base.specs.Layouts.{Layout}
 use Rattle.messages.specs.declared.requests.Version.{Version}
 use Rattle.version_log.specs.Versions.{Version as Kept}
-use Rattle.brick_state.specs.States.{StateOf, stripe_at, group_at, live}
+use Rattle.brick_state.specs.States.{Place, StateOf, stripe_at, group_at, live}
 use Rattle.brick_store.specs.Blocks.{log_at, accepted_of}
 use Rattle.brick_store.specs.Logs.{StripeLog}
 use Rattle.protocol.specs.Views.{Learnt, first_learnt}
@@ -47,6 +49,10 @@ pub record IsPartsOf (layout : Layout) (st : StateOf Kept) (node : Node) : Type 
   pub learnt : (g : ℕ) → node.learnt g ≡ learnt_in layout st g
   pub accepted : (g : ℕ) → node.accepted g ≡ accepted_in st g
   pub replicas : (g e s : ℕ) → node.replicas g e s ≡ part_in layout.block st g e s
+
+-- each version that was added to a stripe in view 1 is above the one that the stripe begins with
+abbrev pub IsAboveStart : StateOf Kept → Type 0
+IsAboveStart st = (p : Place) → p.1 ≡ 1 → AllByRecursion (λ v. IsTrue (stamp_below first_stamp v.stamp)) (stripe_at st p).added
 
 -- no later view was learnt of any group
 abbrev pub IsFirstView : StateOf Kept → Type 0

@@ -1,6 +1,6 @@
 //! Messages to a brick's part of a stripe.
 
-ghost use Rattle.std.specs.Prelude.{◌≡◌, ◌≢◌, ◌<◌, ◌≤◌, true, Err, IsSome, IfSome, IsTrue, length, option_map};
+ghost use Rattle.std.specs.Prelude.{◌≡◌, ◌≢◌, ◌<◌, ◌≤◌, true, Option, Err, IsSome, IfSome, IsTrue, length, option_map};
 ghost use Rattle.brick_store.specs.declared.faults.StoreFault.TheVariants as faults;
 ghost use Rattle.brick_state.specs.States.{live};
 ghost use Rattle.frame_store.specs.Layouts.{shape_of};
@@ -8,7 +8,7 @@ ghost use Rattle.fab_base.specs.Layouts.{seat_in};
 ghost use Rattle.protocol.specs.Nodes.{Node, view_at, group_at, is_served, fits_block, full_at};
 ghost use Rattle.messages.specs.declared.packets.Message.TheVariants as message;
 ghost use Rattle.messages.specs.declared.replies.Reply as told;
-ghost use Rattle.replica.specs.Parts.{IsPartsOf, IsFirstView};
+ghost use Rattle.replica.specs.Parts.{IsPartsOf, IsFirstView, IsAboveStart};
 ghost use Rattle.replica.specs.Plans.{planned, is_shared, IsChange};
 ghost use Rattle.replica.specs.Reactions.{part_at, served_seat, IsReacted, IsStep};
 ghost use Rattle.replica.specs.Handling.{Handles, Runs, answered, me_of, seen_as};
@@ -32,7 +32,7 @@ const FIRST_VIEW: ViewNo = ViewNo(1);
 fn refused(fault: StoreFault) -> Result<Option<Reply>, ReplicaFault>
     requires a_store { fault ≢ faults.NotAStore }
     requires not_worn { fault ≢ faults.Worn }
-    ensures { (reply : told.Reply) → result ≡ answered reply (Err fault) }
+    ensures { (reply : Option told.Reply) → result ≡ answered reply (Err fault) }
 {
     match fault {
         StoreFault::Full { live } => Ok(Some(Reply::Full { live })),
@@ -43,14 +43,17 @@ fn refused(fault: StoreFault) -> Result<Option<Reply>, ReplicaFault>
     }
 }
 
-// The reply, once the store answered the change that it promises.
-fn answered(reply: Reply, answer: Result<(), StoreFault>) -> Result<Option<Reply>, ReplicaFault>
+// The reply, if there is one, once the store answered the change that it promises.
+fn answered(
+    reply: Option<Reply>,
+    answer: Result<(), StoreFault>,
+) -> Result<Option<Reply>, ReplicaFault>
     requires a_store { answer ≢ Err faults.NotAStore }
     requires not_worn { answer ≢ Err faults.Worn }
     ensures { result ≡ answered reply answer }
 {
     match answer {
-        Ok(()) => Ok(Some(reply)),
+        Ok(()) => Ok(reply),
         Err(fault) => refused(fault),
     }
 }
@@ -86,12 +89,13 @@ fn carry_out<D: Disk>(
         Plan::Ignore => Ok(None),
         Plan::Tell(reply) => Ok(Some(reply)),
         Plan::Promise(stamp, reply) => {
-            answered(reply, store.set_order(group, view, stripe, stamp))
+            answered(Some(reply), store.set_order(group, view, stripe, stamp))
         }
         Plan::Store(stamp, block) => {
             let answer = store.add_version(group, view, stripe, stamp, block);
-            answered(Reply::Stored, answer)
+            answered(Some(Reply::Stored), answer)
         }
+        Plan::Collect(stamp) => answered(None, store.collect(group, view, stripe, stamp)),
     }
 }
 
@@ -172,6 +176,7 @@ pub fn handle<D: Disk>(
 ) -> Result<Option<Message>, ReplicaFault>
     requires shape { store.old.shape ≡ shape_of store.old.shape.me layout.now.block layout.now.records }
     requires view { IsFirstView store.old.state }
+    requires above_start { IsAboveStart store.old.state }
     ensures handles { Handles D.tells D.seen D.may_leave D.moment D.left_since D.faults D.sound
         (IsStep layout.now (me_of store.old) from message.now store.old.state) store.old store.new result }
     // Where the disk failed, what it holds is what it held before, or what the message makes it keep, by how many calls were made.

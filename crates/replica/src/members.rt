@@ -5,7 +5,7 @@ ghost use Rattle.fab_base.specs.Stamps.{stamp_below};
 ghost use Rattle.messages.specs.declared.replies.Reply.TheVariants.{Found, Later};
 ghost use Rattle.version_log.specs.Versions.{version, IsRising};
 ghost use Rattle.messages.specs.declared.requests.Version.{Version};
-ghost use Rattle.protocol.specs.Replicas.{is_held, is_wanted, is_changed, told_version, top_of, newest_of, looked_up, handle, ordered, order_read, written, modified, modified_block, stays, promised, unless_full};
+ghost use Rattle.protocol.specs.Replicas.{is_held, is_wanted, is_changed, told_version, top_of, newest_of, looked_up, handle, ordered, order_read, written, modified, modified_block, stays, promised, collected, unless_full};
 ghost use Rattle.protocol.specs.Nodes.{fits_block};
 ghost use Rattle.stripe_code.specs.Codes.{block_code};
 ghost use Rattle.replica.specs.Parts.{as_version, part_seen};
@@ -237,6 +237,18 @@ fn modify(
     Ok(Plan::Store(stamp, block))
 }
 
+// Drop the versions below one that is held. Where that is not held, or none is below it, nothing is to be done.
+fn collect(part: &State<'_>, stamp: Stamp) -> Plan
+    ensures plan { (full : Option ℕ) → planned full (part_seen part.now) result ≡ collected (part_seen part.now) stamp }
+    ensures change { (size : ℕ) (shares : Bool) → IsChange size shares (part_seen part.now) result }
+{
+    if is_held(part, stamp) && part.below(stamp).is_some() {
+        Plan::Collect(stamp)
+    } else {
+        Plan::Ignore
+    }
+}
+
 /// What a member is to do with a request.
 #[tactic(auto, unfolding(protocol::specs::Replicas::handle))]
 pub(crate) fn decide(
@@ -264,8 +276,8 @@ pub(crate) fn decide(
             data_block,
             delta,
         } => modify(alloc, member, part, *stamp, *base, *data_block, delta),
-        Request::Collect { .. }
-        | Request::OldRead { .. }
+        Request::Collect { stamp } => Ok(collect(part, *stamp)),
+        Request::OldRead { .. }
         | Request::Prepare { .. }
         | Request::Accept { .. } => Ok(Plan::Ignore),
     }
