@@ -196,25 +196,32 @@ module _ (block : ℕ) (call : Call) (st : StateOf Kept) (sorted : IsStrictlySor
 
   -- ---- what is dropped
 
+  -- the part that is left
   part_left : (t : Stamp) → part_from block (with_collected version_stamp t stripe) ≡ (dropped (part_at block st call) t).replica
   part_left t = ap (λ (vs : List Version). record { order = stripe.order; log = vs }) (log_left block t stripe)
 
+  -- it is the machine's, and the live records fall by the versions that were added
   pub reacted_collect : (t : Stamp) → AreAboveFirst stripe.added → is_held t (part_at block st call).log ≡ true
       → IsReacted block call st (collected (part_at block st call) t) None (states.collected version_stamp (place_of call) t st)
   reacted_collect t above held =
       subst (λ (r : Reaction). IsReacted block call st r None (states.collected version_stamp (place_of call) t st))
       (sym (collected_held (part_at block st call) t held)) (record {
-      told = refl;
-      boot = refl;
-      groups = refl;
-      live = omega (arith, live_put (place_of call) (with_collected version_stamp t stripe) st.stripes sorted, drops_added block t stripe above,
-          length-filter_both (is_below t) (λ v. not (stamp_below v.stamp t)) (λ v. refl) stripe.added);
-      parts = λ h e i.
-          subst (λ (r : Replica). part_in block (states.collected version_stamp (place_of call) t st) h e i ≡ with_part (part_in block st) call r h e i)
-          (part_left t) (parts_put block call (with_collected version_stamp t stripe) st sorted h e i);
-      others = λ p other. put_other (place_of call) p (with_collected version_stamp t stripe) st.stripes other;
+        told = refl;
+        boot = refl;
+        groups = refl;
+        live = omega (
+          arith,
+          live_put (place_of call) (with_collected version_stamp t stripe) st.stripes sorted,
+          drops_added block t stripe above,
+          length-filter_both (is_below t) (λ v. not (stamp_below v.stamp t)) (λ v. refl) stripe.added,
+        );
+        parts = λ h e i.
+            subst (λ (r : Replica). part_in block (states.collected version_stamp (place_of call) t st) h e i ≡ with_part (part_in block st) call r h e i)
+            (part_left t) (parts_put block call (with_collected version_stamp t stripe) st sorted h e i);
+        others = λ p other. put_other (place_of call) p (with_collected version_stamp t stripe) st.stripes other;
       })
 
+  -- where something is below the stamp, the part changes
   pub collect_moves : (t : Stamp) → below t (part_at block st call).log ≢ []
       → part_in block (states.collected version_stamp (place_of call) t st) call.group.0 call.view.0 call.stripe.0 ≡ part_at block st call → ⊥
   collect_moves t some same =

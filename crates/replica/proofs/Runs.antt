@@ -107,6 +107,7 @@ module _ {D : Type 0} (store : Brick D) (shares : Bool) (part : Replica) where
       let after : Replica = record { order = part.order; log = part.log ++ (v ∷ []) } in
       ap (λ (b : Bool). cond b (stored_calls store.shape store.listed shares) (unless_same (eqb (length after.log) (length part.log)) after)) longer
 
+  -- a part whose log got shorter
   pub calls_dropped : (t : Stamp) → below t part.log ≢ []
       → part_calls store.shape store.listed shares part (record { order = part.order; log = not_below t part.log }) ≡ calls_of store 30 4
   calls_dropped t some =

@@ -64,15 +64,11 @@ stored_added log None = ap (λ (found : Option Version). unwrap_or (option_map (
 
 -- a shorter log takes one record, whatever a version that is stored would share
 module _ {D : Type 0} (store : Brick D) where
-  calls_held : (shares : Bool) (part : Replica) (t : Stamp) → IsTrue (is_held t part.log) → below t part.log ≢ []
+  pub calls_collected : (shares : Bool) (part : Replica) (t : Stamp) → IsTrue (is_held t part.log) → below t part.log ≢ []
       → part_calls store.shape store.listed shares part (collected part t).replica ≡ calls_of store 30 4
-  calls_held shares part t held some =
+  calls_collected shares part t held some =
       ap (λ (r : Reaction). part_calls store.shape store.listed shares part r.replica) (collected_held part t held)
       ∙ calls_dropped store shares part t some
-
-  pub calls_collected : (part : Replica) (t : Stamp) → IsTrue (is_held t part.log) → below t part.log ≢ []
-      → part_calls store.shape store.listed false part (collected part t).replica ≡ calls_of store 30 4
-  calls_collected = calls_held false
 
 -- ---- what a request says
 
@@ -112,4 +108,4 @@ module _ (size : ℕ) (shares : Bool) (part : Replica) where
         let after = (planned full part (Promise t reply)).replica in
         same_long store false part after (promise_long t reply) ∙ sym (same_long store shares part after (promise_long t reply))
     calls_planned (Store t block) change = ap (λ (b : Bool). calls b (planned full part (Store t block))) (shares_is size shares (newest_of part.log) block change.1)
-    calls_planned (Collect t) change = calls_held store false part t change.0 change.1 ∙ sym (calls_held store shares part t change.0 change.1)
+    calls_planned (Collect t) change = calls_collected store false part t change.0 change.1 ∙ sym (calls_collected store shares part t change.0 change.1)

@@ -8,7 +8,7 @@ ghost use Rattle.fab_base.specs.Layouts.{seat_in};
 ghost use Rattle.protocol.specs.Nodes.{Node, view_at, group_at, is_served, fits_block, full_at};
 ghost use Rattle.messages.specs.declared.packets.Message.TheVariants as message;
 ghost use Rattle.messages.specs.declared.replies.Reply as told;
-ghost use Rattle.replica.specs.Parts.{IsPartsOf, IsFirstView, IsAboveStart};
+ghost use Rattle.replica.specs.Parts.{IsPartsOf, IsFirstView};
 ghost use Rattle.replica.specs.Plans.{planned, is_shared, IsChange};
 ghost use Rattle.replica.specs.Reactions.{part_at, served_seat, IsReacted, IsStep};
 ghost use Rattle.replica.specs.Handling.{Handles, Runs, answered, me_of, seen_as};
@@ -160,9 +160,12 @@ fn answer(
 /// Does what a brick of the machine does with a message as a member of a group: its answer to the sender, if there is one. A message that
 /// is no request, or is a request of a stripe that the brick does not serve, has none.
 ///
+/// A Collect drops the versions below the one that it names, where the member has that one, and has no reply. A block that a dropped version
+/// shares with one that stays is kept. Where the member lacks the version, or has none below it, nothing is dropped.
+///
 /// The answer is made only once what it promises is kept. A message that changes nothing makes no call of the disk; one that changes the
 /// order stamp makes four of `write_at` and `sync`, one that stores a version with its block five, one that stores a version with the block of
-/// the newest one four, and each seven more where the list of frames is rewritten first, for want of room.
+/// the newest one four, one that drops versions four, and each seven more where the list of frames is rewritten first, for want of room.
 ///
 /// # Errors
 /// [`ReplicaFault::Halted`]: an earlier call of the store answered Disk. [`ReplicaFault::Disk`]: the disk failed, and the store is
@@ -176,7 +179,6 @@ pub fn handle<D: Disk>(
 ) -> Result<Option<Message>, ReplicaFault>
     requires shape { store.old.shape ≡ shape_of store.old.shape.me layout.now.block layout.now.records }
     requires view { IsFirstView store.old.state }
-    requires above_start { IsAboveStart store.old.state }
     ensures handles { Handles D.tells D.seen D.may_leave D.moment D.left_since D.faults D.sound
         (IsStep layout.now (me_of store.old) from message.now store.old.state) store.old store.new result }
     // Where the disk failed, what it holds is what it held before, or what the message makes it keep, by how many calls were made.

@@ -277,8 +277,8 @@ pub(crate) fn decide(
             delta,
         } => modify(alloc, member, part, *stamp, *base, *data_block, delta),
         Request::Collect { stamp } => Ok(collect(part, *stamp)),
-        Request::OldRead { .. }
-        | Request::Prepare { .. }
-        | Request::Accept { .. } => Ok(Plan::Ignore),
+        Request::OldRead { .. } | Request::Prepare { .. } | Request::Accept { .. } => {
+            Ok(Plan::Ignore)
+        }
     }
 }

@@ -313,7 +313,7 @@ returns-in-Collect-clause-run g c =
     (change_runs d.tells d.seen d.certain d.may_leave d.moment d.left_since d.faults d.sound d.plan d.unlisted old new c.requires.runs
     (collected version_stamp (place_of call) t st) false (calls_of old 30 4) (calls c.args.plan) None
     c.collect.result c.collect.ensures.change c.collect.ensures.run
-    (λ room. ap calls c.in-Collect.is ∙ calls_collected old part t change.0 change.1)
+    (λ room. ap calls c.in-Collect.is ∙ calls_collected old false part t change.0 change.1)
     (λ adds. absurd cc))
 
 pub returns-in-Collect-clause-cut : goal.returns-in-Collect-clause-cut
@@ -340,4 +340,4 @@ returns-in-Collect-clause-cut g c =
     (Follows (Collect t)) (collected version_stamp (place_of call) t st) false (calls_of old 30 4) (calls (Collect t)) None
     c.collect.result c.collect.ensures.change
     (λ room. reacted_collect block call st sorted t above change.0)
-    (λ room. calls_collected old part t change.0 change.1)))
+    (λ room. calls_collected old false part t change.0 change.1)))

@@ -28,8 +28,8 @@ returns-then-is_some-clause-change c = λ size shares. (
 pub returns-else-is_held-clause-plan : goal.returns-else-is_held-clause-plan
 returns-else-is_held-clause-plan c = λ full.
     elim c.else-is_held.branch [
-      else-is_held-via-then-is_held+else-is_some w ↦
+      | else-is_held-via-then-is_held+else-is_some w ↦
           collected_lowest (part_seen c.args.part.now) c.args.stamp (below_none c.args.stamp c.args.part.now.log
           (found_is w.below.result c.args.stamp c.args.part.now.log w.is_some.result w.is_some.ensures w.below.ensures ∙ w.if-is_some.false))
-    | else-is_held-via-else-is_held w ↦ collected_other (part_seen c.args.part.now) c.args.stamp (sym c.is_held.ensures ∙ w.if-is_held.false)
+      | else-is_held-via-else-is_held w ↦ collected_other (part_seen c.args.part.now) c.args.stamp (sym c.is_held.ensures ∙ w.if-is_held.false)
     ]
