@@ -1,5 +1,5 @@
 -- Versions are dropped where one of the stamp is held, and one is found below it.
-use Rattle.std.proofs.Common.{◌≡◌, Bool, true, false, Option, List, Bor, sym, ap, ◌∙◌}
+use Rattle.std.proofs.Common.{◌≡◌, Bool, Option, List, Bor, sym, ap, ◌∙◌}
 use Rattle.std.specs.Option.{is_some, option_map}
 use Rattle.fab_base.specs.declared.block_bytes.Bytes.{Bytes}
 use Rattle.fab_base.specs.declared.stamps.Stamp.{Stamp}
