@@ -1,20 +1,21 @@
 -- What is dropped of a log below a version that it has, and what is left.
-use Rattle.std.proofs.Common.{◌≡◌, ◌≢◌, ℕ, suc, ◌+◌, ◌<◌, Bool, true, false, not, ◌&&◌, cond, None, List, [], ◌∷◌, ◌++◌, length, map, refl, sym, ap, ◌∙◌, arith}
+use Rattle.std.proofs.Common.{◌≡◌, ◌≢◌, ℕ, suc, ◌+◌, ◌-◌, ◌<◌, Bool, true, false, not, ◌&&◌, ◌||◌, cond, None, List, [], ◌∷◌, ◌++◌, length, map, refl, sym, ap, ◌∙◌, arith}
 use Rattle.std.specs.Prelude.{replicate, is_some}
-use Rattle.std.specs.List.{filter, AllByRecursion}
+use Rattle.std.specs.List.{filter}
+use Rattle.std.proofs.lemmas.List.{length-map}
 use Rattle.std.proofs.lemmas.List.Elements.{filter-append}
 use Rattle.std.proofs.lemmas.List.Filters.{length-filter_both}
 use Rattle.fab_base.specs.declared.stamps.Stamp.{Stamp}
 use Rattle.fab_base.specs.Stamps.{stamp_below, stamp_same, first_stamp}
-use Rattle.fab_base.proofs.StampOrder.{stamp_below_irrefl, stamp_same_refl, stamp_same_true}
+use Rattle.fab_base.proofs.StampOrder.{stamp_same_true}
 use Rattle.messages.specs.declared.requests.Version.{Version}
 use Rattle.version_log.specs.Versions.{Version as Kept, version, newest, is_below}
 use Rattle.version_log.specs.Versions.{below as found_below}
 use Rattle.version_log.proofs.RisingLogs.{filter-map}
 use Rattle.brick_state.specs.States.{StripeOf, with_collected}
 use Rattle.brick_store.specs.Blocks.{log_of, version_stamp}
-use Rattle.protocol.specs.Replicas.{Replica, Reaction, is_held, below, not_below, takes_room, ignored, collected}
-use Rattle.replica.specs.Parts.{as_version}
+use Rattle.protocol.specs.Replicas.{Replica, Reaction, is_held, below, not_below, drops_start, ignored, collected}
+use Rattle.replica.specs.Parts.{as_version, IsBegun}
 use Rattle.replica.proofs.Logs.{newest_cons}
 
 differ : {A : Type 0} → false ≡ true → A
@@ -26,10 +27,10 @@ differ h = absurd cc
 abbrev pub dropped : Replica → Stamp → Reaction
 dropped part t =
     record {
-      replica = record { order = part.order; log = not_below t part.log };
+      replica = record part { log = not_below t part.log; from_start = part.from_start && not (stamp_below first_stamp t) };
       reply = None;
       adds = 0;
-      drops = length (filter takes_room (below t part.log));
+      drops = length (below t part.log) - cond (drops_start part t) 1 0;
     }
 
 -- so it is where that one is held
@@ -50,17 +51,44 @@ all_left t (v ∷ log) none = by (stamp_below v.stamp t) none (all_left t log)
     by true some rest = absurd cc
     by false none' rest = ap (λ (vs : List Version). v ∷ vs) (rest none')
 
--- and nothing is dropped
-pub collected_lowest : (part : Replica) (t : Stamp) → below t part.log ≡ [] → ignored part ≡ collected part t
-collected_lowest part t none = by (is_held t part.log)
+-- a version that is held is not below the stamp either
+held_left : (t u : Stamp) (log : List Version) → below t log ≡ [] → is_held u log ≡ true → stamp_below u t ≡ false
+held_left t u [] none held = differ held
+held_left t u (v ∷ log) none held = by (stamp_below v.stamp t) refl (stamp_same v.stamp u) refl none held (held_left t u log)
   where
-    left : List Version → List Version → Reaction
-    left log gone =
-        record { replica = record { order = part.order; log = log }; reply = None; adds = 0; drops = length (filter takes_room gone) }
+    by : (b : Bool) → stamp_below v.stamp t ≡ b → (same : Bool) → stamp_same v.stamp u ≡ same → cond b (v ∷ below t log) (below t log) ≡ []
+        → (same || is_held u log) ≡ true → (below t log ≡ [] → is_held u log ≡ true → stamp_below u t ≡ false) → stamp_below u t ≡ false
+    by true at same is some h rest = absurd cc
+    by false at true is none' h rest = ap (λ (s : Stamp). stamp_below s t) (sym (stamp_same_true v.stamp u is)) ∙ at
+    by false at false is none' h rest = rest none' h
+
+-- so the first one stays where it is there
+start_left : (t : Stamp) (from : Bool) (log : List Version) → IsBegun from log → below t log ≡ [] → (from && stamp_below first_stamp t) ≡ false
+start_left t false log begun none = refl
+start_left t true log begun none = held_left t first_stamp log none (begun refl)
+
+-- and nothing is dropped
+pub collected_lowest : (part : Replica) (t : Stamp) → IsBegun part.from_start part.log → below t part.log ≡ [] → ignored part ≡ collected part t
+collected_lowest part t begun none = by (is_held t part.log)
+  where
+    left : List Version → List Version → Bool → Bool → Reaction
+    left log gone from start =
+        record { replica = record { order = part.order; log = log; from_start = from }; reply = None; adds = 0; drops = length gone - cond start 1 0 }
+
+    same : (from b : Bool) → (from && b) ≡ false → (from && not b) ≡ from
+    same false b h = refl
+    same true b h = ap not h
+
+    stays : (from : Bool) → (from && stamp_below first_stamp t) ≡ false → (from && not (stamp_below first_stamp t)) ≡ from
+    stays from = same from (stamp_below first_stamp t)
+
+    kept : drops_start part t ≡ false
+    kept = start_left t part.from_start part.log begun none
 
     by : (b : Bool) → ignored part ≡ cond b (dropped part t) (ignored part)
     by false = refl
-    by true = sym (ap (λ (log : List Version). left log (below t part.log)) (all_left t part.log none) ∙ ap (left part.log) none)
+    by true =
+        sym ((λ i. left (all_left t part.log none i) (none i) (stays part.from_start kept i) (kept i)))
 
 -- ---- what is below
 
@@ -123,48 +151,25 @@ log_left block t s =
     by true = refl
     by false = refl
 
--- each version that was added is above the first one
-abbrev pub AreAboveFirst : List Kept → Type 0
-AreAboveFirst added = AllByRecursion (λ v. stamp_below first_stamp v.stamp ≡ true) added
-
--- such a version takes room
-above_takes : (v : Kept) → stamp_below first_stamp v.stamp ≡ true → takes_room (as_version v) ≡ true
-above_takes v above = by (stamp_same v.stamp first_stamp) refl
-  where
-    by : (b : Bool) → stamp_same v.stamp first_stamp ≡ b → not b ≡ true
-    by false is = refl
-    by true is = differ (sym (stamp_below_irrefl first_stamp) ∙ ap (stamp_below first_stamp) (sym (stamp_same_true v.stamp first_stamp is)) ∙ above)
-
--- so of those that pass a test each takes room
-all_take : (test : Kept → Bool) (added : List Kept) → AreAboveFirst added
-    → length (filter takes_room (map as_version (filter test added))) ≡ length (filter test added)
-all_take test [] above = refl
-all_take test (v ∷ added) above = by (test v) (all_take test added above.1)
-  where
-    by : (b : Bool) → length (filter takes_room (map as_version (filter test added))) ≡ length (filter test added)
-        → length (filter takes_room (map as_version (cond b (v ∷ filter test added) (filter test added)))) ≡ length
-        (cond b (v ∷ filter test added) (filter test added))
-    by false rest = rest
-    by true rest = rw (above_takes v above.0) (ap suc rest)
-
--- the machine counts the versions that were added and are dropped
-pub drops_added : (block : ℕ) (t : Stamp) (s : StripeOf Kept) → AreAboveFirst s.added
-    → length (filter takes_room (below t (map as_version (log_of block s)))) ≡ length (filter (is_below t) s.added)
-drops_added block t s above =
-    ap (λ (vs : List Version). length (filter takes_room vs)) (below_map t (log_of block s)
-    ∙ ap (map as_version) (filter-append (is_below t) (start s.from_start) s.added))
+-- the versions that were added and are dropped are as many as the machine counts
+pub drops_added : (block : ℕ) (t : Stamp) (s : StripeOf Kept)
+    → length (below t (map as_version (log_of block s))) ≡ cond (s.from_start && stamp_below first_stamp t) 1 0 + length (filter (is_below t) s.added)
+drops_added block t s =
+    ap length (below_map t (log_of block s) ∙ ap (map as_version) (filter-append (is_below t) (start s.from_start) s.added))
     ∙ by s.from_start
   where
     start : Bool → List Kept
     start from = cond from (version first_stamp (replicate block 0) ∷ []) []
 
-    room : List Kept → ℕ
-    room vs = length (filter takes_room (map as_version vs))
+    long : (vs : List Kept) → length (map as_version vs) ≡ length vs
+    long vs = length-map vs as_version
 
-    begun : (b : Bool) → room (cond b (version first_stamp (replicate block 0) ∷ []) [] ++ filter (is_below t) s.added) ≡ room (filter (is_below t) s.added)
-    begun true = rw (stamp_same_refl first_stamp) refl
-    begun false = refl
+    begun : (b : Bool) → length (map as_version (cond b (version first_stamp (replicate block 0) ∷ []) [] ++ filter (is_below t) s.added))
+        ≡ cond b 1 0 + length (filter (is_below t) s.added)
+    begun true = omega (arith, long (filter (is_below t) s.added))
+    begun false = omega (arith, long (filter (is_below t) s.added))
 
-    by : (from : Bool) → room (filter (is_below t) (start from) ++ filter (is_below t) s.added) ≡ length (filter (is_below t) s.added)
-    by true = begun (stamp_below first_stamp t) ∙ all_take (is_below t) s.added above
-    by false = all_take (is_below t) s.added above
+    by : (from : Bool) → length (map as_version (filter (is_below t) (start from) ++ filter (is_below t) s.added))
+        ≡ cond (from && stamp_below first_stamp t) 1 0 + length (filter (is_below t) s.added)
+    by true = begun (stamp_below first_stamp t)
+    by false = omega (arith, long (filter (is_below t) s.added))

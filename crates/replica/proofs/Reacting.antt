@@ -22,7 +22,7 @@ use Rattle.messages.specs.declared.calls.Call.{Call}
 use Rattle.replica.specs.Parts.{as_version, part_of, part_in}
 use Rattle.replica.specs.Reactions.{place_of, part_at, IsReacted}
 use Rattle.replica.proofs.Places.{put_here, put_other, live_put}
-use Rattle.replica.proofs.Dropping.{dropped, collected_held, shorter, log_left, AreAboveFirst, drops_added}
+use Rattle.replica.proofs.Dropping.{dropped, collected_held, shorter, log_left, drops_added}
 
 differ : {A : Type 0} → false ≡ true → A
 differ h = absurd cc
@@ -31,7 +31,7 @@ differ h = absurd cc
 
 -- the part that a stripe is
 abbrev part_from : ℕ → StripeOf Kept → Replica
-part_from block s = part_of s.order (log_of block s)
+part_from block s = part_of s.order (log_of block s) s.from_start
 
 -- one part is changed, and no other
 parts_put : (block : ℕ) (call : Call) (new : StripeOf Kept) (st : StateOf Kept) → IsStrictlySortedBy place_cmp (keys_of st.stripes) → (h v t : ℕ)
@@ -162,14 +162,15 @@ module _ (block : ℕ) (call : Call) (st : StateOf Kept) (sorted : IsStrictlySor
     order = stripe.order;
     log = map as_version (log_of block stripe) ++
         (as_version v ∷ []);
+    from_start = stripe.from_start;
   }
   log_added v =
       let start = cond stripe.from_start (version first_stamp (replicate block 0) ∷ []) [] in
-      ap (part_of stripe.order) (sym (append_assoc start stripe.added (v ∷ []))) ∙ ap (λ (vs : List Version). part_with vs)
+      ap (λ (vs : List Kept). part_of stripe.order vs stripe.from_start) (sym (append_assoc start stripe.added (v ∷ []))) ∙ ap (λ (vs : List Version). part_with vs)
       (map-append as_version (start ++ stripe.added) (v ∷ []))
     where
       part_with : List Version → Replica
-      part_with vs = record { order = stripe.order; log = vs }
+      part_with vs = record { order = stripe.order; log = vs; from_start = stripe.from_start }
 
   reacted_store : (t : Stamp) (bytes : List ℕ) → IsReacted block call st (stored (part_at block st call) t bytes) (Some Stored)
       (added (place_of call) (version t bytes) st)
@@ -198,12 +199,14 @@ module _ (block : ℕ) (call : Call) (st : StateOf Kept) (sorted : IsStrictlySor
 
   -- the part that is left
   part_left : (t : Stamp) → part_from block (with_collected version_stamp t stripe) ≡ (dropped (part_at block st call) t).replica
-  part_left t = ap (λ (vs : List Version). record { order = stripe.order; log = vs }) (log_left block t stripe)
+  part_left t =
+      ap (λ (vs : List Version). record { order = stripe.order; log = vs; from_start = stripe.from_start && not (stamp_below first_stamp t) })
+      (log_left block t stripe)
 
   -- it is the machine's, and the live records fall by the versions that were added
-  pub reacted_collect : (t : Stamp) → AreAboveFirst stripe.added → is_held t (part_at block st call).log ≡ true
+  pub reacted_collect : (t : Stamp) → is_held t (part_at block st call).log ≡ true
       → IsReacted block call st (collected (part_at block st call) t) None (states.collected version_stamp (place_of call) t st)
-  reacted_collect t above held =
+  reacted_collect t held =
       subst (λ (r : Reaction). IsReacted block call st r None (states.collected version_stamp (place_of call) t st))
       (sym (collected_held (part_at block st call) t held)) (record {
         told = refl;
@@ -212,7 +215,7 @@ module _ (block : ℕ) (call : Call) (st : StateOf Kept) (sorted : IsStrictlySor
         live = omega (
           arith,
           live_put (place_of call) (with_collected version_stamp t stripe) st.stripes sorted,
-          drops_added block t stripe above,
+          drops_added block t stripe,
           length-filter_both (is_below t) (λ v. not (stamp_below v.stamp t)) (λ v. refl) stripe.added,
         );
         parts = λ h e i.

@@ -31,7 +31,7 @@ use Rattle.replica.specs.declared.faults.ReplicaFault.{ReplicaFault}
 use Rattle.replica.specs.declared.faults.ReplicaFault.TheVariants.{Disk, Halted, NoMemory}
 use Rattle.replica.specs.Handling.{Runs, OpensAsNext, answered, seen_as}
 use Rattle.replica.specs.Calls.{stored_calls, part_calls, RunsAs, StopsAs}
-use Rattle.replica.proofs.Dropping.{shorter}
+use Rattle.replica.proofs.Dropping.{dropped, shorter}
 
 differ : {A : Type 0} → false ≡ true → A
 differ h = absurd cc
@@ -95,26 +95,26 @@ module _ {D : Type 0} (store : Brick D) (shares : Bool) (part : Replica) where
       by true is = differ (sym (stamp_below_irrefl part.order) ∙ ap (stamp_below part.order) (stamp_same_true part.order t is) ∙ later)
 
   pub calls_ordered : (t : Stamp) → stamp_below part.order t ≡ true
-      → part_calls store.shape store.listed shares part (record { order = t; log = part.log }) ≡ calls_of store 30 4
+      → part_calls store.shape store.listed shares part (record part { order = t }) ≡ calls_of store 30 4
   calls_ordered t later =
-      same_long (record { order = t; log = part.log }) refl ∙ ap (λ (b : Bool). cond b 0 (calls_of store 30 4)) (other_stamp t later)
+      same_long (record part { order = t }) refl ∙ ap (λ (b : Bool). cond b 0 (calls_of store 30 4)) (other_stamp t later)
 
-  pub calls_stored : (v : Version) → part_calls store.shape store.listed shares part (record { order = part.order; log = part.log ++ (v ∷ []) }) ≡
+  pub calls_stored : (v : Version) → part_calls store.shape store.listed shares part (record part { log = part.log ++ (v ∷ []) }) ≡
       stored_calls store.shape store.listed shares
   calls_stored v =
       let sum : length (part.log ++ (v ∷ [])) ≡ length part.log + 1 = length-append part.log (v ∷ []) in
       let longer : nat_lt (length part.log) (length (part.log ++ (v ∷ []))) ≡ true = grind (arith, nat_tests, sum) in
-      let after : Replica = record { order = part.order; log = part.log ++ (v ∷ []) } in
+      let after : Replica = record part { log = part.log ++ (v ∷ []) } in
       ap (λ (b : Bool). cond b (stored_calls store.shape store.listed shares) (unless_same (eqb (length after.log) (length part.log)) after)) longer
 
   -- a part whose log got shorter
   pub calls_dropped : (t : Stamp) → below t part.log ≢ []
-      → part_calls store.shape store.listed shares part (record { order = part.order; log = not_below t part.log }) ≡ calls_of store 30 4
+      → part_calls store.shape store.listed shares part (dropped part t).replica ≡ calls_of store 30 4
   calls_dropped t some =
       let less = shorter t part.log some in
       let longer : nat_lt (length part.log) (length (not_below t part.log)) ≡ false = grind (arith, nat_tests, less) in
       let other : eqb (length (not_below t part.log)) (length part.log) ≡ false = grind (arith, nat_tests, less) in
-      let after : Replica = record { order = part.order; log = not_below t part.log } in
+      let after = (dropped part t).replica in
       ap (λ (b : Bool). cond b (stored_calls store.shape store.listed shares) (unless_same (eqb (length after.log) (length part.log)) after)) longer
       ∙ ap (λ (b : Bool). unless_same b after) other
 

@@ -14,7 +14,7 @@ use Rattle.brick_store.specs.Bricks.{Brick, IsOrdered}
 use Rattle.brick_store.specs.Images.{StandsFor, LeavesState}
 use Rattle.replica.specs.declared.faults.ReplicaFault.{ReplicaFault}
 use Rattle.replica.specs.declared.faults.ReplicaFault.TheVariants.{Disk, Halted, NoMemory}
-use Rattle.replica.specs.Parts.{part_in, IsAboveStart}
+use Rattle.replica.specs.Parts.{part_in}
 
 -- the brick that a store was made for
 abbrev pub me_of : {D : Type 0} → Brick D → BrickId
@@ -39,7 +39,6 @@ pub record Runs {D : Type 0} (tells : Type 0) (may_leave : D → List ℕ → Ty
   pub runs : store.halted ≡ false
   pub durable : tells → LeavesState store.shape store.state (may_leave store.disk)
   pub ordered : IsOrdered store.shape.block store.state
-  pub above_start : IsAboveStart store.state
 
 -- the parts of all stripes are as they were
 abbrev pub KeepsParts : ℕ → StateOf Version → StateOf Version → Type 0

@@ -31,8 +31,8 @@ planned full part (Store t block) = unless_full full part (stored part t (block_
 planned full part (Collect t) = collected part t
 
 -- the stamp is above the newest version's
-abbrev pub IsAboveNewest : Replica → Stamp → Type 0
-IsAboveNewest part t = ForSome (newest_of part.log) (λ top. IsTrue (stamp_below top.stamp t))
+abbrev pub IsAboveNewest : List Version → Stamp → Type 0
+IsAboveNewest log t = ForSome (newest_of log) (λ top. IsTrue (stamp_below top.stamp t))
 
 -- a version shares the block of the newest one, or has a block of this size
 abbrev pub IsStorable : ℕ → Bool → Option Version → Option (List ℕ) → Type 0
@@ -45,7 +45,7 @@ abbrev pub IsChange : ℕ → Bool → Replica → Plan → Type 0
 IsChange size shares part Ignore = Unit {0}
 IsChange size shares part (Tell reply) = Unit {0}
 IsChange size shares part (Promise t reply) = stamp_below part.order t ≡ true
-IsChange size shares part (Store t block) = IsAboveNewest part t × IsStorable size shares (newest_of part.log) block
+IsChange size shares part (Store t block) = IsAboveNewest part.log t × IsStorable size shares (newest_of part.log) block
 IsChange size shares part (Collect t) = IsTrue (is_held t part.log) × (below t part.log ≢ [])
 
 -- what is planned is to store a version that shares the newest one's block

@@ -284,14 +284,13 @@ returns-in-Collect-clause-handles g c =
     let Follows = λ (p : Plan). IsReacted block call st (planned full part p) in
     let sorted = c.requires.runs.ordered.sorted in
     let change = changed_as block part c.in-Collect.is c.requires.change in
-    let above = c.requires.runs.above_start (place_of call) c.requires.first in
     subst (λ (p : Plan). Handles d.tells d.seen d.may_leave d.moment d.left_since d.faults d.sound (Follows p) old new c.answered-in-Collect.result)
     (sym c.in-Collect.is)
     (subst (λ (r : Result (Option Reply) ReplicaFault). Handles d.tells d.seen d.may_leave d.moment d.left_since d.faults d.sound
     (Follows (Collect t)) old new r) (sym c.answered-in-Collect.ensures)
     (handles_change d.tells d.seen d.certain d.may_leave d.moment d.left_since d.faults d.sound g.met.D.Disk.only_now (Follows (Collect t)) call.group.0 call.view.0 call.stripe.0 old new
     (collected version_stamp (place_of call) t st) false (calls_of old 30 4) None c.requires.runs
-    (λ room. reacted_collect block call st sorted t above change.0)
+    (λ room. reacted_collect block call st sorted t change.0)
     (λ adds. absurd cc)
     (collect_moves block call st sorted t change.1) c.collect.result c.collect.ensures.change))
 
@@ -329,7 +328,6 @@ returns-in-Collect-clause-cut g c =
     let full = full_at old.shape.records (live st) in
     let sorted = c.requires.runs.ordered.sorted in
     let change = changed_as block part c.in-Collect.is c.requires.change in
-    let above = c.requires.runs.above_start (place_of call) c.requires.first in
     let calls = λ (p : Plan). part_calls old.shape old.listed (is_shared p) part (planned full part p).replica in
     let Follows = λ (p : Plan). IsReacted block call st (planned full part p) in
     subst (λ (p : Plan). StopsAs d.tells d.seen d.certain d.moment (calls p) (Follows p) old new c.answered-in-Collect.result)
@@ -339,5 +337,5 @@ returns-in-Collect-clause-cut g c =
     (change_cut d.tells d.seen d.certain d.may_leave d.moment d.left_since d.faults d.sound d.plan d.unlisted old new c.requires.runs
     (Follows (Collect t)) (collected version_stamp (place_of call) t st) false (calls_of old 30 4) (calls (Collect t)) None
     c.collect.result c.collect.ensures.change
-    (λ room. reacted_collect block call st sorted t above change.0)
+    (λ room. reacted_collect block call st sorted t change.0)
     (λ room. calls_collected old false part t change.0 change.1)))

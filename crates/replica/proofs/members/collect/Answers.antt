@@ -19,17 +19,17 @@ found_is : (found : Option (Stamp × Bor Bytes)) (t : Stamp) (log : List Kept) (
 found_is found t log some tested is = sym (tested ∙ sym (is_some-option_map kept found) ∙ ap is_some is)
 
 pub returns-then-is_some-clause-change : goal.returns-then-is_some-clause-change
-returns-then-is_some-clause-change c = λ size shares. (
+returns-then-is_some-clause-change c = λ size shares start. (
   sym c.is_held.ensures ∙ c.if-is_held.true,
   below_some c.args.stamp c.args.part.now.log
       (found_is c.below.result c.args.stamp c.args.part.now.log c.is_some.result c.is_some.ensures c.below.ensures ∙ c.if-is_some.true),
 )
 
 pub returns-else-is_held-clause-plan : goal.returns-else-is_held-clause-plan
-returns-else-is_held-clause-plan c = λ full.
+returns-else-is_held-clause-plan c = λ full start begun.
     elim c.else-is_held.branch [
       | else-is_held-via-then-is_held+else-is_some w ↦
-          collected_lowest (part_seen c.args.part.now) c.args.stamp (below_none c.args.stamp c.args.part.now.log
+          collected_lowest (part_seen c.args.part.now start) c.args.stamp begun (below_none c.args.stamp c.args.part.now.log
           (found_is w.below.result c.args.stamp c.args.part.now.log w.is_some.result w.is_some.ensures w.below.ensures ∙ w.if-is_some.false))
-      | else-is_held-via-else-is_held w ↦ collected_other (part_seen c.args.part.now) c.args.stamp (sym c.is_held.ensures ∙ w.if-is_held.false)
+      | else-is_held-via-else-is_held w ↦ collected_other (part_seen c.args.part.now start) c.args.stamp (sym c.is_held.ensures ∙ w.if-is_held.false)
     ]
