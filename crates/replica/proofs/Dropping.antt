@@ -1,5 +1,5 @@
 -- What is dropped of a log below a version that it has, and what is left.
-use Rattle.std.proofs.Common.{◌≡◌, ◌≢◌, ℕ, suc, ◌+◌, ◌-◌, ◌<◌, Bool, true, false, not, ◌&&◌, ◌||◌, cond, None, List, [], ◌∷◌, ◌++◌, length, map, refl, sym, ap, ◌∙◌, arith}
+use Rattle.std.proofs.Common.{◌≡◌, ◌≢◌, ℕ, ◌+◌, ◌-◌, ◌<◌, Bool, true, false, not, ◌&&◌, ◌||◌, cond, None, List, [], ◌∷◌, ◌++◌, length, map, refl, sym, ap, ◌∙◌, arith}
 use Rattle.std.specs.Prelude.{replicate, is_some}
 use Rattle.std.specs.List.{filter}
 use Rattle.std.proofs.lemmas.List.{length-map}
@@ -87,8 +87,7 @@ collected_lowest part t begun none = by (is_held t part.log)
 
     by : (b : Bool) → ignored part ≡ cond b (dropped part t) (ignored part)
     by false = refl
-    by true =
-        sym ((λ i. left (all_left t part.log none i) (none i) (stays part.from_start kept i) (kept i)))
+    by true = sym (λ i. left (all_left t part.log none i) (none i) (stays part.from_start kept i) (kept i))
 
 -- ---- what is below
 

@@ -92,8 +92,8 @@ fn look_up<'a>(part: &'a State<'_>, look: Look) -> Option<(Stamp, &'a Bytes)>
 // A promise, with the reply that says so. One of the very stamp that is kept needs no change.
 fn promise(part: &State<'_>, stamp: Stamp, reply: Reply) -> Plan
     requires { stamp_below stamp part.now.order ≡ false }
-    ensures plan { (full : Option ℕ) (start : Bool) → planned full (part_seen part.now start) result ≡ unless_full full (part_seen part.now start)
-        (promised (part_seen part.now start) stamp reply) }
+    ensures plan { (full : Option ℕ) (start : Bool) → planned full (part_seen part.now start) result
+        ≡ unless_full full (part_seen part.now start) (promised (part_seen part.now start) stamp reply) }
     ensures change { (size : ℕ) (shares start : Bool) → IsChange size shares (part_seen part.now start) result }
 {
     if part.order().is_same(stamp) {
@@ -105,8 +105,8 @@ fn promise(part: &State<'_>, stamp: Stamp, reply: Reply) -> Plan
 
 // Tell the order stamp and the newest version.
 fn read(alloc: Global, part: &State<'_>, wanted: bool) -> Result<Plan, NoMem>
-    ensures plan { IfOk result (λ plan. (full : Option ℕ) (start : Bool) → planned full (part_seen part.now start) plan ≡ stays (part_seen part.now start)
-        (Found part.now.order (told_version wanted (newest_of (log_seen part.now))))) }
+    ensures plan { IfOk result (λ plan. (full : Option ℕ) (start : Bool) → planned full (part_seen part.now start) plan
+        ≡ stays (part_seen part.now start) (Found part.now.order (told_version wanted (newest_of (log_seen part.now))))) }
     ensures change { IfOk result (λ plan. (size : ℕ) (shares start : Bool) → IsChange size shares (part_seen part.now start) plan) }
 {
     let newest = told(alloc, wanted, part.newest())?;
@@ -118,7 +118,8 @@ fn read(alloc: Global, part: &State<'_>, wanted: bool) -> Result<Plan, NoMem>
 
 // Promise to take nothing below the stamp, unless something later was promised or stored.
 fn order(part: &State<'_>, stamp: Stamp) -> Plan
-    ensures plan { (full : Option ℕ) (start : Bool) → planned full (part_seen part.now start) result ≡ ordered full (part_seen part.now start) stamp }
+    ensures plan { (full : Option ℕ) (start : Bool) → planned full (part_seen part.now start) result
+        ≡ ordered full (part_seen part.now start) stamp }
     ensures change { (size : ℕ) (shares start : Bool) → IsChange size shares (part_seen part.now start) result }
 {
     let top = top(part);
@@ -137,8 +138,8 @@ fn order_read(
     wanted: bool,
 ) -> Result<Plan, NoMem>
     requires { IsRising part.now.log }
-    ensures plan { IfOk result (λ plan. (full : Option ℕ) (start : Bool) → planned full (part_seen part.now start) plan ≡ order_read full
-        (part_seen part.now start) stamp look wanted) }
+    ensures plan { IfOk result (λ plan. (full : Option ℕ) (start : Bool) → planned full (part_seen part.now start) plan
+        ≡ order_read full (part_seen part.now start) stamp look wanted) }
     ensures change { IfOk result (λ plan. (size : ℕ) (shares start : Bool) → IsChange size shares (part_seen part.now start) plan) }
 {
     let top = top(part);
@@ -166,8 +167,8 @@ fn settled_reply(part: &State<'_>, stamp: Stamp) -> Option<Reply>
 
 // Store a version, unless something later was promised or stored. One that is held is stored already.
 fn write(alloc: Global, part: &State<'_>, stamp: Stamp, block: &Bytes) -> Result<Plan, NoMem>
-    ensures plan { IfOk result (λ plan. (full : Option ℕ) (start : Bool) → planned full (part_seen part.now start) plan ≡ written full
-        (part_seen part.now start) stamp block.now) }
+    ensures plan { IfOk result (λ plan. (full : Option ℕ) (start : Bool) → planned full (part_seen part.now start) plan
+        ≡ written full (part_seen part.now start) stamp block.now) }
     ensures change { IfOk result (λ plan. (start : Bool) → IsChange (length block.now) false (part_seen part.now start) plan) }
 {
     if let Some(reply) = settled_reply(part, stamp) {
@@ -218,8 +219,8 @@ fn modify(
 ) -> Result<Plan, NoMem>
     requires data_block { data_block < member.m }
     requires delta { length delta.now ≡ (if is_changed member.m data_block member.seat then member.block else 0) }
-    ensures plan { IfOk result (λ plan. (full : Option ℕ) (start : Bool) → planned full (part_seen part.now start) plan ≡ modified (block_code member.block)
-        member.m full member.seat (part_seen part.now start) stamp base data_block delta.now) }
+    ensures plan { IfOk result (λ plan. (full : Option ℕ) (start : Bool) → planned full (part_seen part.now start) plan
+        ≡ modified (block_code member.block) member.m full member.seat (part_seen part.now start) stamp base data_block delta.now) }
     ensures change { IfOk result (λ plan. (start : Bool) → IsChange member.block (nat_eq (length delta.now) 0) (part_seen part.now start) plan) }
 {
     if let Some(reply) = settled_reply(part, stamp) {
@@ -239,7 +240,8 @@ fn modify(
 
 // Drop the versions below one that is held. Where that is not held, or none is below it, nothing is to be done.
 fn collect(part: &State<'_>, stamp: Stamp) -> Plan
-    ensures plan { (full : Option ℕ) (start : Bool) → IsBegun start (log_seen part.now) → planned full (part_seen part.now start) result ≡ collected (part_seen part.now start) stamp }
+    ensures plan { (full : Option ℕ) (start : Bool) → IsBegun start (log_seen part.now) → planned full (part_seen part.now start) result
+        ≡ collected (part_seen part.now start) stamp }
     ensures change { (size : ℕ) (shares start : Bool) → IsChange size shares (part_seen part.now start) result }
 {
     if is_held(part, stamp) && part.below(stamp).is_some() {
@@ -259,8 +261,9 @@ pub(crate) fn decide(
 ) -> Result<Plan, NoMem>
     requires rising { IsRising part.now.log }
     requires fits { IsTrue (fits_block member.block member.m member.seat request.now) }
-    ensures plan { IfOk result (λ plan. (full : Option ℕ) (start : Bool) → IsBegun start (log_seen part.now) → planned full (part_seen part.now start) plan ≡ handle (block_code member.block)
-        member.m full member.seat (part_seen part.now start) request.now) }
+    ensures plan { IfOk result (λ plan. (full : Option ℕ) (start : Bool) → IsBegun start (log_seen part.now)
+        → planned full (part_seen part.now start) plan
+        ≡ handle (block_code member.block) member.m full member.seat (part_seen part.now start) request.now) }
     ensures change { IfOk result (λ plan. (start : Bool) → IsChange member.block (shares_block request.now) (part_seen part.now start) plan) }
 {
     match request {
