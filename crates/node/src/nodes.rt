@@ -342,7 +342,7 @@ impl<D: Disk> Node<D> {
 
     /// The brick's part of a stripe in the view that it has learnt: its order stamp, and its log.
     pub fn log(&self, group: GroupId, stripe: StripeNo) -> State<'_>
-        ensures { part_seen result ≡ (state_of self.now).replicas group.0 (view_at (state_of self.now) group.0) stripe.0 }
+        ensures { let part = (state_of self.now).replicas group.0 (view_at (state_of self.now) group.0) stripe.0 in part_seen result part.from_start ≡ part }
     {
         self.store.state(group, ViewNo(1), stripe)
     }

@@ -6,7 +6,7 @@ ghost use Rattle.node.specs.Decisions.{Collects};
 
 use fab_base::{BrickId, Stamp};
 use layout::Group;
-use messages::{Call, Message, Messages, Request};
+use messages::{Call, Message, Messages};
 
 /// The messages that let all members collect what is below a version, in room that was made for them.
 pub(crate) fn put_collects(
@@ -23,8 +23,7 @@ pub(crate) fn put_collects(
         return room;
     };
     for member in group.members().as_slice() {
-        let message = Message::Request(call, Request::Collect { stamp });
-        room.push_reserved((*member, message));
+        room.push_reserved((*member, collector::after_done(call, stamp)));
     }
     room
 }

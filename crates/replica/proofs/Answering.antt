@@ -100,21 +100,21 @@ module _ {D : Type 0} (tells : Type 0) (seen certain : D → List ℕ) (may_leav
       followed (Ok reply) h = subst (λ (st : StateOf Version). Follows reply st) (sym state) h
       followed (Err fault) h = tt
 
-  -- A change of the store, and the reply that says so.
-  module _ (g e s : ℕ) (old new : Brick D) (after : StateOf Version) (adds : Bool) (calls : ℕ) (reply : Reply) (runs : Runs tells may_leave old)
-      (made : (adds ≡ true → live old.state ≡ old.shape.records → ⊥) → Follows (Some reply) after)
+  -- A change of the store, and the reply that says so, if there is one.
+  module _ (g e s : ℕ) (old new : Brick D) (after : StateOf Version) (adds : Bool) (calls : ℕ) (reply : Option Reply) (runs : Runs tells may_leave old)
+      (made : (adds ≡ true → live old.state ≡ old.shape.records → ⊥) → Follows reply after)
       (none : adds ≡ true → live old.state ≡ old.shape.records → Follows (Some (Full (live old.state))) old.state)
       (moves : part_in old.shape.block after g e s ≡ part_in old.shape.block old.state g e s → ⊥) where
     abbrev Changed : Result (Unit {0}) StoreFault → Type 0
     Changed answer = Changes tells seen certain may_leave moment left_since faults_of sound old new after adds calls answer
 
     -- where there was room, each image opens as the state before or after
-    moments : (answer : Result (Unit {0}) StoreFault) → Changed answer → Follows (Some reply) after → tells → old.halted ≡ false
+    moments : (answer : Result (Unit {0}) StoreFault) → Changed answer → Follows reply after → tells → old.halted ≡ false
         → LeavesOnly moment left_since old.disk new.disk (OpensAsEither old.shape old.state Follows)
     moments answer change follows told running =
         widened moment left_since old.disk new.disk (StandsForEither old.shape old.state after) (OpensAsEither old.shape old.state Follows)
         (λ image either. ⊎_elim (λ (was : StandsFor old.shape old.state image). inl was)
-        (λ (is : StandsFor old.shape after image). inr (after, Some reply, is, follows)) either)
+        (λ (is : StandsFor old.shape after image). inr (after, reply, is, follows)) either)
         (change.any_moment told running)
 
     -- and it was made, or the disk failed
@@ -124,9 +124,9 @@ module _ {D : Type 0} (tells : Type 0) (seen certain : D → List ℕ) (may_leav
 
     pub handles_change : (answer : Result (Unit {0}) StoreFault) → Changed answer → Called old new (answered reply answer)
     handles_change (Ok done) change =
-        let follows : Follows (Some reply) after = made (room (Ok done) change (λ h. absurd cc)) in
+        let follows : Follows reply after = made (room (Ok done) change (λ h. absurd cc)) in
         record {
-          ok = subst (λ (st : StateOf Version). Follows (Some reply) st) (sym change.ok.state) follows;
+          ok = subst (λ (st : StateOf Version). Follows reply st) (sym change.ok.state) follows;
           refused = tt;
           shape = change.ok.shape;
           durable = change.durable;
@@ -139,7 +139,7 @@ module _ {D : Type 0} (tells : Type 0) (seen certain : D → List ℕ) (may_leav
           cause = kept_as (faults_of old.disk) (faults_of new.disk) (sound old.disk) (sound new.disk) _ _ (λ h. absurd cc) change.cause;
         }
     handles_change (Err faults.Disk) change =
-        let follows : Follows (Some reply) after = made (room (Err faults.Disk) change (λ h. absurd cc)) in
+        let follows : Follows reply after = made (room (Err faults.Disk) change (λ h. absurd cc)) in
         record {
           ok = tt;
           refused = change.refused.state;

@@ -23,10 +23,11 @@ abbrev pub top_with : Stamp → Option Kept → Stamp
 top_with order None = order
 top_with order (Some v) = stamp_max order v.stamp
 
-pub top_is : (order : Stamp) (log : List Kept) (found : Option Kept) → found ≡ newest log → top_of (part_of order log) ≡ top_with order found
+pub top_is : (order : Stamp) (log : List Kept) (start : Bool) (found : Option Kept) → found ≡ newest log
+    → top_of (part_of order log start) ≡ top_with order found
 unfolding top_of
-top_is order log None is = rw (newest_seen log, ← is) refl
-top_is order log (Some v) is = rw (newest_seen log, ← is) refl
+top_is order log start None is = rw (newest_seen log, ← is) refl
+top_is order log start (Some v) is = rw (newest_seen log, ← is) refl
 
 -- what is not below the top is not below the order stamp
 pub not_below_order : (part : Replica) (t : Stamp) → stamp_below t (top_of part) ≡ false → stamp_below t part.order ≡ false
@@ -70,7 +71,7 @@ newest_other t (w ∷ x ∷ log) v held at = newest_other t (x ∷ log) v (by (s
     by false h = h
 
 -- a version that is not held, and not below the top, is above the newest
-pub above_newest : (part : Replica) (t : Stamp) → is_held t part.log ≡ false → stamp_below t (top_of part) ≡ false → IsAboveNewest part t
+pub above_newest : (part : Replica) (t : Stamp) → is_held t part.log ≡ false → stamp_below t (top_of part) ≡ false → IsAboveNewest part.log t
 above_newest part t held h v at = by (stamp_below v.stamp t) refl
   where
     by : (b : Bool) → stamp_below v.stamp t ≡ b → stamp_below v.stamp t ≡ true

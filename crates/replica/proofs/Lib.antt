@@ -2,6 +2,7 @@ pub mod Logs
 pub mod Deciding
 pub mod Modifying
 pub mod Places
+pub mod Dropping
 pub mod Reacting
 pub mod Answering
 pub mod Runs

@@ -17,7 +17,7 @@ pub option_map-option_map : {X Y Z : Type 0} (f : Y → Z) (g : X → Y) (found 
 option_map-option_map f g None = refl
 option_map-option_map f g (Some x) = refl
 
-newest_cons : (v w : Kept) (log : List Kept) → newest (v ∷ w ∷ log) ≡ newest (w ∷ log)
+pub newest_cons : (v w : Kept) (log : List Kept) → newest (v ∷ w ∷ log) ≡ newest (w ∷ log)
 newest_cons v w log = let at : length (v ∷ w ∷ log) - 1 ≡ suc (length (w ∷ log) - 1) = omega arith in rw at refl
 
 -- the newest version

@@ -1,25 +1,28 @@
 -- The machine's reactions, over what a store keeps.
-use Rattle.std.proofs.Common.{◌≡◌, ℕ, ◌+◌, ◌-◌, Bool, true, false, not, ◌&&◌, cond, eqb, ltb, Option, Some, None, List, [], ◌∷◌, ◌++◌, length, map, refl, sym, ap, subst, ◌∙◌, arith, eq-eqb, append_assoc}
+use Rattle.std.proofs.Common.{◌≡◌, ◌≢◌, ℕ, ◌+◌, ◌-◌, Bool, true, false, not, ◌&&◌, cond, eqb, ltb, Option, Some, None, List, [], ◌∷◌, ◌++◌, length, map, refl, sym, ap, subst, ◌∙◌, arith, eq-eqb, append_assoc}
 use Rattle.std.specs.List.Sorted.{IsStrictlySortedBy}
 use Rattle.std.specs.Map.{keys_of}
 use Rattle.std.specs.Prelude.{replicate}
 use Rattle.std.proofs.lemmas.Bool.{eqb-true}
 use Rattle.std.proofs.lemmas.List.{length-append, map-append}
+use Rattle.std.proofs.lemmas.List.Filters.{length-filter_both}
 use Rattle.fab_base.specs.declared.stamps.Stamp.{Stamp}
 use Rattle.fab_base.specs.Stamps.{stamp_below, stamp_same, first_stamp}
 use Rattle.fab_base.proofs.StampOrder.{stamp_below_first, stamp_below_irrefl, stamp_same_true}
 use Rattle.messages.specs.declared.requests.Version.{Version}
 use Rattle.messages.specs.declared.replies.Reply.{Reply}
 use Rattle.messages.specs.declared.replies.Reply.TheVariants.{Full, Stored}
-use Rattle.version_log.specs.Versions.{Version as Kept, version}
-use Rattle.brick_state.specs.States.{Place, StripeOf, StateOf, place_cmp, stripe_at, with_stripe, with_order, with_added, ordered, added, live}
-use Rattle.brick_store.specs.Blocks.{log_of, adds_stamp}
-use Rattle.protocol.specs.Replicas.{Replica, Reaction, stays, promised, stored, unless_full}
+use Rattle.version_log.specs.Versions.{Version as Kept, version, is_below}
+use Rattle.brick_state.specs.States.{Place, StripeOf, StateOf, place_cmp, stripe_at, with_stripe, with_order, with_added, with_collected, ordered, added, live}
+use Rattle.brick_state.specs.States as states
+use Rattle.brick_store.specs.Blocks.{log_of, adds_stamp, version_stamp}
+use Rattle.protocol.specs.Replicas.{Replica, Reaction, stays, promised, stored, collected, unless_full, is_held, below, not_below}
 use Rattle.protocol.specs.Nodes.{full_at, put, with_part}
 use Rattle.messages.specs.declared.calls.Call.{Call}
 use Rattle.replica.specs.Parts.{as_version, part_of, part_in}
 use Rattle.replica.specs.Reactions.{place_of, part_at, IsReacted}
 use Rattle.replica.proofs.Places.{put_here, put_other, live_put}
+use Rattle.replica.proofs.Dropping.{dropped, collected_held, shorter, log_left, drops_added}
 
 differ : {A : Type 0} → false ≡ true → A
 differ h = absurd cc
@@ -28,7 +31,7 @@ differ h = absurd cc
 
 -- the part that a stripe is
 abbrev part_from : ℕ → StripeOf Kept → Replica
-part_from block s = part_of s.order (log_of block s)
+part_from block s = part_of s.order (log_of block s) s.from_start
 
 -- one part is changed, and no other
 parts_put : (block : ℕ) (call : Call) (new : StripeOf Kept) (st : StateOf Kept) → IsStrictlySortedBy place_cmp (keys_of st.stripes) → (h v t : ℕ)
@@ -159,14 +162,15 @@ module _ (block : ℕ) (call : Call) (st : StateOf Kept) (sorted : IsStrictlySor
     order = stripe.order;
     log = map as_version (log_of block stripe) ++
         (as_version v ∷ []);
+    from_start = stripe.from_start;
   }
   log_added v =
       let start = cond stripe.from_start (version first_stamp (replicate block 0) ∷ []) [] in
-      ap (part_of stripe.order) (sym (append_assoc start stripe.added (v ∷ []))) ∙ ap (λ (vs : List Version). part_with vs)
+      ap (λ (vs : List Kept). part_of stripe.order vs stripe.from_start) (sym (append_assoc start stripe.added (v ∷ []))) ∙ ap (λ (vs : List Version). part_with vs)
       (map-append as_version (start ++ stripe.added) (v ∷ []))
     where
       part_with : List Version → Replica
-      part_with vs = record { order = stripe.order; log = vs }
+      part_with vs = record { order = stripe.order; log = vs; from_start = stripe.from_start }
 
   reacted_store : (t : Stamp) (bytes : List ℕ) → IsReacted block call st (stored (part_at block st call) t bytes) (Some Stored)
       (added (place_of call) (version t bytes) st)
@@ -190,6 +194,43 @@ module _ (block : ℕ) (call : Call) (st : StateOf Kept) (sorted : IsStrictlySor
       let longer : length (map as_version (log_of block stripe) ++ (as_version v ∷ [])) ≡ length (map as_version (log_of block stripe)) = ap
       (λ (r : Replica). length r.log) (sym now ∙ same) in
       omega (arith, longer, length-append (map as_version (log_of block stripe)) (as_version v ∷ []))
+
+  -- ---- what is dropped
+
+  -- the part that is left
+  part_left : (t : Stamp) → part_from block (with_collected version_stamp t stripe) ≡ (dropped (part_at block st call) t).replica
+  part_left t =
+      ap (λ (vs : List Version). record { order = stripe.order; log = vs; from_start = stripe.from_start && not (stamp_below first_stamp t) })
+      (log_left block t stripe)
+
+  -- it is the machine's, and the live records fall by the versions that were added
+  pub reacted_collect : (t : Stamp) → is_held t (part_at block st call).log ≡ true
+      → IsReacted block call st (collected (part_at block st call) t) None (states.collected version_stamp (place_of call) t st)
+  reacted_collect t held =
+      subst (λ (r : Reaction). IsReacted block call st r None (states.collected version_stamp (place_of call) t st))
+      (sym (collected_held (part_at block st call) t held)) (record {
+        told = refl;
+        boot = refl;
+        groups = refl;
+        live = omega (
+          arith,
+          live_put (place_of call) (with_collected version_stamp t stripe) st.stripes sorted,
+          drops_added block t stripe,
+          length-filter_both (is_below t) (λ v. not (stamp_below v.stamp t)) (λ v. refl) stripe.added,
+        );
+        parts = λ h e i.
+            subst (λ (r : Replica). part_in block (states.collected version_stamp (place_of call) t st) h e i ≡ with_part (part_in block st) call r h e i)
+            (part_left t) (parts_put block call (with_collected version_stamp t stripe) st sorted h e i);
+        others = λ p other. put_other (place_of call) p (with_collected version_stamp t stripe) st.stripes other;
+      })
+
+  -- where something is below the stamp, the part changes
+  pub collect_moves : (t : Stamp) → below t (part_at block st call).log ≢ []
+      → part_in block (states.collected version_stamp (place_of call) t st) call.group.0 call.view.0 call.stripe.0 ≡ part_at block st call → ⊥
+  collect_moves t some same =
+      let now = ap (part_from block) (put_here (place_of call) (with_collected version_stamp t stripe) st.stripes sorted) ∙ part_left t in
+      let long : length (not_below t (part_at block st call).log) ≡ length (part_at block st call).log = ap (λ (r : Replica). length r.log) (sym now ∙ same) in
+      omega (arith, long, shorter t (part_at block st call).log some)
 
   -- ---- where there is room, and where there is none
 

@@ -1,5 +1,5 @@
 -- How many calls of the disk a message makes, from the change of the store that it makes.
-use Rattle.std.proofs.Common.{◌≡◌, ℕ, ◌+◌, Bool, true, false, cond, Option, Some, None, List, [], ◌∷◌, ◌++◌, length, Result, Ok, Err, refl, sym, ap, subst, ◌∙◌, arith, eq-eqb}
+use Rattle.std.proofs.Common.{◌≡◌, ◌≢◌, ℕ, ◌+◌, Bool, true, false, ◌&&◌, cond, eqb, Option, Some, None, List, [], ◌∷◌, ◌++◌, length, Result, Ok, Err, refl, sym, ap, subst, ◌∙◌, arith, eq-eqb}
 use Rattle.std.specs.Prelude.{IsOk, is_none, nat_lt}
 use Rattle.std.specs.Option.{option_map}
 use Rattle.fab_disk.specs.Disk.{StopsEarly}
@@ -25,12 +25,13 @@ use Rattle.brick_store.specs.Bricks.{Brick}
 use Rattle.brick_store.specs.Calls.{calls_of, version_calls}
 use Rattle.brick_store.specs.Sizes.{version_size}
 use Rattle.brick_store.specs.Changes.{Changes}
-use Rattle.protocol.specs.Replicas.{Replica, Reaction}
+use Rattle.protocol.specs.Replicas.{Replica, Reaction, below, not_below}
 use Rattle.protocol.specs.Nodes.{Node, put, with_replica, replica_at}
 use Rattle.replica.specs.declared.faults.ReplicaFault.{ReplicaFault}
 use Rattle.replica.specs.declared.faults.ReplicaFault.TheVariants.{Disk, Halted, NoMemory}
 use Rattle.replica.specs.Handling.{Runs, OpensAsNext, answered, seen_as}
 use Rattle.replica.specs.Calls.{stored_calls, part_calls, RunsAs, StopsAs}
+use Rattle.replica.proofs.Dropping.{dropped, shorter}
 
 differ : {A : Type 0} → false ≡ true → A
 differ h = absurd cc
@@ -71,12 +72,17 @@ module _ {D : Type 0} (tells : Type 0) (moment : D → ℕ) (plan : D → Plan) 
 -- ---- how many calls a change takes
 
 module _ {D : Type 0} (store : Brick D) (shares : Bool) (part : Replica) where
+  -- one record, unless the order stamp is the same and the log as long
+  abbrev unless_same : Bool → Replica → ℕ
+  unless_same long after = cond (long && stamp_same part.order after.order) 0 (calls_of store 30 4)
+
   -- a part whose log is as long as before
   pub same_long : (after : Replica) → length after.log ≡ length part.log → part_calls store.shape store.listed shares part after ≡ cond
       (stamp_same part.order after.order) 0 (calls_of store 30 4)
   same_long after long =
       let longer : nat_lt (length part.log) (length after.log) ≡ false = grind (arith, nat_tests, long) in
-      ap (λ (b : Bool). cond b (stored_calls store.shape store.listed shares) (cond (stamp_same part.order after.order) 0 (calls_of store 30 4))) longer
+      ap (λ (b : Bool). cond b (stored_calls store.shape store.listed shares) (unless_same (eqb (length after.log) (length part.log)) after)) longer
+      ∙ ap (λ (b : Bool). unless_same b after) (eq-eqb (length after.log) (length part.log) long)
 
   pub calls_kept : part_calls store.shape store.listed shares part part ≡ 0
   calls_kept = same_long part refl ∙ ap (λ (b : Bool). cond b 0 (calls_of store 30 4)) (stamp_same_refl part.order)
@@ -89,16 +95,28 @@ module _ {D : Type 0} (store : Brick D) (shares : Bool) (part : Replica) where
       by true is = differ (sym (stamp_below_irrefl part.order) ∙ ap (stamp_below part.order) (stamp_same_true part.order t is) ∙ later)
 
   pub calls_ordered : (t : Stamp) → stamp_below part.order t ≡ true
-      → part_calls store.shape store.listed shares part (record { order = t; log = part.log }) ≡ calls_of store 30 4
+      → part_calls store.shape store.listed shares part (record part { order = t }) ≡ calls_of store 30 4
   calls_ordered t later =
-      same_long (record { order = t; log = part.log }) refl ∙ ap (λ (b : Bool). cond b 0 (calls_of store 30 4)) (other_stamp t later)
+      same_long (record part { order = t }) refl ∙ ap (λ (b : Bool). cond b 0 (calls_of store 30 4)) (other_stamp t later)
 
-  pub calls_stored : (v : Version) → part_calls store.shape store.listed shares part (record { order = part.order; log = part.log ++ (v ∷ []) }) ≡
+  pub calls_stored : (v : Version) → part_calls store.shape store.listed shares part (record part { log = part.log ++ (v ∷ []) }) ≡
       stored_calls store.shape store.listed shares
   calls_stored v =
       let sum : length (part.log ++ (v ∷ [])) ≡ length part.log + 1 = length-append part.log (v ∷ []) in
       let longer : nat_lt (length part.log) (length (part.log ++ (v ∷ []))) ≡ true = grind (arith, nat_tests, sum) in
-      ap (λ (b : Bool). cond b (stored_calls store.shape store.listed shares) (cond (stamp_same part.order part.order) 0 (calls_of store 30 4))) longer
+      let after : Replica = record part { log = part.log ++ (v ∷ []) } in
+      ap (λ (b : Bool). cond b (stored_calls store.shape store.listed shares) (unless_same (eqb (length after.log) (length part.log)) after)) longer
+
+  -- a part whose log got shorter
+  pub calls_dropped : (t : Stamp) → below t part.log ≢ []
+      → part_calls store.shape store.listed shares part (dropped part t).replica ≡ calls_of store 30 4
+  calls_dropped t some =
+      let less = shorter t part.log some in
+      let longer : nat_lt (length part.log) (length (not_below t part.log)) ≡ false = grind (arith, nat_tests, less) in
+      let other : eqb (length (not_below t part.log)) (length part.log) ≡ false = grind (arith, nat_tests, less) in
+      let after = (dropped part t).replica in
+      ap (λ (b : Bool). cond b (stored_calls store.shape store.listed shares) (unless_same (eqb (length after.log) (length part.log)) after)) longer
+      ∙ ap (λ (b : Bool). unless_same b after) other
 
 -- what a version takes is told by its block
 pub version_stored : {D : Type 0} (store : Brick D) (block : Option (List ℕ))
@@ -125,13 +143,13 @@ module _ {D : Type 0} (tells : Type 0) (seen certain : D → List ℕ) (may_leav
   Answered result calls = RunsAs tells moment plan unlisted calls old new result
 
   -- the change was made, or not for want of room
-  pub change_runs : (after : StateOf Kept) (adds : Bool) (calls given : ℕ) (reply : Reply) (answer : Result (Unit {0}) StoreFault)
+  pub change_runs : (after : StateOf Kept) (adds : Bool) (calls given : ℕ) (reply : Option Reply) (answer : Result (Unit {0}) StoreFault)
       → Changes tells seen certain may_leave moment left_since faults_of sound old new after adds calls answer
       → IsRun tells moment plan unlisted calls old.disk new.disk (IsOk answer) (answer ≡ Err faults.Disk)
       → ((adds ≡ true → live old.state ≡ old.shape.records → ⊥) → given ≡ calls) → (adds ≡ true → live old.state ≡ old.shape.records → given ≡ 0)
       → Answered (answered reply answer) given
   change_runs after adds calls given reply (Ok done) change run room none =
-      subst (Answered (Ok (Some reply)))
+      subst (Answered (Ok reply))
       (sym (room (λ add full. let wrong = change.answer.full runs.runs add full in absurd cc)))
       (run_as tells moment plan unlisted calls old.disk new.disk _ _ _ _ (λ is. is) (λ is. absurd cc) (λ a b. absurd (a refl)) run)
   change_runs after adds calls given reply (Err faults.Disk) change run room none =
@@ -151,10 +169,10 @@ module _ {D : Type 0} (tells : Type 0) (seen certain : D → List ℕ) (may_leav
       (λ h. absurd cc) (λ h. absurd cc)
 
   -- and where the disk failed it was cut short
-  pub change_cut : (Follows : Option Reply → StateOf Kept → Type 0) (after : StateOf Kept) (adds : Bool) (calls given : ℕ) (reply : Reply)
+  pub change_cut : (Follows : Option Reply → StateOf Kept → Type 0) (after : StateOf Kept) (adds : Bool) (calls given : ℕ) (reply : Option Reply)
       (answer : Result (Unit {0}) StoreFault)
       → Changes tells seen certain may_leave moment left_since faults_of sound old new after adds calls answer
-      → ((adds ≡ true → live old.state ≡ old.shape.records → ⊥) → Follows (Some reply) after)
+      → ((adds ≡ true → live old.state ≡ old.shape.records → ⊥) → Follows reply after)
       → ((adds ≡ true → live old.state ≡ old.shape.records → ⊥) → given ≡ calls)
       → StopsAs tells seen certain moment given Follows old new (answered reply answer)
   change_cut Follows after adds calls given reply (Ok done) change made room told is = absurd cc
@@ -163,7 +181,7 @@ module _ {D : Type 0} (tells : Type 0) (seen certain : D → List ℕ) (may_leav
       subst (λ (n : ℕ). StopsEarly seen certain moment n old.disk new.disk (StandsFor old.shape old.state) (OpensAsNext old.shape Follows))
       (sym (room free))
       (stops_as seen certain moment calls old.disk new.disk (StandsFor old.shape old.state) (StandsFor old.shape after) _ _ (λ image at. at)
-      (λ image at. (after, Some reply, at, made free)) (change.cut told refl))
+      (λ image at. (after, reply, at, made free)) (change.cut told refl))
     where
       not_full : Changes tells seen certain may_leave moment left_since faults_of sound old new after adds calls (Err faults.Disk) → adds ≡ true
           → live old.state ≡ old.shape.records → ⊥

@@ -1,6 +1,6 @@
 -- What is planned shares the newest version's block where its request says so.
-use Rattle.std.proofs.Common.{◌≡◌, ℕ, Bool, true, false, cond, ltb, Option, Some, None, List, [], length, map, refl, sym, ap, subst, ◌∙◌}
-use Rattle.std.specs.Prelude.{is_none, is_some, IsSome}
+use Rattle.std.proofs.Common.{◌≡◌, ◌≢◌, ℕ, Bool, true, false, cond, ltb, Option, Some, None, List, [], length, map, refl, sym, ap, subst, ◌∙◌}
+use Rattle.std.specs.Prelude.{is_none, is_some, IsSome, IsTrue}
 use Rattle.std.specs.Option.{ForSome, option_map, unwrap_or}
 use Rattle.version_log.specs.Versions.{Version as Kept, newest, block_of}
 use Rattle.brick_store.specs.Blocks.{block_added}
@@ -11,12 +11,14 @@ use Rattle.brick_store.specs.Bricks.{Brick}
 use Rattle.fab_base.specs.declared.stamps.Stamp.{Stamp}
 use Rattle.messages.specs.declared.replies.Reply.{Reply}
 use Rattle.messages.specs.declared.replies.Reply.TheVariants.{Full}
-use Rattle.protocol.specs.Replicas.{Replica, Reaction, newest_of, promised, stays, unless_full}
+use Rattle.brick_store.specs.Calls.{calls_of}
+use Rattle.protocol.specs.Replicas.{Replica, Reaction, is_held, below, collected, newest_of, promised, stays, unless_full}
 use Rattle.replica.specs.declared.plans.Plan.{Plan}
-use Rattle.replica.specs.declared.plans.Plan.TheVariants.{Ignore, Tell, Promise, Store}
+use Rattle.replica.specs.declared.plans.Plan.TheVariants.{Ignore, Tell, Promise, Store, Collect}
 use Rattle.replica.specs.Plans.{block_stored, planned, is_shared, IsStorable, IsChange}
 use Rattle.replica.specs.Calls.{part_calls}
-use Rattle.replica.proofs.Runs.{calls_kept, same_long}
+use Rattle.replica.proofs.Dropping.{collected_held}
+use Rattle.replica.proofs.Runs.{calls_kept, calls_dropped, same_long}
 
 -- a version without a block of its own is one that shares
 shares_is : (size : ℕ) (shares : Bool) (newest : Option Version) (block : Option (List ℕ)) → IsStorable size shares newest block → is_none block ≡ shares
@@ -58,6 +60,16 @@ stored_added log None = ap (λ (found : Option Version). unwrap_or (option_map (
     same None = refl
     same (Some v) = refl
 
+-- ---- what is dropped
+
+-- a shorter log takes one record, whatever a version that is stored would share
+module _ {D : Type 0} (store : Brick D) where
+  pub calls_collected : (shares : Bool) (part : Replica) (t : Stamp) → IsTrue (is_held t part.log) → below t part.log ≢ []
+      → part_calls store.shape store.listed shares part (collected part t).replica ≡ calls_of store 30 4
+  calls_collected shares part t held some =
+      ap (λ (r : Reaction). part_calls store.shape store.listed shares part r.replica) (collected_held part t held)
+      ∙ calls_dropped store shares part t some
+
 -- ---- what a request says
 
 module _ (size : ℕ) (shares : Bool) (part : Replica) where
@@ -70,6 +82,7 @@ module _ (size : ℕ) (shares : Bool) (part : Replica) where
     change.0,
     subst (λ (b : Bool). IsStorable size b (newest_of part.log) block) (sym (shares_is size shares (newest_of part.log) block change.1)) change.1,
   )
+  change_planned (Collect t) change = change
 
   module _ {D : Type 0} (store : Brick D) (full : Option ℕ) where
     abbrev calls : Bool → Reaction → ℕ
@@ -95,3 +108,4 @@ module _ (size : ℕ) (shares : Bool) (part : Replica) where
         let after = (planned full part (Promise t reply)).replica in
         same_long store false part after (promise_long t reply) ∙ sym (same_long store shares part after (promise_long t reply))
     calls_planned (Store t block) change = ap (λ (b : Bool). calls b (planned full part (Store t block))) (shares_is size shares (newest_of part.log) block change.1)
+    calls_planned (Collect t) change = calls_collected store false part t change.0 change.1 ∙ sym (calls_collected store shares part t change.0 change.1)

@@ -1,5 +1,5 @@
 -- How many calls of the disk's `write_at` and `sync` a message makes of a member's store.
-use Rattle.std.specs.Prelude.{ℕ, Bool, false, nat_eq, nat_lt, if◌then◌else◌, Option, List, length, Result, Err, IsOk, ◌≡◌}
+use Rattle.std.specs.Prelude.{ℕ, Bool, false, nat_eq, nat_lt, ◌&&◌, if◌then◌else◌, Option, List, length, Result, Err, IsOk, ◌≡◌}
 use Rattle.fab_base.specs.declared.identities.BrickId.{BrickId}
 use Rattle.fab_base.specs.Stamps.{stamp_same}
 use Rattle.fab_base.specs.Layouts.{Layout}
@@ -33,11 +33,11 @@ shares_block request = false
 abbrev pub stored_calls : Shape → ℕ → Bool → ℕ
 stored_calls shape listed shares = if shares then calls_with shape listed 30 4 else calls_with shape listed 35 5
 
--- So many calls keep what changed of a part: none, a version, or a record of an order stamp, whose body has 30 bytes.
+-- So many calls keep what changed of a part: none, a version, or a record of an order stamp or of what was dropped, whose body has 30 bytes.
 abbrev pub part_calls : Shape → ℕ → Bool → Replica → Replica → ℕ
 part_calls shape listed shares before after =
     if nat_lt (length before.log) (length after.log) then stored_calls shape listed shares
-    else if stamp_same before.order after.order then 0
+    else if nat_eq (length after.log) (length before.log) && stamp_same before.order after.order then 0
     else calls_with shape listed 30 4
 
 -- so many calls keep what a message makes a brick of the machine change

@@ -64,9 +64,9 @@ pub record Handles {D A : Type 0} (tells : Type 0) (seen : D → List ℕ) (may_
   pub no_call : OnErr result (result ≢ Err Disk → IsUntouched seen may_leave moment left_since old.disk new.disk)
   pub cause : Kept (faults old.disk) (faults new.disk) (sound old.disk) (sound new.disk) (result ≡ Err Disk)
 
--- what a change's answer makes of the reply to be given; no change of a running store answers the others
-abbrev pub answered : Reply → Result (Unit {0}) StoreFault → Result (Option Reply) ReplicaFault
-answered reply (Ok done) = Ok (Some reply)
+-- what a change's answer makes of the reply to be given, if there is one; no change of a running store answers the others
+abbrev pub answered : Option Reply → Result (Unit {0}) StoreFault → Result (Option Reply) ReplicaFault
+answered reply (Ok done) = Ok reply
 answered reply (Err faults.Disk) = Err Disk
 answered reply (Err (faults.Full live)) = Ok (Some (Full live))
 answered reply (Err faults.Halted) = Err Halted

@@ -1,6 +1,6 @@
 //! Messages to a brick's part of a stripe.
 
-ghost use Rattle.std.specs.Prelude.{◌≡◌, ◌≢◌, ◌<◌, ◌≤◌, true, Err, IsSome, IfSome, IsTrue, length, option_map};
+ghost use Rattle.std.specs.Prelude.{◌≡◌, ◌≢◌, ◌<◌, ◌≤◌, true, Option, Err, IsSome, IfSome, IsTrue, length, option_map};
 ghost use Rattle.brick_store.specs.declared.faults.StoreFault.TheVariants as faults;
 ghost use Rattle.brick_state.specs.States.{live};
 ghost use Rattle.frame_store.specs.Layouts.{shape_of};
@@ -32,7 +32,7 @@ const FIRST_VIEW: ViewNo = ViewNo(1);
 fn refused(fault: StoreFault) -> Result<Option<Reply>, ReplicaFault>
     requires a_store { fault ≢ faults.NotAStore }
     requires not_worn { fault ≢ faults.Worn }
-    ensures { (reply : told.Reply) → result ≡ answered reply (Err fault) }
+    ensures { (reply : Option told.Reply) → result ≡ answered reply (Err fault) }
 {
     match fault {
         StoreFault::Full { live } => Ok(Some(Reply::Full { live })),
@@ -43,14 +43,17 @@ fn refused(fault: StoreFault) -> Result<Option<Reply>, ReplicaFault>
     }
 }
 
-// The reply, once the store answered the change that it promises.
-fn answered(reply: Reply, answer: Result<(), StoreFault>) -> Result<Option<Reply>, ReplicaFault>
+// The reply, if there is one, once the store answered the change that it promises.
+fn answered(
+    reply: Option<Reply>,
+    answer: Result<(), StoreFault>,
+) -> Result<Option<Reply>, ReplicaFault>
     requires a_store { answer ≢ Err faults.NotAStore }
     requires not_worn { answer ≢ Err faults.Worn }
     ensures { result ≡ answered reply answer }
 {
     match answer {
-        Ok(()) => Ok(Some(reply)),
+        Ok(()) => Ok(reply),
         Err(fault) => refused(fault),
     }
 }
@@ -86,12 +89,13 @@ fn carry_out<D: Disk>(
         Plan::Ignore => Ok(None),
         Plan::Tell(reply) => Ok(Some(reply)),
         Plan::Promise(stamp, reply) => {
-            answered(reply, store.set_order(group, view, stripe, stamp))
+            answered(Some(reply), store.set_order(group, view, stripe, stamp))
         }
         Plan::Store(stamp, block) => {
             let answer = store.add_version(group, view, stripe, stamp, block);
-            answered(Reply::Stored, answer)
+            answered(Some(Reply::Stored), answer)
         }
+        Plan::Collect(stamp) => answered(None, store.collect(group, view, stripe, stamp)),
     }
 }
 
@@ -156,9 +160,12 @@ fn answer(
 /// Does what a brick of the machine does with a message as a member of a group: its answer to the sender, if there is one. A message that
 /// is no request, or is a request of a stripe that the brick does not serve, has none.
 ///
+/// A Collect drops the versions below the one that it names, where the member has that one, and has no reply. A block that a dropped version
+/// shares with one that stays is kept. Where the member lacks the version, or has none below it, nothing is dropped.
+///
 /// The answer is made only once what it promises is kept. A message that changes nothing makes no call of the disk; one that changes the
 /// order stamp makes four of `write_at` and `sync`, one that stores a version with its block five, one that stores a version with the block of
-/// the newest one four, and each seven more where the list of frames is rewritten first, for want of room.
+/// the newest one four, one that drops versions four, and each seven more where the list of frames is rewritten first, for want of room.
 ///
 /// # Errors
 /// [`ReplicaFault::Halted`]: an earlier call of the store answered Disk. [`ReplicaFault::Disk`]: the disk failed, and the store is

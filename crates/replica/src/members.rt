@@ -5,10 +5,10 @@ ghost use Rattle.fab_base.specs.Stamps.{stamp_below};
 ghost use Rattle.messages.specs.declared.replies.Reply.TheVariants.{Found, Later};
 ghost use Rattle.version_log.specs.Versions.{version, IsRising};
 ghost use Rattle.messages.specs.declared.requests.Version.{Version};
-ghost use Rattle.protocol.specs.Replicas.{is_held, is_wanted, is_changed, told_version, top_of, newest_of, looked_up, handle, ordered, order_read, written, modified, modified_block, stays, promised, unless_full};
+ghost use Rattle.protocol.specs.Replicas.{is_held, is_wanted, is_changed, told_version, top_of, newest_of, looked_up, handle, ordered, order_read, written, modified, modified_block, stays, promised, collected, unless_full};
 ghost use Rattle.protocol.specs.Nodes.{fits_block};
 ghost use Rattle.stripe_code.specs.Codes.{block_code};
-ghost use Rattle.replica.specs.Parts.{as_version, part_seen};
+ghost use Rattle.replica.specs.Parts.{as_version, log_seen, part_seen, IsBegun};
 ghost use Rattle.replica.specs.Plans.{settled_reply, planned, IsAboveNewest, IsStorable, IsChange};
 ghost use Rattle.replica.specs.Calls.{shares_block};
 
@@ -53,7 +53,7 @@ fn told(
 // The greater of the order stamp and the newest version's.
 #[tactic(auto, unfolding(protocol::specs::Replicas::top_of))]
 fn top(part: &State<'_>) -> Stamp
-    ensures { result ≡ top_of (part_seen part.now) }
+    ensures { (start : Bool) → result ≡ top_of (part_seen part.now start) }
 {
     let order = part.order();
     match part.newest() {
@@ -70,7 +70,7 @@ fn top(part: &State<'_>) -> Stamp
 
 // Whether the member has a version of this stamp.
 fn is_held(part: &State<'_>, stamp: Stamp) -> bool
-    ensures { result ≡ is_held stamp (part_seen part.now).log }
+    ensures { result ≡ is_held stamp (log_seen part.now) }
 {
     part.at(stamp).is_some()
 }
@@ -78,7 +78,7 @@ fn is_held(part: &State<'_>, stamp: Stamp) -> bool
 // The version that is looked for.
 fn look_up<'a>(part: &'a State<'_>, look: Look) -> Option<(Stamp, &'a Bytes)>
     requires { IsRising part.now.log }
-    ensures { option_map (λ v. as_version (version v.0 v.1.now)) result ≡ looked_up look (part_seen part.now).log }
+    ensures { option_map (λ v. as_version (version v.0 v.1.now)) result ≡ looked_up look (log_seen part.now) }
 {
     match look {
         Look::Below(bound) => part.below(bound),
@@ -92,9 +92,9 @@ fn look_up<'a>(part: &'a State<'_>, look: Look) -> Option<(Stamp, &'a Bytes)>
 // A promise, with the reply that says so. One of the very stamp that is kept needs no change.
 fn promise(part: &State<'_>, stamp: Stamp, reply: Reply) -> Plan
     requires { stamp_below stamp part.now.order ≡ false }
-    ensures plan { (full : Option ℕ) → planned full (part_seen part.now) result ≡ unless_full full (part_seen part.now)
-        (promised (part_seen part.now) stamp reply) }
-    ensures change { (size : ℕ) (shares : Bool) → IsChange size shares (part_seen part.now) result }
+    ensures plan { (full : Option ℕ) (start : Bool) → planned full (part_seen part.now start) result
+        ≡ unless_full full (part_seen part.now start) (promised (part_seen part.now start) stamp reply) }
+    ensures change { (size : ℕ) (shares start : Bool) → IsChange size shares (part_seen part.now start) result }
 {
     if part.order().is_same(stamp) {
         Plan::Tell(reply)
@@ -105,9 +105,9 @@ fn promise(part: &State<'_>, stamp: Stamp, reply: Reply) -> Plan
 
 // Tell the order stamp and the newest version.
 fn read(alloc: Global, part: &State<'_>, wanted: bool) -> Result<Plan, NoMem>
-    ensures plan { IfOk result (λ plan. (full : Option ℕ) → planned full (part_seen part.now) plan ≡ stays (part_seen part.now)
-        (Found part.now.order (told_version wanted (newest_of (part_seen part.now).log)))) }
-    ensures change { IfOk result (λ plan. (size : ℕ) (shares : Bool) → IsChange size shares (part_seen part.now) plan) }
+    ensures plan { IfOk result (λ plan. (full : Option ℕ) (start : Bool) → planned full (part_seen part.now start) plan
+        ≡ stays (part_seen part.now start) (Found part.now.order (told_version wanted (newest_of (log_seen part.now))))) }
+    ensures change { IfOk result (λ plan. (size : ℕ) (shares start : Bool) → IsChange size shares (part_seen part.now start) plan) }
 {
     let newest = told(alloc, wanted, part.newest())?;
     Ok(Plan::Tell(Reply::Found {
@@ -118,8 +118,9 @@ fn read(alloc: Global, part: &State<'_>, wanted: bool) -> Result<Plan, NoMem>
 
 // Promise to take nothing below the stamp, unless something later was promised or stored.
 fn order(part: &State<'_>, stamp: Stamp) -> Plan
-    ensures plan { (full : Option ℕ) → planned full (part_seen part.now) result ≡ ordered full (part_seen part.now) stamp }
-    ensures change { (size : ℕ) (shares : Bool) → IsChange size shares (part_seen part.now) result }
+    ensures plan { (full : Option ℕ) (start : Bool) → planned full (part_seen part.now start) result
+        ≡ ordered full (part_seen part.now start) stamp }
+    ensures change { (size : ℕ) (shares start : Bool) → IsChange size shares (part_seen part.now start) result }
 {
     let top = top(part);
     if stamp.is_below(top) {
@@ -137,9 +138,9 @@ fn order_read(
     wanted: bool,
 ) -> Result<Plan, NoMem>
     requires { IsRising part.now.log }
-    ensures plan { IfOk result (λ plan. (full : Option ℕ) → planned full (part_seen part.now) plan ≡ order_read full
-        (part_seen part.now) stamp look wanted) }
-    ensures change { IfOk result (λ plan. (size : ℕ) (shares : Bool) → IsChange size shares (part_seen part.now) plan) }
+    ensures plan { IfOk result (λ plan. (full : Option ℕ) (start : Bool) → planned full (part_seen part.now start) plan
+        ≡ order_read full (part_seen part.now start) stamp look wanted) }
+    ensures change { IfOk result (λ plan. (size : ℕ) (shares start : Bool) → IsChange size shares (part_seen part.now start) plan) }
 {
     let top = top(part);
     if stamp.is_below(top) {
@@ -151,8 +152,8 @@ fn order_read(
 
 // The reply to a request to store a version that is held already, or that is below what was promised or stored.
 fn settled_reply(part: &State<'_>, stamp: Stamp) -> Option<Reply>
-    ensures value { result ≡ settled_reply (part_seen part.now) stamp }
-    ensures above { IfNone result (IsAboveNewest (part_seen part.now) stamp) }
+    ensures value { (start : Bool) → result ≡ settled_reply (part_seen part.now start) stamp }
+    ensures above { IfNone result (IsAboveNewest (log_seen part.now) stamp) }
 {
     if is_held(part, stamp) {
         return Some(Reply::Stored);
@@ -166,9 +167,9 @@ fn settled_reply(part: &State<'_>, stamp: Stamp) -> Option<Reply>
 
 // Store a version, unless something later was promised or stored. One that is held is stored already.
 fn write(alloc: Global, part: &State<'_>, stamp: Stamp, block: &Bytes) -> Result<Plan, NoMem>
-    ensures plan { IfOk result (λ plan. (full : Option ℕ) → planned full (part_seen part.now) plan ≡ written full
-        (part_seen part.now) stamp block.now) }
-    ensures change { IfOk result (λ plan. IsChange (length block.now) false (part_seen part.now) plan) }
+    ensures plan { IfOk result (λ plan. (full : Option ℕ) (start : Bool) → planned full (part_seen part.now start) plan
+        ≡ written full (part_seen part.now start) stamp block.now) }
+    ensures change { IfOk result (λ plan. (start : Bool) → IsChange (length block.now) false (part_seen part.now start) plan) }
 {
     if let Some(reply) = settled_reply(part, stamp) {
         return Ok(Plan::Tell(reply));
@@ -218,9 +219,9 @@ fn modify(
 ) -> Result<Plan, NoMem>
     requires data_block { data_block < member.m }
     requires delta { length delta.now ≡ (if is_changed member.m data_block member.seat then member.block else 0) }
-    ensures plan { IfOk result (λ plan. (full : Option ℕ) → planned full (part_seen part.now) plan ≡ modified (block_code member.block)
-        member.m full member.seat (part_seen part.now) stamp base data_block delta.now) }
-    ensures change { IfOk result (λ plan. IsChange member.block (nat_eq (length delta.now) 0) (part_seen part.now) plan) }
+    ensures plan { IfOk result (λ plan. (full : Option ℕ) (start : Bool) → planned full (part_seen part.now start) plan
+        ≡ modified (block_code member.block) member.m full member.seat (part_seen part.now start) stamp base data_block delta.now) }
+    ensures change { IfOk result (λ plan. (start : Bool) → IsChange member.block (nat_eq (length delta.now) 0) (part_seen part.now start) plan) }
 {
     if let Some(reply) = settled_reply(part, stamp) {
         return Ok(Plan::Tell(reply));
@@ -237,6 +238,19 @@ fn modify(
     Ok(Plan::Store(stamp, block))
 }
 
+// Drop the versions below one that is held. Where that is not held, or none is below it, nothing is to be done.
+fn collect(part: &State<'_>, stamp: Stamp) -> Plan
+    ensures plan { (full : Option ℕ) (start : Bool) → IsBegun start (log_seen part.now) → planned full (part_seen part.now start) result
+        ≡ collected (part_seen part.now start) stamp }
+    ensures change { (size : ℕ) (shares start : Bool) → IsChange size shares (part_seen part.now start) result }
+{
+    if is_held(part, stamp) && part.below(stamp).is_some() {
+        Plan::Collect(stamp)
+    } else {
+        Plan::Ignore
+    }
+}
+
 /// What a member is to do with a request.
 #[tactic(auto, unfolding(protocol::specs::Replicas::handle))]
 pub(crate) fn decide(
@@ -247,9 +261,10 @@ pub(crate) fn decide(
 ) -> Result<Plan, NoMem>
     requires rising { IsRising part.now.log }
     requires fits { IsTrue (fits_block member.block member.m member.seat request.now) }
-    ensures plan { IfOk result (λ plan. (full : Option ℕ) → planned full (part_seen part.now) plan ≡ handle (block_code member.block)
-        member.m full member.seat (part_seen part.now) request.now) }
-    ensures change { IfOk result (λ plan. IsChange member.block (shares_block request.now) (part_seen part.now) plan) }
+    ensures plan { IfOk result (λ plan. (full : Option ℕ) (start : Bool) → IsBegun start (log_seen part.now)
+        → planned full (part_seen part.now start) plan
+        ≡ handle (block_code member.block) member.m full member.seat (part_seen part.now start) request.now) }
+    ensures change { IfOk result (λ plan. (start : Bool) → IsChange member.block (shares_block request.now) (part_seen part.now start) plan) }
 {
     match request {
         Request::Read { want } => read(alloc, part, is_wanted(*want, member.seat)),
@@ -264,9 +279,9 @@ pub(crate) fn decide(
             data_block,
             delta,
         } => modify(alloc, member, part, *stamp, *base, *data_block, delta),
-        Request::Collect { .. }
-        | Request::OldRead { .. }
-        | Request::Prepare { .. }
-        | Request::Accept { .. } => Ok(Plan::Ignore),
+        Request::Collect { stamp } => Ok(collect(part, *stamp)),
+        Request::OldRead { .. } | Request::Prepare { .. } | Request::Accept { .. } => {
+            Ok(Plan::Ignore)
+        }
     }
 }

@@ -14,4 +14,6 @@ pub(crate) enum Plan {
     Promise(Stamp, Reply),
     /// The member stores a version: with this block, or with that of its newest one.
     Store(Stamp, Option<Bytes>),
+    /// The member drops its versions below one that it has. There is no reply.
+    Collect(Stamp),
 }

@@ -9,25 +9,25 @@ use Rattle.fab_base.specs.Stamps.{stamp_below}
 use Rattle.messages.specs.declared.replies.Reply.{Reply}
 use Rattle.messages.specs.declared.replies.Reply.TheVariants.{Stored}
 use Rattle.version_log.specs.Versions.{version}
-use Rattle.brick_state.specs.States.{stripe_at, ordered, added, live}
-use Rattle.brick_store.specs.Blocks.{log_at, block_added, adds_stamp}
+use Rattle.brick_state.specs.States.{stripe_at, ordered, added, collected, live}
+use Rattle.brick_store.specs.Blocks.{log_at, block_added, adds_stamp, version_stamp}
 use Rattle.brick_store.specs.Bricks.{Brick}
 use Rattle.brick_store.specs.Calls.{calls_of, version_calls}
 use Rattle.protocol.specs.Nodes.{full_at}
 use Rattle.protocol.specs.Replicas.{Replica, Reaction, newest_of, promised, stored, unless_full}
 use Rattle.replica.specs.declared.faults.ReplicaFault.{ReplicaFault}
 use Rattle.replica.specs.declared.plans.Plan.{Plan}
-use Rattle.replica.specs.declared.plans.Plan.TheVariants.{Promise, Store}
+use Rattle.replica.specs.declared.plans.Plan.TheVariants.{Promise, Store, Collect}
 use Rattle.replica.specs.Parts.{as_version}
 use Rattle.replica.specs.Plans.{block_stored, planned, is_shared, IsChange}
 use Rattle.replica.specs.Reactions.{place_of, part_at, IsReacted}
 use Rattle.replica.specs.Handling.{Handles}
 use Rattle.replica.specs.Calls.{stored_calls, part_calls, RunsAs, StopsAs}
 use Rattle.replica.proofs.Answering.{handles_change}
-use Rattle.replica.proofs.Logs.{newest_seen}
-use Rattle.replica.proofs.Reacting.{promise_grows, order_made, store_made, none_made, order_moves, store_moves, unless_room, unless_none}
+use Rattle.replica.proofs.Logs.{newest_seen, held_seen}
+use Rattle.replica.proofs.Reacting.{promise_grows, order_made, store_made, none_made, order_moves, store_moves, reacted_collect, collect_moves, unless_room, unless_none}
 use Rattle.replica.proofs.Runs.{runs_told, change_runs, change_cut, calls_kept, calls_ordered, calls_stored, version_stored}
-use Rattle.replica.proofs.Sharing.{has_block, own_long, stored_added}
+use Rattle.replica.proofs.Sharing.{has_block, own_long, stored_added, calls_collected}
 use Rattle.replica.proofs.handling.carry_out.Goals as goal
 
 -- what the plan is, is a change
@@ -73,7 +73,7 @@ returns-in-Promise-clause-handles g c =
     (Follows (Promise t reply)) old new r) (sym c.answered.ensures)
     (handles_change d.tells d.seen d.certain d.may_leave d.moment d.left_since d.faults d.sound g.met.D.Disk.only_now (Follows (Promise t reply)) call.group.0 call.view.0 call.stripe.0 old new
     (ordered (place_of call) t st)
-    (adds_stamp t (stripe_at st (place_of call)).order) (calls_of old 30 4) reply c.requires.runs
+    (adds_stamp t (stripe_at st (place_of call)).order) (calls_of old 30 4) (Some reply) c.requires.runs
     (order_made block call st sorted old.shape.records t reply later)
     (λ adds. none_made block call st sorted old.shape.records (promised part t reply) (promise_grows block call st sorted t reply ∙ adds))
     (order_moves block call st sorted t later) c.set_order.result c.set_order.ensures.change))
@@ -109,7 +109,7 @@ returns-in-Store-clause-handles g c =
     (Follows reaction) old new r) (sym c.answered-in-Store.ensures)
     (handles_change d.tells d.seen d.certain d.may_leave d.moment d.left_since d.faults d.sound g.met.D.Disk.only_now (Follows reaction) call.group.0 call.view.0 call.stripe.0 old new
     (added (place_of call) (version t bytes) st)
-    true (calls_of old (version_size c.in-Store.block) (version_calls c.in-Store.block)) Stored c.requires.runs
+    true (calls_of old (version_size c.in-Store.block) (version_calls c.in-Store.block)) (Some Stored) c.requires.runs
     (store_made block call st sorted old.shape.records t bytes)
     (none_made block call st sorted old.shape.records (stored part t bytes))
     (store_moves block call st sorted t bytes) c.add_version-answer.result c.add_version-answer.ensures.change))
@@ -167,7 +167,7 @@ returns-in-Promise-clause-run g c =
     (sym c.answered.ensures)
     (change_runs d.tells d.seen d.certain d.may_leave d.moment d.left_since d.faults d.sound d.plan d.unlisted old new c.requires.runs
     (ordered (place_of call) t st) (adds_stamp t (stripe_at st (place_of call)).order) (calls_of old 30 4)
-    (calls (planned full part c.args.plan)) reply c.set_order.result c.set_order.ensures.change c.set_order.ensures.run
+    (calls (planned full part c.args.plan)) (Some reply) c.set_order.result c.set_order.ensures.change c.set_order.ensures.run
     (λ room. ap calls is ∙ ap calls (sym (unless_room block call st sorted records part reaction (λ more. room (sym grows ∙ more))))
     ∙ calls_ordered old (is_shared c.args.plan) part t later)
     (λ adds most. ap calls is ∙ ap calls (sym (unless_none block call st sorted records part reaction (grows ∙ adds) most)) ∙ calls_kept old (is_shared c.args.plan) part))
@@ -195,7 +195,7 @@ returns-in-Store-clause-run g c =
     (sym c.answered-in-Store.ensures)
     (change_runs d.tells d.seen d.certain d.may_leave d.moment d.left_since d.faults d.sound d.plan d.unlisted old new c.requires.runs
     (added (place_of call) (version t bytes) st) true (calls_of old (version_size own) (version_calls own))
-    (calls (planned full part c.args.plan)) Stored c.add_version-answer.result c.add_version-answer.ensures.change c.add_version-answer.ensures.run
+    (calls (planned full part c.args.plan)) (Some Stored) c.add_version-answer.result c.add_version-answer.ensures.change c.add_version-answer.ensures.run
     (λ room. ap calls is ∙ ap calls (sym (unless_room block call st sorted records part (stored part t bytes) room)) ∙ calls_stored old shared part _
     ∙ ap (λ (p : Plan). stored_calls old.shape old.listed (is_shared p)) c.in-Store.is ∙ version_stored old own)
     (λ adds most. ap calls is ∙ ap calls (sym (unless_none block call st sorted records part (stored part t bytes) adds most)) ∙ calls_kept old shared part))
@@ -225,7 +225,7 @@ returns-in-Promise-clause-cut g c =
     (Follows (Promise t reply)) old new r) (sym c.answered.ensures)
     (change_cut d.tells d.seen d.certain d.may_leave d.moment d.left_since d.faults d.sound d.plan d.unlisted old new c.requires.runs
     (Follows (Promise t reply)) (ordered (place_of call) t st) (adds_stamp t (stripe_at st (place_of call)).order) (calls_of old 30 4)
-    (calls (Promise t reply)) reply c.set_order.result c.set_order.ensures.change
+    (calls (Promise t reply)) (Some reply) c.set_order.result c.set_order.ensures.change
     (order_made block call st sorted records t reply later)
     (λ room.
     ap (λ (r : Reaction). part_calls old.shape old.listed false part r.replica)
@@ -256,7 +256,86 @@ returns-in-Store-clause-cut g c =
     (subst (λ (r : Result (Option Reply) ReplicaFault). StopsAs d.tells d.seen d.certain d.moment (calls reaction) (Follows reaction) old new r)
     (sym c.answered-in-Store.ensures)
     (change_cut d.tells d.seen d.certain d.may_leave d.moment d.left_since d.faults d.sound d.plan d.unlisted old new c.requires.runs
-    (Follows reaction) (added (place_of call) (version t bytes) st) true (calls_of old (version_size own) (version_calls own)) (calls reaction) Stored
+    (Follows reaction) (added (place_of call) (version t bytes) st) true (calls_of old (version_size own) (version_calls own)) (calls reaction) (Some Stored)
     c.add_version-answer.result c.add_version-answer.ensures.change (store_made block call st sorted records t bytes)
     (λ room. ap calls (sym (unless_room block call st sorted records part (stored part t bytes) room)) ∙ calls_stored old shared part _
     ∙ ap (λ (p : Plan). stored_calls old.shape old.listed (is_shared p)) c.in-Store.is ∙ version_stored old own)))
+
+-- ---- what is dropped
+
+pub collect-requires-clause-held : goal.collect-requires-clause-held
+collect-requires-clause-held g c =
+    let old = c.args.store.now in
+    let log = log_at old.shape.block old.state (place_of c.args.call) in
+    let change = changed_as old.shape.block (part_at old.shape.block old.state c.args.call) c.in-Collect.is c.requires.change in
+    sym (held_seen c.in-Collect.stamp log) ∙ change.0
+
+pub returns-in-Collect-clause-handles : goal.returns-in-Collect-clause-handles
+returns-in-Collect-clause-handles g c =
+    let d = g.D.Disk in
+    let old = c.args.store.now in
+    let new = c.collect.new.self in
+    let st = old.state in
+    let block = old.shape.block in
+    let call = c.args.call in
+    let t = c.in-Collect.stamp in
+    let part = part_at block st call in
+    let full = full_at old.shape.records (live st) in
+    let Follows = λ (p : Plan). IsReacted block call st (planned full part p) in
+    let sorted = c.requires.runs.ordered.sorted in
+    let change = changed_as block part c.in-Collect.is c.requires.change in
+    subst (λ (p : Plan). Handles d.tells d.seen d.may_leave d.moment d.left_since d.faults d.sound (Follows p) old new c.answered-in-Collect.result)
+    (sym c.in-Collect.is)
+    (subst (λ (r : Result (Option Reply) ReplicaFault). Handles d.tells d.seen d.may_leave d.moment d.left_since d.faults d.sound
+    (Follows (Collect t)) old new r) (sym c.answered-in-Collect.ensures)
+    (handles_change d.tells d.seen d.certain d.may_leave d.moment d.left_since d.faults d.sound g.met.D.Disk.only_now (Follows (Collect t)) call.group.0 call.view.0 call.stripe.0 old new
+    (collected version_stamp (place_of call) t st) false (calls_of old 30 4) None c.requires.runs
+    (λ room. reacted_collect block call st sorted t change.0)
+    (λ adds. absurd cc)
+    (collect_moves block call st sorted t change.1) c.collect.result c.collect.ensures.change))
+
+pub returns-in-Collect-clause-run : goal.returns-in-Collect-clause-run
+returns-in-Collect-clause-run g c =
+    let d = g.D.Disk in
+    let old = c.args.store.now in
+    let new = c.collect.new.self in
+    let st = old.state in
+    let block = old.shape.block in
+    let call = c.args.call in
+    let t = c.in-Collect.stamp in
+    let part = part_at block st call in
+    let full = full_at old.shape.records (live st) in
+    let change = changed_as block part c.in-Collect.is c.requires.change in
+    let calls = λ (p : Plan). part_calls old.shape old.listed (is_shared p) part (planned full part p).replica in
+    subst (λ (r : Result (Option Reply) ReplicaFault). RunsAs d.tells d.moment d.plan d.unlisted (calls c.args.plan) old new r)
+    (sym c.answered-in-Collect.ensures)
+    (change_runs d.tells d.seen d.certain d.may_leave d.moment d.left_since d.faults d.sound d.plan d.unlisted old new c.requires.runs
+    (collected version_stamp (place_of call) t st) false (calls_of old 30 4) (calls c.args.plan) None
+    c.collect.result c.collect.ensures.change c.collect.ensures.run
+    (λ room. ap calls c.in-Collect.is ∙ calls_collected old false part t change.0 change.1)
+    (λ adds. absurd cc))
+
+pub returns-in-Collect-clause-cut : goal.returns-in-Collect-clause-cut
+returns-in-Collect-clause-cut g c =
+    let d = g.D.Disk in
+    let old = c.args.store.now in
+    let new = c.collect.new.self in
+    let st = old.state in
+    let block = old.shape.block in
+    let call = c.args.call in
+    let t = c.in-Collect.stamp in
+    let part = part_at block st call in
+    let full = full_at old.shape.records (live st) in
+    let sorted = c.requires.runs.ordered.sorted in
+    let change = changed_as block part c.in-Collect.is c.requires.change in
+    let calls = λ (p : Plan). part_calls old.shape old.listed (is_shared p) part (planned full part p).replica in
+    let Follows = λ (p : Plan). IsReacted block call st (planned full part p) in
+    subst (λ (p : Plan). StopsAs d.tells d.seen d.certain d.moment (calls p) (Follows p) old new c.answered-in-Collect.result)
+    (sym c.in-Collect.is)
+    (subst (λ (r : Result (Option Reply) ReplicaFault). StopsAs d.tells d.seen d.certain d.moment (calls (Collect t))
+    (Follows (Collect t)) old new r) (sym c.answered-in-Collect.ensures)
+    (change_cut d.tells d.seen d.certain d.may_leave d.moment d.left_since d.faults d.sound d.plan d.unlisted old new c.requires.runs
+    (Follows (Collect t)) (collected version_stamp (place_of call) t st) false (calls_of old 30 4) (calls (Collect t)) None
+    c.collect.result c.collect.ensures.change
+    (λ room. reacted_collect block call st sorted t change.0)
+    (λ room. calls_collected old false part t change.0 change.1)))

@@ -12,11 +12,11 @@ use Rattle.replica.proofs.Logs.{option_map-option_map, newest_seen}
 use Rattle.replica.proofs.members.read.Goals as goal
 
 pub returns-clause-plan : goal.returns-clause-plan
-returns-clause-plan c = λ full.
+returns-clause-plan c = λ full start.
     let seen = c.args.part.now in
     let newest : c.in_ok-newest.newest ≡ told_version c.args.wanted (newest_of (map as_version seen.log))
     = c.in_ok-newest.ensures
     ∙ ap (told_version c.args.wanted) (option_map-option_map as_version (λ (v : Stamp × Bor Bytes). version v.0 v.1.now) c.newest.result
     ∙ ap (option_map as_version) c.newest.ensures ∙ sym (newest_seen seen.log)) in
-    ap (λ (order : Stamp). stays (part_seen seen) (Found order c.in_ok-newest.newest)) c.order.ensures
-    ∙ ap (λ (v : Option Version). stays (part_seen seen) (Found seen.order v)) newest
+    ap (λ (order : Stamp). stays (part_seen seen start) (Found order c.in_ok-newest.newest)) c.order.ensures
+    ∙ ap (λ (v : Option Version). stays (part_seen seen start) (Found seen.order v)) newest
