@@ -53,7 +53,7 @@ newest_cases log = cases_of (newest_of log)
     cases_of (Some version) = inl (version, refl)
 
 -- the order stamp is at most the top, and so is the newest version
-top_order : (replica : Replica) → stamp_below (top_of replica) replica.order ≡ false
+pub top_order : (replica : Replica) → stamp_below (top_of replica) replica.order ≡ false
 top_order replica = ⊎_elim
     (λ (some : (version : Version) × (newest_of replica.log ≡ Some version)).
     subst (λ (z : Stamp). stamp_below z replica.order ≡ false) (sym (top_is replica some.0 some.1)) (max_left replica.order some.0.stamp))
