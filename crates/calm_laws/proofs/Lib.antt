@@ -1,2 +1,4 @@
-pub mod Scenes
 pub mod Asking
+pub mod Counts
+pub mod Hearing
+pub mod Scenes

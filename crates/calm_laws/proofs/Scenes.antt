@@ -1,22 +1,22 @@
 -- An operation alone, seen from its coordinator: a small machine of the coordinator, what its members keep of its stripe, and the queue of its
 -- messages. What it does, the disk does with the operation's messages alone.
-use Rattle.std.proofs.Common.{◌≡◌, ℕ, ◌+◌, ◌-◌, Bool, true, false, List, [], ◌∷◌, ◌++◌, map, Option, Some, None, refl, sym, subst}
-use Rattle.std.specs.Prelude.{filter, max}
+use Rattle.std.proofs.Common.{List, Option, Some, [], refl, subst, sym, true, ℕ, ◌++◌, ◌+◌, ◌∷◌, ◌≡◌}
+use Rattle.std.specs.Prelude.{filter, max, ◌-◌}
+use Rattle.fab_base.specs.Layouts.{Group, seat_in}
+use Rattle.fab_base.specs.declared.answers.Answer.{Answer}
 use Rattle.fab_base.specs.declared.identities.BrickId.{BrickId}
 use Rattle.fab_base.specs.declared.stamps.Stamp.{Stamp}
-use Rattle.fab_base.specs.declared.answers.Answer.{Answer}
-use Rattle.fab_base.specs.Layouts.{Group, seat_in}
 use Rattle.messages.specs.declared.calls.Call.{Call}
 use Rattle.messages.specs.declared.packets.Message.{Message}
 use Rattle.messages.specs.declared.packets.Packet.{Packet}
-use Rattle.messages.specs.declared.requests.Request.{Request}
 use Rattle.messages.specs.declared.replies.Reply.{Reply}
+use Rattle.messages.specs.declared.requests.Request.{Request}
+use Rattle.protocol.specs.Calms.{goes_among, is_one_of}
+use Rattle.protocol.specs.Coordinators.{Coordinator, Ends, Ignores, Makes, Next, Sends, Waits, on_reply, request_of}
+use Rattle.protocol.specs.Nodes.{fits_block, fresh_stamp, full_at, known_after, phase_packets, put, reply_packets}
+use Rattle.protocol.specs.Replicas.{Reaction, Replica, handle}
 use Rattle.protocol.specs.Settings.{Setting}
-use Rattle.protocol.specs.Replicas.{Replica, Reaction, handle}
-use Rattle.protocol.specs.Coordinators.{Coordinator, Next, Ignores, Waits, Sends, Makes, Ends, request_of, on_reply}
-use Rattle.protocol.specs.Nodes.{put, full_at, fits_block, reply_packets, phase_packets, known_after, fresh_stamp}
 use Rattle.protocol.specs.Worlds.{is_answer}
-use Rattle.protocol.specs.Calms.{is_one_of, goes_among}
 
 -- what stays as it is meanwhile: the setting, the bricks that hear one another, the coordinator's brick and its clock, and the group
 pub record Stage : Type 0 where
