@@ -24,12 +24,12 @@ told_all stage c (x ∷ xs) parts =
 
 -- all requests are delivered, one after another, and the replies follow what was waiting
 pub asks_pass : (stage : Stage) (xs : List Seated) (s : Scene) (rest : List Packet) → s.queue ≡ map (asking stage s.c) xs ++ rest
-    → Each (IsSeated stage) xs → ((x : Seated) → Fits stage s.c x)
+    → Each (IsSeated stage) xs → ((x : Seated) → IsSeated stage x → Fits stage s.c x)
     → Closes stage (record s { parts = reacted_all stage s.c xs s.parts; queue = rest ++ told_all stage s.c xs s.parts }) → Closes stage s
 asks_pass stage [] s rest is seated fits closes =
     with_queue stage s rest is (subst (λ (q : List Packet). Closes stage (record s { queue = q })) (append-nil rest) closes)
 asks_pass stage (x ∷ xs) s rest is seated fits closes =
-    Asks s x (map (asking stage s.c) xs ++ rest) is seated.0 (fits x)
+    Asks s x (map (asking stage s.c) xs ++ rest) is seated.0 (fits x seated.0)
     (asks_pass stage xs (asked stage s x (map (asking stage s.c) xs ++ rest)) (rest ++ replies_from stage s.c (s.parts x.brick.0) x)
     (append_assoc (map (asking stage s.c) xs) rest (replies_from stage s.c (s.parts x.brick.0) x)) seated.1 fits
     (subst (λ (q : List Packet). Closes stage (record s { parts = reacted_all stage s.c (x ∷ xs) s.parts; queue = q }))
