@@ -5,4 +5,5 @@ pub mod Hearing
 pub mod PhaseRuns
 pub mod Rooms
 pub mod Scenes
+pub mod StorePhases
 pub mod Storing
