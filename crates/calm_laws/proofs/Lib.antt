@@ -1,7 +1,9 @@
 pub mod Asking
 pub mod Counts
 pub mod Decided
+pub mod Finds
 pub mod Hearing
+pub mod Logs
 pub mod PhaseRuns
 pub mod Rooms
 pub mod Scenes
