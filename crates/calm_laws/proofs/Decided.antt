@@ -4,11 +4,11 @@ use Rattle.calm_laws.proofs.Counts.{counted_of}
 use Rattle.calm_laws.proofs.Scenes.{Seated}
 use Rattle.fab_base.specs.declared.stamps.Stamp.{Stamp}
 use Rattle.messages.specs.declared.replies.Reply.{Reply}
-use Rattle.protocol.specs.Coordinators.{Coordinator, Ends, answer_with, decided, full_member_of, greater_refuser, greatest_refuser, lower_full, lowest_full, once_modified, refuser_of, request_of, unless_refused, unless_told_full}
+use Rattle.protocol.specs.Coordinators.{Coordinator, Ends, Makes, answer_with, answered_fast, answered_fast_at, common_version_at, decided, fast_version, fast_version_at, full_member_of, greater_refuser, greatest_found, greatest_refuser, in_phase, lower_full, lowest_full, modified_if, once_modified, once_ordered, read_back, refuser_of, request_of, unless_refused, unless_told_full}
 use Rattle.protocol.specs.Settings.{Code}
 use Rattle.protocol.specs.declared.phases.FullMember.{FullMember}
 use Rattle.protocol.specs.declared.phases.Phase.{Phase}
-use Rattle.protocol.specs.declared.phases.Phase.TheVariants.{Modifies, Stores}
+use Rattle.protocol.specs.declared.phases.Phase.TheVariants.{Descends, Looks, LooksAt, Modifies, Orders, OrdersAt, Recovers, Stores}
 use Rattle.protocol.specs.declared.phases.Refuser.{Refuser}
 use Rattle.reg_model.specs.Registers.{read_of}
 
@@ -58,3 +58,59 @@ module _ (block : ℕ) (code : Code) (fresh : Option Stamp) (c : Coordinator) (r
       ∙ ap (λ (z : Option FullMember). unless_told_full z (unless_refused (greatest_refuser c.counted) (once_modified (in_this c (Modifies base j)) base))) roomy
       ∙ ap (λ (z : Option Refuser). unless_refused z (once_modified (in_this c (Modifies base j)) base)) unrefused
       ∙ ap (λ (p : Phase). once_modified (in_this c p) base) (sym phase)
+
+  -- the greatest version that was found is read back
+  pub descend_decides : (bound : Stamp) → c.phase ≡ Descends bound → greatest_refuser c.counted ≡ None
+      → decided block code fresh c ≡ read_back block code c (greatest_found c.counted)
+  unfolding decided
+  descend_decides bound phase unrefused =
+      decided_in_phase block code fresh c (Descends bound) phase
+      ∙ ap (λ (z : Option FullMember). unless_told_full z (unless_refused (greatest_refuser c.counted)
+      (read_back block code (in_this c (Descends bound)) (greatest_found c.counted)))) roomy
+      ∙ ap (λ (z : Option Refuser). unless_refused z (read_back block code (in_this c (Descends bound)) (greatest_found c.counted))) unrefused
+      ∙ ap (λ (p : Phase). read_back block code (in_this c p) (greatest_found c.counted)) (sym phase)
+
+  -- an order goes on, or is tried again
+  pub recover_decides : c.phase ≡ Recovers
+      → decided block code fresh c ≡ once_ordered fresh c (greatest_refuser c.counted) (read_back block code c (greatest_found c.counted))
+  unfolding decided
+  recover_decides phase =
+      decided_in_phase block code fresh c Recovers phase
+      ∙ ap (λ (z : Option FullMember). unless_told_full z (once_ordered fresh (in_this c Recovers) (greatest_refuser c.counted)
+      (read_back block code (in_this c Recovers) (greatest_found c.counted)))) roomy
+      ∙ ap (λ (p : Phase). once_ordered fresh (in_this c p) (greatest_refuser c.counted)
+      (read_back block code (in_this c p) (greatest_found c.counted))) (sym phase)
+
+  pub order_decides : c.phase ≡ Orders
+      → decided block code fresh c ≡ once_ordered fresh c (greatest_refuser c.counted) (Makes (in_phase c Stores))
+  unfolding decided
+  order_decides phase =
+      decided_in_phase block code fresh c Orders phase
+      ∙ ap (λ (z : Option FullMember). unless_told_full z (once_ordered fresh (in_this c Orders) (greatest_refuser c.counted)
+      (Makes (in_phase c Stores)))) roomy
+      ∙ ap (λ (p : Phase). once_ordered fresh (in_this c p) (greatest_refuser c.counted) (Makes (in_phase c Stores))) (sym phase)
+
+  pub order_at_decides : (j : ℕ) → c.phase ≡ OrdersAt j
+      → decided block code fresh c ≡ once_ordered fresh c (greatest_refuser c.counted) (modified_if code c j (common_version_at j c.counted))
+  unfolding decided
+  order_at_decides j phase =
+      decided_in_phase block code fresh c (OrdersAt j) phase
+      ∙ ap (λ (z : Option FullMember). unless_told_full z (once_ordered fresh (in_this c (OrdersAt j)) (greatest_refuser c.counted)
+      (modified_if code (in_this c (OrdersAt j)) j (common_version_at j c.counted)))) roomy
+      ∙ ap (λ (p : Phase). once_ordered fresh (in_this c p) (greatest_refuser c.counted)
+      (modified_if code (in_this c p) j (common_version_at j c.counted))) (sym phase)
+
+  -- a read is answered, or recovers
+  pub look_decides : c.phase ≡ Looks → decided block code fresh c ≡ answered_fast code c (fast_version c.counted)
+  unfolding decided
+  look_decides phase =
+      decided_in_phase block code fresh c Looks phase
+      ∙ ap (λ (z : Option FullMember). unless_told_full z (answered_fast code (in_this c Looks) (fast_version c.counted))) roomy
+      ∙ ap (λ (p : Phase). answered_fast code (in_this c p) (fast_version c.counted)) (sym phase)
+
+  pub look_at_decides : (j : ℕ) → c.phase ≡ LooksAt j → decided block code fresh c ≡ answered_fast_at c j (fast_version_at j c.counted)
+  unfolding decided
+  look_at_decides j phase =
+      decided_in_phase block code fresh c (LooksAt j) phase
+      ∙ ap (λ (z : Option FullMember). unless_told_full z (answered_fast_at (in_this c (LooksAt j)) j (fast_version_at j c.counted))) roomy
+      ∙ ap (λ (p : Phase). answered_fast_at (in_this c p) j (fast_version_at j c.counted)) (sym phase)

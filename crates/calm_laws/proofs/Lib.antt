@@ -1,9 +1,11 @@
 pub mod Asking
 pub mod Counts
 pub mod Decided
+pub mod Descending
 pub mod Finds
 pub mod Hearing
 pub mod Logs
+pub mod Ordering
 pub mod PhaseRuns
 pub mod Rooms
 pub mod Scenes
