@@ -1,13 +1,14 @@
 -- A recovery alone: it finds a version of which it has enough blocks, below ever lower bounds, and stores it.
-use Rattle.std.proofs.Common.{List, None, Option, Some, [], ap, arith, false, inl, inr, length, map, refl, subst, sym, true, ℕ, ⊎_elim, ◌+◌, ◌<◌, ◌∙◌, ◌∷◌, ◌≡◌, ◌≤◌}
-use Rattle.std.proofs.lemmas.Bool.{cases_Bool, cond_both, ltb-true}
-use Rattle.std.specs.Prelude.{filter, nat_lt, slice_get, ◌-◌, ◌^◌}
+use Rattle.std.proofs.Common.{Bool, List, None, Option, Some, [], ap, arith, cond, false, inl, inr, length, map, refl, set, subst, suc, sym, true, zero, ℕ, ⊎_elim, ◌+◌, ◌<◌, ◌∙◌, ◌∷◌, ◌≡◌, ◌≤◌}
+use Rattle.std.proofs.lemmas.Bool.{and_from, cases_Bool, cond_both, eq-eqb, ltb-true}
+use Rattle.std.specs.Prelude.{filter, nat_eq, nat_lt, slice_get, ◌-◌, ◌^◌}
 use Rattle.calm_laws.proofs.Asking.{Holds, each_then, told_all}
-use Rattle.calm_laws.proofs.Counts.{Carries, counted_of, told}
+use Rattle.calm_laws.proofs.Counts.{Carries, counted_of, fresh_at, told}
+use Rattle.calm_laws.proofs.Decided.{descend_decides, none_full, none_refuses}
 use Rattle.calm_laws.proofs.Finds.{Has, IsMost, filter_more, finding, greatest_has, greatest_most, has_each, pieces_length, some_of, total_below, total_falls}
 use Rattle.calm_laws.proofs.Logs.{IsWithin, LogAscends, newest_among}
-use Rattle.calm_laws.proofs.Ordering.{TameWith, told_below, told_facts, told_then}
-use Rattle.calm_laws.proofs.PhaseRuns.{Cast, IsOpen, next_open}
+use Rattle.calm_laws.proofs.Ordering.{TameWith, descends_ask, looking, orders_keep, orders_reply, read_fits, reads_so, told_below, told_facts, told_then}
+use Rattle.calm_laws.proofs.PhaseRuns.{Cast, IsOpen, known_then, next_open, open_run}
 use Rattle.calm_laws.proofs.Rooms.{Room}
 use Rattle.calm_laws.proofs.Scenes.{Closes, Each, Part, Scene, Seated, Stage, made, sent}
 use Rattle.calm_laws.proofs.StorePhases.{store_phase}
@@ -16,12 +17,14 @@ use Rattle.fab_base.specs.Layouts.{Group}
 use Rattle.fab_base.specs.Stamps.{first_stamp, stamp_below, stamp_same}
 use Rattle.fab_base.specs.declared.stamps.Stamp.{Stamp}
 use Rattle.messages.specs.declared.replies.Reply.TheVariants.{OrderedRead}
+use Rattle.messages.specs.declared.requests.Look.TheVariants.{Below}
 use Rattle.messages.specs.declared.requests.Version.{Version}
 use Rattle.messages.specs.declared.requests.Want.{Want}
 use Rattle.protocol.specs.Calms.{early}
-use Rattle.protocol.specs.Coordinators.{Coordinator, Makes, Next, Sends, finds, greatest_found, in_phase, pieces_at, read_back, restoring}
+use Rattle.protocol.specs.Coordinators.{Coordinator, Makes, Next, Sends, answers_phase, finds, greatest_found, in_phase, may_be_found, pieces_at, read_back, restoring}
 use Rattle.protocol.specs.Replicas.{below, is_held, is_wanted, newest_of, told_version, top_of}
 use Rattle.protocol.specs.declared.phases.Counted.{Counted}
+use Rattle.protocol.specs.declared.phases.Phase.{Phase}
 use Rattle.protocol.specs.declared.phases.Phase.TheVariants.{Descends}
 use Rattle.reg_model.specs.Registers.{after_op}
 
@@ -217,3 +220,88 @@ module _ (stage : Stage) (cast : Cast stage) (logs : ℕ → List Version) (lore
           (each_then (λ (x : Seated). TameWith stage s.c.stamp logs x.brick.0 (parts x.brick.0))
           (λ (x : Seated). (stamp_below s.c.stamp (top_of (parts x.brick.0).replica) ≡ false) × Room stage (parts x.brick.0)) cast.xs
           (λ x h. (h.tame, h.room)) tame)))
+
+  -- what is told below the bound answers the phase
+  pub told_fits : Each (λ x. may_be_found (cond (is_wanted want x.seat) stage.setting.layout.block 0) bound (g x) ≡ true) cast.xs
+  told_fits =
+      each_then (λ (x : Seated). (k : ℕ) (version : Version) → slice_get (logs x.brick.0) k ≡ Some version
+      → length version.block ≡ stage.setting.layout.block)
+      (λ (x : Seated). may_be_found (cond (is_wanted want x.seat) stage.setting.layout.block 0) bound (g x) ≡ true) cast.xs
+      (λ x long. go x long (g x) refl) lore.blocks
+    where
+      long_so : (wanted : Bool) (block : List ℕ) → length block ≡ stage.setting.layout.block
+          → length (cond wanted block []) ≡ cond wanted stage.setting.layout.block 0
+      long_so true block long = long
+      long_so false block long = refl
+
+      go : (x : Seated) → ((k : ℕ) (version : Version) → slice_get (logs x.brick.0) k ≡ Some version → length version.block ≡ stage.setting.layout.block)
+          → (z : Option Version) → g x ≡ z → may_be_found (cond (is_wanted want x.seat) stage.setting.layout.block 0) bound z ≡ true
+      go x long None is = refl
+      go x long (Some version) is =
+          let told = told_facts logs bound want x version is in
+          and_from (nat_eq (length version.block) (cond (is_wanted want x.seat) stage.setting.layout.block 0)) (stamp_below version.stamp bound)
+          (eq-eqb (length version.block) (cond (is_wanted want x.seat) stage.setting.layout.block 0)
+          (ap (λ (l : List ℕ). length l) told.block_is
+          ∙ long_so (is_wanted want x.seat) told.inner.block (long told.facts.place told.inner told.facts.stands)))
+          (subst (λ (z : Stamp). stamp_below z bound ≡ true) told.stamp_is told.facts.lower)
+
+-- the greatest number of a phase that counts, but one
+abbrev pub last_phase : ℕ
+last_phase = 2 ^ 32 - 1
+
+-- a phase that looks below this bound closes, whose versions below are this many at most
+abbrev pub DownCloses : (stage : Stage) (cast : Cast stage) (logs : ℕ → List Version) → Lore stage cast logs → ℕ → Type 0
+DownCloses stage cast logs lore n =
+    (s : Scene) (bound : Stamp) → IsSet stage cast logs s → s.c.phase ≡ Descends bound → stamp_below lore.floor bound ≡ true
+    → total_below logs bound cast.xs ≤ n → s.c.call.phase + n + 2 ≤ 2 ^ 32 - 1 → Closes stage s
+
+-- from one bound, where lower ones close
+down_step : (stage : Stage) (cast : Cast stage) (logs : ℕ → List Version) (lore : Lore stage cast logs) (n : ℕ) (s : Scene) (bound : Stamp)
+    → IsSet stage cast logs s → s.c.phase ≡ Descends bound → stamp_below lore.floor bound ≡ true → s.c.call.phase + n + 2 ≤ 2 ^ 32 - 1
+    → ((later : Scene) (v : Stamp) → IsSet stage cast logs later → later.c.phase ≡ Descends v → stamp_below lore.floor v ≡ true
+    → total_below logs v cast.xs + 1 ≤ total_below logs bound cast.xs → later.c.call.phase ≡ s.c.call.phase + 1 → Closes stage later)
+    → Closes stage s
+down_step stage cast logs lore n s bound set phase above early lower =
+    let asks = descends_ask stage s.c bound phase in
+    let so = reads_so stage s.c (Below bound) Want.All asks in
+    let found : Seated → Option Version = told_below logs bound Want.All in
+    let all : List Counted = map (counted_of (finding found)) cast.xs in
+    open_run stage cast s set.open_is (TameWith stage s.c.stamp logs) (finding found) (omega (arith, early))
+    (λ x seated. read_fits stage s.c s.c.stamp (Below bound) Want.All x (asks x))
+    (orders_keep stage s.c (looking (Below bound) Want.All) logs set.later so)
+    (orders_reply stage s.c (looking (Below bound) Want.All) logs so) set.tame
+    (each_then (λ (x : Seated). may_be_found stage.setting.layout.block bound (found x) ≡ true)
+    (λ (x : Seated). answers_phase stage.setting.layout.block s.c.stamp x.seat s.c.phase (finding found x) ≡ true) cast.xs
+    (λ x fits. ap (λ (p : Phase). answers_phase stage.setting.layout.block s.c.stamp x.seat p (finding found x)) phase ∙ fits)
+    (told_fits stage cast logs lore s set.open_is.group bound Want.All above))
+    (λ before parts tame.
+    let known : ℕ = known_then stage s (finding found) cast.xs set.open_is.stale in
+    subst (λ (z : Next). Carries stage (replied stage s known parts set.open_is.others before) z)
+    (sym (descend_decides stage.setting.layout.block stage.setting.code (fresh_at stage s.c known) (having s.c all)
+    (none_full (finding found) (λ x. refl) cast.xs) bound phase (none_refuses (finding found) (λ x. refl) cast.xs)))
+    (read_back_goes stage cast logs lore s set.open_is.group bound Want.All above set.open_is.others before parts known tame (omega (arith, early))
+    (λ v over falls.
+    lower (sent stage (replied stage s known parts set.open_is.others before) (in_phase (having s.c all) (Descends v))) v
+    (record {
+      open_is = next_open stage cast s.c (in_phase (having s.c all) (Descends v)) set.open_is.others before
+          (sent stage (replied stage s known parts set.open_is.others before) (in_phase (having s.c all) (Descends v))) set.open_is.group
+          (record {
+            same = record { group = refl; boot = refl; seq = refl; of_group = refl; view = refl; stripe = refl };
+            later = refl;
+            counted = refl;
+          })
+          refl refl;
+      tame = tame;
+      later = set.later;
+    })
+    refl over falls refl)))
+
+-- a phase that looks below a bound closes
+pub down_phase : (stage : Stage) (cast : Cast stage) (logs : ℕ → List Version) (lore : Lore stage cast logs) (n : ℕ)
+    → DownCloses stage cast logs lore n
+down_phase stage cast logs lore zero s bound set phase above few early =
+    down_step stage cast logs lore zero s bound set phase above early (λ later v next next_phase over falls number. absurd (omega (arith, few, falls)))
+down_phase stage cast logs lore (suc n) s bound set phase above few early =
+    down_step stage cast logs lore (suc n) s bound set phase above early
+    (λ later v next next_phase over falls number.
+    down_phase stage cast logs lore n later v next next_phase over (omega (arith, few, falls)) (omega (arith, early, number)))
