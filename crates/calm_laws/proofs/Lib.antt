@@ -8,6 +8,7 @@ pub mod Logs
 pub mod Ordering
 pub mod PhaseRuns
 pub mod Rooms
+pub mod Rounds
 pub mod Scenes
 pub mod StorePhases
 pub mod Storing
