@@ -5,6 +5,7 @@ pub mod Descending
 pub mod Finds
 pub mod Hearing
 pub mod Logs
+pub mod OrderRuns
 pub mod Ordering
 pub mod PhaseRuns
 pub mod Rooms
