@@ -1,10 +1,13 @@
 pub mod Asking
+pub mod BlockWrites
 pub mod Counts
 pub mod Decided
 pub mod Descending
 pub mod Finds
+pub mod FirstRounds
 pub mod Hearing
 pub mod Logs
+pub mod OrderPhases
 pub mod OrderRuns
 pub mod Ordering
 pub mod PhaseRuns

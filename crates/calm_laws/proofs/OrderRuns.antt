@@ -24,7 +24,7 @@ use Rattle.protocol.specs.declared.phases.Counted.{Counted}
 use Rattle.protocol.specs.declared.phases.Refuser.{Refuser}
 
 -- what is at most b, which is below c, is below c
-at_most_below : (a b c : Stamp) → stamp_below b a ≡ false → stamp_below b c ≡ true → stamp_below a c ≡ true
+pub at_most_below : (a b c : Stamp) → stamp_below b a ≡ false → stamp_below b c ≡ true → stamp_below a c ≡ true
 at_most_below a b c most less = ⊎_elim
     (λ (is : stamp_below a c ≡ true). is)
     (λ (isnt : stamp_below a c ≡ false). absurd (false≢true (sym (stamp_not_below_trans c a b isnt most) ∙ less)))
@@ -56,7 +56,7 @@ held_below stage t log part is ascends unheld d held =
     (cases_Bool (stamp_below d t))
 
 -- a stamp above the top of a part is not held there
-unheld_above : (replica : Replica) (t : Stamp) → LogAscends replica.log → stamp_below (top_of replica) t ≡ true → is_held t replica.log ≡ false
+pub unheld_above : (replica : Replica) (t : Stamp) → LogAscends replica.log → stamp_below (top_of replica) t ≡ true → is_held t replica.log ≡ false
 unheld_above replica t ascends above = ⊎_elim
     (λ (held : is_held t replica.log ≡ true). absurd (false≢true (sym (held_most replica t ascends held) ∙ above)))
     (λ (unheld : is_held t replica.log ≡ false). unheld)

@@ -39,7 +39,7 @@ answers_well None = refl
 answers_well (Some bytes) = refl
 
 -- a test that passes at each member
-each_so : {A : Type 0} (P : A → Type 0) → ((x : A) → P x) → (xs : List A) → Each P xs
+pub each_so : {A : Type 0} (P : A → Type 0) → ((x : A) → P x) → (xs : List A) → Each P xs
 each_so P all [] = tt
 each_so P all (x ∷ xs) = (all x, each_so P all xs)
 
