@@ -121,15 +121,15 @@ module _ (stage : Stage) (cast : Cast stage) (logs : ℕ → List Version) (lore
   abbrev pub block_goes : List Counted → Next
   block_goes counted = modified_if stage.setting.code (having s.c counted) j (common_version_at j counted)
 
-  pub block_ordering : s.c.phase ≡ OrdersAt j → s.c.group ≡ stage.group → stamp_below lore.floor s.c.stamp ≡ true
+  pub block_ordering : s.c.phase ≡ OrdersAt j
       → IsOrdering stage cast logs s (looking (Below s.c.stamp) (Want.Seat j)) block_goes
-  block_ordering phase group above = record {
+  block_ordering phase = record {
     so = reads_whole stage s.c (Below s.c.stamp) (Want.Seat j) (orders_at_ask stage s.c j phase);
     fits = λ x seated. read_fits stage s.c s.c.stamp (Below s.c.stamp) (Want.Seat j) x (orders_at_ask stage s.c j phase x);
     answers = each_then (λ (x : Seated). may_be_found (cond (nat_eq j x.seat) stage.setting.layout.block 0) s.c.stamp (look x) ≡ true)
         (λ (x : Seated). answers_phase stage.setting.layout.block s.c.stamp x.seat s.c.phase (finding look x) ≡ true) cast.xs
         (λ x fits. ap (λ (p : Phase). answers_phase stage.setting.layout.block s.c.stamp x.seat p (finding look x)) phase ∙ fits)
-        (told_fits stage cast logs lore s group s.c.stamp (Want.Seat j) above);
+        (told_fits stage cast logs lore s.c.stamp (Want.Seat j));
     answers_later = λ x t. ap (λ (p : Phase). answers_phase stage.setting.layout.block s.c.stamp x.seat p (Later t)) phase;
     unfull = λ x log. refl;
     unrefused = λ x log. refl;

@@ -45,6 +45,31 @@ pub record IsSet (stage : Stage) (cast : Cast stage) (logs : ℕ → List Versio
   pub tame : Holds (TameWith stage s.c.stamp logs) s.parts cast.xs
   pub later : stamp_same s.c.stamp first_stamp ≡ false
 
+module _ (stage : Stage) (cast : Cast stage) (logs : ℕ → List Version) (lore : Lore stage cast logs) (bound : Stamp) (want : Want) where
+  -- what is told below the bound answers the phase
+  pub told_fits : Each (λ x. may_be_found (cond (is_wanted want x.seat) stage.setting.layout.block 0) bound (told_below logs bound want x) ≡ true) cast.xs
+  told_fits =
+      each_then (λ (x : Seated). (k : ℕ) (version : Version) → slice_get (logs x.brick.0) k ≡ Some version
+      → length version.block ≡ stage.setting.layout.block)
+      (λ (x : Seated). may_be_found (cond (is_wanted want x.seat) stage.setting.layout.block 0) bound (told_below logs bound want x) ≡ true) cast.xs
+      (λ x long. go x long (told_below logs bound want x) refl) lore.blocks
+    where
+      long_so : (wanted : Bool) (block : List ℕ) → length block ≡ stage.setting.layout.block
+          → length (cond wanted block []) ≡ cond wanted stage.setting.layout.block 0
+      long_so true block long = long
+      long_so false block long = refl
+
+      go : (x : Seated) → ((k : ℕ) (version : Version) → slice_get (logs x.brick.0) k ≡ Some version → length version.block ≡ stage.setting.layout.block)
+          → (z : Option Version) → told_below logs bound want x ≡ z → may_be_found (cond (is_wanted want x.seat) stage.setting.layout.block 0) bound z ≡ true
+      go x long None is = refl
+      go x long (Some version) is =
+          let told = told_facts logs bound want x version is in
+          and_from (nat_eq (length version.block) (cond (is_wanted want x.seat) stage.setting.layout.block 0)) (stamp_below version.stamp bound)
+          (eq-eqb (length version.block) (cond (is_wanted want x.seat) stage.setting.layout.block 0)
+          (ap (λ (l : List ℕ). length l) told.block_is
+          ∙ long_so (is_wanted want x.seat) told.inner.block (long told.facts.place told.inner told.facts.stands)))
+          (subst (λ (z : Stamp). stamp_below z bound ≡ true) told.stamp_is told.facts.lower)
+
 -- the scene once the quorum has replied
 abbrev pub replied : Stage → Scene → ℕ → (ℕ → Part) → List Seated → (ℕ → Part) → Scene
 replied stage s known parts others before = record s { known = known; parts = parts; queue = told_all stage s.c others before }
@@ -221,34 +246,6 @@ module _ (stage : Stage) (cast : Cast stage) (logs : ℕ → List Version) (lore
           (λ (x : Seated). (stamp_below s.c.stamp (top_of (parts x.brick.0).replica) ≡ false) × Room stage (parts x.brick.0)) cast.xs
           (λ x h. (h.tame, h.room)) tame)))
 
-  -- what is told below the bound answers the phase
-  pub told_fits : Each (λ x. may_be_found (cond (is_wanted want x.seat) stage.setting.layout.block 0) bound (g x) ≡ true) cast.xs
-  told_fits =
-      each_then (λ (x : Seated). (k : ℕ) (version : Version) → slice_get (logs x.brick.0) k ≡ Some version
-      → length version.block ≡ stage.setting.layout.block)
-      (λ (x : Seated). may_be_found (cond (is_wanted want x.seat) stage.setting.layout.block 0) bound (g x) ≡ true) cast.xs
-      (λ x long. go x long (g x) refl) lore.blocks
-    where
-      long_so : (wanted : Bool) (block : List ℕ) → length block ≡ stage.setting.layout.block
-          → length (cond wanted block []) ≡ cond wanted stage.setting.layout.block 0
-      long_so true block long = long
-      long_so false block long = refl
-
-      go : (x : Seated) → ((k : ℕ) (version : Version) → slice_get (logs x.brick.0) k ≡ Some version → length version.block ≡ stage.setting.layout.block)
-          → (z : Option Version) → g x ≡ z → may_be_found (cond (is_wanted want x.seat) stage.setting.layout.block 0) bound z ≡ true
-      go x long None is = refl
-      go x long (Some version) is =
-          let told = told_facts logs bound want x version is in
-          and_from (nat_eq (length version.block) (cond (is_wanted want x.seat) stage.setting.layout.block 0)) (stamp_below version.stamp bound)
-          (eq-eqb (length version.block) (cond (is_wanted want x.seat) stage.setting.layout.block 0)
-          (ap (λ (l : List ℕ). length l) told.block_is
-          ∙ long_so (is_wanted want x.seat) told.inner.block (long told.facts.place told.inner told.facts.stands)))
-          (subst (λ (z : Stamp). stamp_below z bound ≡ true) told.stamp_is told.facts.lower)
-
--- the greatest number of a phase that counts, but one
-abbrev pub last_phase : ℕ
-last_phase = 2 ^ 32 - 1
-
 -- a phase that looks below this bound closes, whose versions below are this many at most
 abbrev pub DownCloses : (stage : Stage) (cast : Cast stage) (logs : ℕ → List Version) → Lore stage cast logs → ℕ → Type 0
 DownCloses stage cast logs lore n =
@@ -273,7 +270,7 @@ down_step stage cast logs lore n s bound set phase above early lower =
     (each_then (λ (x : Seated). may_be_found stage.setting.layout.block bound (found x) ≡ true)
     (λ (x : Seated). answers_phase stage.setting.layout.block s.c.stamp x.seat s.c.phase (finding found x) ≡ true) cast.xs
     (λ x fits. ap (λ (p : Phase). answers_phase stage.setting.layout.block s.c.stamp x.seat p (finding found x)) phase ∙ fits)
-    (told_fits stage cast logs lore s set.open_is.group bound Want.All above))
+    (told_fits stage cast logs lore bound Want.All))
     (λ before parts tame.
     let known : ℕ = known_then stage s (finding found) cast.xs set.open_is.stale in
     subst (λ (z : Next). Carries stage (replied stage s known parts set.open_is.others before) z)

@@ -91,9 +91,9 @@ module _ (stage : Stage) (cast : Cast stage) (logs : ℕ → List Version) (lore
   abbrev pub recover_goes : List Counted → Next
   recover_goes counted = read_back stage.setting.layout.block stage.setting.code (having s.c counted) (greatest_found counted)
 
-  pub recover_ordering : s.c.phase ≡ Recovers → s.c.group ≡ stage.group → stamp_below lore.floor s.c.stamp ≡ true
+  pub recover_ordering : s.c.phase ≡ Recovers
       → IsOrdering stage cast logs s (looking (Below s.c.stamp) Want.All) recover_goes
-  recover_ordering phase group above = record {
+  recover_ordering phase = record {
     so = reads_whole stage s.c (Below s.c.stamp) Want.All (recovers_ask stage s.c phase);
     fits = λ x seated. read_fits stage s.c s.c.stamp (Below s.c.stamp) Want.All x (recovers_ask stage s.c phase x);
     answers = each_then (λ (x : Seated). may_be_found stage.setting.layout.block s.c.stamp (told_below logs s.c.stamp Want.All x) ≡ true)
@@ -101,7 +101,7 @@ module _ (stage : Stage) (cast : Cast stage) (logs : ℕ → List Version) (lore
         (finding (told_below logs s.c.stamp Want.All) x) ≡ true) cast.xs
         (λ x fits. ap (λ (p : Phase). answers_phase stage.setting.layout.block s.c.stamp x.seat p
         (finding (told_below logs s.c.stamp Want.All) x)) phase ∙ fits)
-        (told_fits stage cast logs lore s group s.c.stamp Want.All above);
+        (told_fits stage cast logs lore s.c.stamp Want.All);
     answers_later = λ x t. ap (λ (p : Phase). answers_phase stage.setting.layout.block s.c.stamp x.seat p (Later t)) phase;
     unfull = λ x log. refl;
     unrefused = λ x log. refl;
