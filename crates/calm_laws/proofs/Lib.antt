@@ -7,6 +7,7 @@ pub mod Finds
 pub mod FirstRounds
 pub mod Hearing
 pub mod Logs
+pub mod Looking
 pub mod OrderPhases
 pub mod OrderRuns
 pub mod Ordering
@@ -14,5 +15,6 @@ pub mod PhaseRuns
 pub mod Rooms
 pub mod Rounds
 pub mod Scenes
+pub mod Starts
 pub mod StorePhases
 pub mod Storing

@@ -27,7 +27,7 @@ use Rattle.protocol.specs.declared.phases.Phase.{Phase}
 use Rattle.protocol.specs.declared.phases.Phase.TheVariants.{Descends, Orders, Recovers, Stores}
 
 -- a coordinator goes on to its next phase
-after_in_phase : (c : Coordinator) (counted : List Counted) (phase : Phase) → IsAfter c (in_phase (having c counted) phase)
+pub after_in_phase : (c : Coordinator) (counted : List Counted) (phase : Phase) → IsAfter c (in_phase (having c counted) phase)
 after_in_phase c counted phase = record {
   same = record { group = refl; boot = refl; seq = refl; of_group = refl; view = refl; stripe = refl };
   later = refl;

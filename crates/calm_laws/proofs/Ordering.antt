@@ -126,7 +126,7 @@ found_facts bound log version is =
     }
 
 -- a version is told with its stamp
-told_from : (wanted : Bool) (found : Option Version) (version : Version) → told_version wanted found ≡ Some version
+pub told_from : (wanted : Bool) (found : Option Version) (version : Version) → told_version wanted found ≡ Some version
     → (inner : Version) × (found ≡ Some inner) × (inner.stamp ≡ version.stamp) × (version.block ≡ cond wanted inner.block [])
 told_from true None version is = cc
 told_from false None version is = cc

@@ -138,7 +138,7 @@ pub record IsAfter (c d : Coordinator) : Type 0 where
   pub counted : d.counted ≡ []
 
 -- replies to the phase before are stale
-stale_then : (stage : Stage) (c d : Coordinator) → IsAfter c d → (packets : List Packet) → Each (IsReply stage c.call) packets
+pub stale_then : (stage : Stage) (c d : Coordinator) → IsAfter c d → (packets : List Packet) → Each (IsReply stage c.call) packets
     → Each (IsStale stage d) packets
 stale_then stage c d after packets replies =
     each_then (IsReply stage c.call) (IsStale stage d) packets

@@ -95,7 +95,7 @@ abbrev pub MixedWith : Stage → Stamp → (ℕ → Stamp) → (ℕ → List Ver
 MixedWith stage t tops logs i part = IsMixed stage t (tops i) (logs i) part
 
 -- a part that stays has room as before
-stays_room : (stage : Stage) (part : Part) (reply : Reply) → Room stage part → Room stage (with_reaction part (stays part.replica reply))
+pub stays_room : (stage : Stage) (part : Part) (reply : Reply) → Room stage part → Room stage (with_reaction part (stays part.replica reply))
 stays_room stage part reply (inl two) = inl (omega arith)
 stays_room stage part reply (inr one) = let low = one.0 in inr (omega (arith, low), one.1)
 
