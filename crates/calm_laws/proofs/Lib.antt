@@ -12,6 +12,7 @@ pub mod OrderPhases
 pub mod OrderRuns
 pub mod Ordering
 pub mod PhaseRuns
+pub mod Queues
 pub mod Rooms
 pub mod Rounds
 pub mod Scenes

@@ -13,6 +13,7 @@ use Rattle.calm_laws.proofs.OrderPhases.{after_in_phase}
 use Rattle.calm_laws.proofs.OrderRuns.{IsUnheld}
 use Rattle.calm_laws.proofs.Ordering.{told_from}
 use Rattle.calm_laws.proofs.PhaseRuns.{Cast, known_then, open_run, stale_then}
+use Rattle.calm_laws.proofs.Queues.{waiting}
 use Rattle.calm_laws.proofs.Rooms.{Room}
 use Rattle.calm_laws.proofs.Rounds.{stays_room}
 use Rattle.calm_laws.proofs.Scenes.{Closes, Each, Fits, Part, Scene, Seated, Stage, asked_of, part_after, reaction, sent}
