@@ -37,7 +37,7 @@ asks_pass stage (x ∷ xs) s rest is seated fits closes =
     (told_all stage s.c xs (put s.parts x.brick.0 (part_after stage s.c (s.parts x.brick.0) x))))) closes))
 
 -- another brick's part, or the changed one
-put_cases : {A : Type 0} (f : ℕ → A) (k : ℕ) (v : A) (i : ℕ) → ((i ≡ k) × (put f k v i ≡ v)) ⊎ (put f k v i ≡ f i)
+pub put_cases : {A : Type 0} (f : ℕ → A) (k : ℕ) (v : A) (i : ℕ) → ((i ≡ k) × (put f k v i ≡ v)) ⊎ (put f k v i ≡ f i)
 put_cases f k v i = ⊎_elim
     (λ (same : i ≡ k). inl (same, ap (λ (b : Bool). cond b v (f i)) (eq-eqb i k same)))
     (λ (other : i ≢ k). inr (ap (λ (b : Bool). cond b v (f i)) (ne_eqb i k other)))

@@ -12,10 +12,12 @@ pub mod OrderPhases
 pub mod OrderRuns
 pub mod Ordering
 pub mod PhaseRuns
+pub mod Plays
 pub mod Queues
 pub mod Rooms
 pub mod Rounds
 pub mod Scenes
+pub mod Shows
 pub mod Starts
 pub mod StorePhases
 pub mod Storing
