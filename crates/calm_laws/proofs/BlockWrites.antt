@@ -6,7 +6,7 @@ use Rattle.std.specs.Prelude.{nat_eq, slice_get, ◌-◌, ◌^◌}
 use Rattle.calm_laws.proofs.Asking.{Holds, each_then}
 use Rattle.calm_laws.proofs.Counts.{Carries, counted_of, told}
 use Rattle.calm_laws.proofs.Decided.{order_at_decides}
-use Rattle.calm_laws.proofs.Descending.{Lore, having, replied, told_fits}
+use Rattle.calm_laws.proofs.Descending.{Lore, after_replies, having, told_fits}
 use Rattle.calm_laws.proofs.Finds.{finding, total_below}
 use Rattle.calm_laws.proofs.Logs.{LogAscends}
 use Rattle.calm_laws.proofs.OrderPhases.{lower_closes}
@@ -143,12 +143,12 @@ module _ (stage : Stage) (cast : Cast stage) (logs : ℕ → List Version) (lore
       → ((old new : List ℕ) → length old ≡ stage.setting.layout.block → length new ≡ stage.setting.layout.block
       → length (stage.setting.code.delta old new) ≡ stage.setting.layout.block)
       → (others : List Seated) (before parts : ℕ → Part) (known : ℕ) → Holds (TameWith stage s.c.stamp logs) parts cast.xs
-      → Carries stage (replied stage s known parts others before) (block_goes looked)
+      → Carries stage (after_replies stage s known parts others before) (block_goes looked)
   block_accepted group later early above unheld below_m written deltas others before parts known tame =
       go (common_version_at j looked) refl
     where
       go : (z : Option Stamp) → common_version_at j looked ≡ z
-          → Carries stage (replied stage s known parts others before) (modified_if stage.setting.code (having s.c looked) j z)
+          → Carries stage (after_replies stage s known parts others before) (modified_if stage.setting.code (having s.c looked) j z)
       go None is =
           (record { group = refl; boot = refl; seq = refl; of_group = refl; view = refl; stripe = refl },
           lower_closes stage cast logs lore s group later early others before parts known looked s.c.stamp tame above (omega arith))
@@ -156,9 +156,9 @@ module _ (stage : Stage) (cast : Cast stage) (logs : ℕ → List Version) (lore
           let common = common_parts j looked v is in
           let found = each_finds look v cast.xs (common_found looked v common.1) in
           (record { group = refl; boot = refl; seq = refl; of_group = refl; view = refl; stripe = refl },
-          modify_phase stage cast (made stage (replied stage s known parts others before) (modifying stage.setting.code (having s.c looked) v j)) v j
+          modify_phase stage cast (made stage (after_replies stage s known parts others before) (modifying stage.setting.code (having s.c looked) v j)) v j
           (next_open stage cast s.c (modifying stage.setting.code (having s.c looked) v j) others before
-          (made stage (replied stage s known parts others before) (modifying stage.setting.code (having s.c looked) v j)) group
+          (made stage (after_replies stage s known parts others before) (modifying stage.setting.code (having s.c looked) v j)) group
           (record {
             same = record { group = refl; boot = refl; seq = refl; of_group = refl; view = refl; stripe = refl };
             later = refl;

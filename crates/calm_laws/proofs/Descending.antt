@@ -71,8 +71,8 @@ module _ (stage : Stage) (cast : Cast stage) (logs : ℕ → List Version) (lore
           (subst (λ (z : Stamp). stamp_below z bound ≡ true) told.stamp_is told.facts.lower)
 
 -- the scene once the quorum has replied
-abbrev pub replied : Stage → Scene → ℕ → (ℕ → Part) → List Seated → (ℕ → Part) → Scene
-replied stage s known parts others before = record s { known = known; parts = parts; queue = told_all stage s.c others before }
+abbrev pub after_replies : Stage → Scene → ℕ → (ℕ → Part) → List Seated → (ℕ → Part) → Scene
+after_replies stage s known parts others before = record s { known = known; parts = parts; queue = told_all stage s.c others before }
 
 -- the coordinator with these replies
 abbrev pub having : Coordinator → List Counted → Coordinator
@@ -205,19 +205,19 @@ module _ (stage : Stage) (cast : Cast stage) (logs : ℕ → List Version) (lore
   pub read_back_goes : (others : List Seated) (before parts : ℕ → Part) (known : ℕ) → Holds (TameWith stage s.c.stamp logs) parts cast.xs
       → s.c.call.phase + 1 < 2 ^ 32 - 1
       → ((v : Stamp) → stamp_below lore.floor v ≡ true → total_below logs v cast.xs + 1 ≤ total_below logs bound cast.xs
-      → Closes stage (sent stage (replied stage s known parts others before) (in_phase (having s.c counted) (Descends v))))
-      → Carries stage (replied stage s known parts others before)
+      → Closes stage (sent stage (after_replies stage s known parts others before) (in_phase (having s.c counted) (Descends v))))
+      → Carries stage (after_replies stage s known parts others before)
       (read_back stage.setting.layout.block stage.setting.code (having s.c counted) (greatest_found counted))
   read_back_goes others before parts known tame early lower = go (greatest_found counted) refl
     where
       go : (z : Option Stamp) → greatest_found counted ≡ z
-          → Carries stage (replied stage s known parts others before)
+          → Carries stage (after_replies stage s known parts others before)
           (read_back stage.setting.layout.block stage.setting.code (having s.c counted) z)
       go None is = absurd (found_some is)
       go (Some v) is =
           cond_both (nat_lt (length (pieces_at v counted)) s.c.group.m) (Sends (in_phase (having s.c counted) (Descends v)))
           (Makes (restoring stage.setting.layout.block (having s.c counted) v (stage.setting.code.decode s.c.group.m (pieces_at v counted))))
-          (λ (z : Next). Carries stage (replied stage s known parts others before) z)
+          (λ (z : Next). Carries stage (after_replies stage s known parts others before) z)
           (λ few.
           let same : s.c.group.m ≡ stage.group.m = ap (λ (y : Group). y.m) group in
           let less : length (pieces_at v counted) < s.c.group.m = ltb-true (length (pieces_at v counted)) s.c.group.m few in
@@ -226,12 +226,12 @@ module _ (stage : Stage) (cast : Cast stage) (logs : ℕ → List Version) (lore
           (λ enough.
           (record { group = refl; boot = refl; seq = refl; of_group = refl; view = refl; stripe = refl },
           store_phase stage cast
-          (made stage (replied stage s known parts others before)
+          (made stage (after_replies stage s known parts others before)
           (restoring stage.setting.layout.block (having s.c counted) v (stage.setting.code.decode s.c.group.m (pieces_at v counted))))
           (next_open stage cast s.c
           (restoring stage.setting.layout.block (having s.c counted) v (stage.setting.code.decode s.c.group.m (pieces_at v counted)))
           others before
-          (made stage (replied stage s known parts others before)
+          (made stage (after_replies stage s known parts others before)
           (restoring stage.setting.layout.block (having s.c counted) v (stage.setting.code.decode s.c.group.m (pieces_at v counted))))
           group
           (record {
@@ -273,15 +273,15 @@ down_step stage cast logs lore n s bound set phase above early lower =
     (told_fits stage cast logs lore bound Want.All))
     (λ before parts tame.
     let known : ℕ = known_then stage s (finding found) cast.xs set.open_is.stale in
-    subst (λ (z : Next). Carries stage (replied stage s known parts set.open_is.others before) z)
+    subst (λ (z : Next). Carries stage (after_replies stage s known parts set.open_is.others before) z)
     (sym (descend_decides stage.setting.layout.block stage.setting.code (fresh_at stage s.c known) (having s.c all)
     (none_full (finding found) (λ x. refl) cast.xs) bound phase (none_refuses (finding found) (λ x. refl) cast.xs)))
     (read_back_goes stage cast logs lore s set.open_is.group bound Want.All above set.open_is.others before parts known tame (omega (arith, early))
     (λ v over falls.
-    lower (sent stage (replied stage s known parts set.open_is.others before) (in_phase (having s.c all) (Descends v))) v
+    lower (sent stage (after_replies stage s known parts set.open_is.others before) (in_phase (having s.c all) (Descends v))) v
     (record {
       open_is = next_open stage cast s.c (in_phase (having s.c all) (Descends v)) set.open_is.others before
-          (sent stage (replied stage s known parts set.open_is.others before) (in_phase (having s.c all) (Descends v))) set.open_is.group
+          (sent stage (after_replies stage s known parts set.open_is.others before) (in_phase (having s.c all) (Descends v))) set.open_is.group
           (record {
             same = record { group = refl; boot = refl; seq = refl; of_group = refl; view = refl; stripe = refl };
             later = refl;

@@ -5,7 +5,7 @@ use Rattle.std.proofs.lemmas.Bool.Decides.{nat_tests}
 use Rattle.std.specs.Prelude.{nat_lt, ◌-◌, ◌^◌}
 use Rattle.calm_laws.proofs.Asking.{Holds, each_then}
 use Rattle.calm_laws.proofs.Counts.{Carries, counted_of, fresh_at, told}
-use Rattle.calm_laws.proofs.Descending.{IsSet, having, replied}
+use Rattle.calm_laws.proofs.Descending.{IsSet, after_replies, having}
 use Rattle.calm_laws.proofs.Hearing.{known_through}
 use Rattle.calm_laws.proofs.Logs.{LogAscends}
 use Rattle.calm_laws.proofs.OrderRuns.{IsOrdering, IsUnheld, at_most_below, ordering_run, unheld_above}
@@ -67,9 +67,9 @@ time_left known low = grind (arith, nat_tests)
 abbrev pub Again : (stage : Stage) (cast : Cast stage) → (ℕ → List Version) → Scene → List Seated → Type 0
 Again stage cast logs s others =
     (before parts : ℕ → Part) (known : ℕ) (counted : List Counted) → s.known ≤ known
-    → IsSet stage cast logs (sent stage (replied stage s known parts others before) (reordering (having s.c counted) (second_stamp stage s.c known)))
+    → IsSet stage cast logs (sent stage (after_replies stage s known parts others before) (reordering (having s.c counted) (second_stamp stage s.c known)))
     → IsUnheld logs (second_stamp stage s.c known) cast.xs
-    → Closes stage (sent stage (replied stage s known parts others before) (reordering (having s.c counted) (second_stamp stage s.c known)))
+    → Closes stage (sent stage (after_replies stage s known parts others before) (reordering (having s.c counted) (second_stamp stage s.c known)))
 
 module _ (stage : Stage) (cast : Cast stage) (logs : ℕ → List Version) (s : Scene) (answer : Seated → List Version → Reply)
     (goes : List Counted → Next) (ordering : IsOrdering stage cast logs s answer goes) (first : IsFirst stage cast logs s)
@@ -144,7 +144,7 @@ module _ (stage : Stage) (cast : Cast stage) (logs : ℕ → List Version) (s : 
   -- a first round closes, where it goes on well, and the second round does
   pub ordering_first : ((y : Seated) (log : List Version) → told_time (answer y log) ≡ 0)
       → ((before parts : ℕ → Part) (known : ℕ) → Holds (TameWith stage s.c.stamp logs) parts cast.xs
-      → Carries stage (replied stage s known parts first.open_is.others before) (goes (map (counted_of (λ x. answer x (logs x.brick.0))) cast.xs)))
+      → Carries stage (after_replies stage s known parts first.open_is.others before) (goes (map (counted_of (λ x. answer x (logs x.brick.0))) cast.xs)))
       → Again stage cast logs s first.open_is.others → Closes stage s
   ordering_first silent accepted again =
       ordering_run stage cast logs s answer goes ordering first.open_is early_phase (not_first s.c.stamp first.view) tops
@@ -154,7 +154,7 @@ module _ (stage : Stage) (cast : Cast stage) (logs : ℕ → List Version) (s : 
       (λ x start. record { log_is = start.0; room = start.1; same = refl; kept = λ above. refl }) first.starts)
       accepted
       (λ before parts r mixed is.
-      subst (λ (z : Next). Carries stage (replied stage s known parts first.open_is.others before) z) (sym (tried r))
+      subst (λ (z : Next). Carries stage (after_replies stage s known parts first.open_is.others before) z) (sym (tried r))
       (record { group = refl; boot = refl; seq = refl; of_group = refl; view = refl; stripe = refl },
       second before parts (second_set parts cast.xs mixed first.starts first.ascends
       (through_told stage s.c.call f cast.xs (known_through first.open_is.stale s.known)))))
@@ -170,13 +170,13 @@ module _ (stage : Stage) (cast : Cast stage) (logs : ℕ → List Version) (s : 
 
       second : (before parts : ℕ → Part)
           → Holds (TameWith stage (second_stamp stage s.c known) logs) parts cast.xs × IsUnheld logs (second_stamp stage s.c known) cast.xs
-          → Closes stage (sent stage (replied stage s known parts first.open_is.others before)
+          → Closes stage (sent stage (after_replies stage s known parts first.open_is.others before)
           (reordering (having s.c counted) (second_stamp stage s.c known)))
       second before parts tame =
           again before parts known counted known_grows
           (record {
             open_is = next_open stage cast s.c (reordering (having s.c counted) (second_stamp stage s.c known)) first.open_is.others before
-                (sent stage (replied stage s known parts first.open_is.others before) (reordering (having s.c counted) (second_stamp stage s.c known)))
+                (sent stage (after_replies stage s known parts first.open_is.others before) (reordering (having s.c counted) (second_stamp stage s.c known)))
                 first.open_is.group
                 (record {
                   same = record { group = refl; boot = refl; seq = refl; of_group = refl; view = refl; stripe = refl };

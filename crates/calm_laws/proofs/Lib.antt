@@ -6,6 +6,7 @@ pub mod Descending
 pub mod Finds
 pub mod FirstRounds
 pub mod Hearing
+pub mod Hears
 pub mod Logs
 pub mod Looking
 pub mod OrderPhases

@@ -5,7 +5,7 @@ use Rattle.std.specs.Prelude.{max, nat_eq, slice_get, ◌^◌}
 use Rattle.calm_laws.proofs.Asking.{Holds, Keeps, Replies, each_then, told_all, told_replies}
 use Rattle.calm_laws.proofs.Counts.{Carries, counted_of, decides, fresh_at, told}
 use Rattle.calm_laws.proofs.Decided.{asked_in_phase, look_at_decides, look_decides, none_full}
-use Rattle.calm_laws.proofs.Descending.{Lore, having, replied}
+use Rattle.calm_laws.proofs.Descending.{Lore, after_replies, having}
 use Rattle.calm_laws.proofs.FirstRounds.{IsFirst, IsLow}
 use Rattle.calm_laws.proofs.Hearing.{known_through}
 use Rattle.calm_laws.proofs.Logs.{newest_stands}
@@ -176,7 +176,7 @@ module _ (stage : Stage) (cast : Cast stage) (logs : ℕ → List Version) (lore
 
   -- the recovery that follows is in its first round
   recovery_first : (counted : List Counted) (before parts : ℕ → Part) (known : ℕ) → known ≡ s.known → Holds (IsStill stage replicas) parts cast.xs
-      → IsFirst stage cast logs (sent stage (replied stage s known parts first.open_is.others before) (in_phase (having s.c counted) Recovers))
+      → IsFirst stage cast logs (sent stage (after_replies stage s known parts first.open_is.others before) (in_phase (having s.c counted) Recovers))
   recovery_first counted before parts known same still =
       let low = first.known_early in
       let own = first.stamp_known in
@@ -240,12 +240,12 @@ module _ (stage : Stage) (cast : Cast stage) (logs : ℕ → List Version) (lore
       go : (before parts : ℕ → Part) → Holds (IsStill stage replicas) parts cast.xs
           → (decides stage s.c known counted ≡ Sends (in_phase (having s.c counted) Recovers))
           ⊎ ((bytes : List ℕ) × (seen : Option Stamp) × (decides stage s.c known counted ≡ Ends (Data bytes) seen None))
-          → Carries stage (replied stage s known parts first.open_is.others before) (decides stage s.c known counted)
+          → Carries stage (after_replies stage s known parts first.open_is.others before) (decides stage s.c known counted)
       go before parts still (inl is) =
-          subst (λ (z : Next). Carries stage (replied stage s known parts first.open_is.others before) z) (sym is)
+          subst (λ (z : Next). Carries stage (after_replies stage s known parts first.open_is.others before) z) (sym is)
           (record { group = refl; boot = refl; seq = refl; of_group = refl; view = refl; stripe = refl },
           recover_first stage cast logs lore few
-          (sent stage (replied stage s known parts first.open_is.others before) (in_phase (having s.c counted) Recovers))
+          (sent stage (after_replies stage s known parts first.open_is.others before) (in_phase (having s.c counted) Recovers))
           (recovery_first counted before parts known known_is still) refl (omega (arith, early)) unheld)
       go before parts still (inr is) =
-          subst (λ (z : Next). Carries stage (replied stage s known parts first.open_is.others before) z) (sym is.2) refl
+          subst (λ (z : Next). Carries stage (after_replies stage s known parts first.open_is.others before) z) (sym is.2) refl

@@ -4,7 +4,7 @@ use Rattle.std.specs.Prelude.{◌-◌, ◌^◌}
 use Rattle.calm_laws.proofs.Asking.{Holds, each_then}
 use Rattle.calm_laws.proofs.Counts.{Carries, counted_of}
 use Rattle.calm_laws.proofs.Decided.{order_decides, recover_decides}
-use Rattle.calm_laws.proofs.Descending.{IsSet, Lore, down_phase, having, read_back_goes, replied, told_fits}
+use Rattle.calm_laws.proofs.Descending.{IsSet, Lore, after_replies, down_phase, having, read_back_goes, told_fits}
 use Rattle.calm_laws.proofs.Finds.{Has, finding, some_of, total_below}
 use Rattle.calm_laws.proofs.Logs.{LogAscends}
 use Rattle.calm_laws.proofs.OrderRuns.{IsOrdering, IsUnheld, held_below}
@@ -74,13 +74,13 @@ module _ (stage : Stage) (cast : Cast stage) (logs : ℕ → List Version) (lore
 
   pub write_accepted : s.c.group ≡ stage.group → s.c.call.phase + 1 < 2 ^ 32 - 1 → (others : List Seated) (before parts : ℕ → Part) (known : ℕ)
       → Holds (TameWith stage s.c.stamp logs) parts cast.xs
-      → Carries stage (replied stage s known parts others before) (write_goes (map (counted_of (λ x. Ordered)) cast.xs))
+      → Carries stage (after_replies stage s known parts others before) (write_goes (map (counted_of (λ x. Ordered)) cast.xs))
   write_accepted group early others before parts known tame =
       (record { group = refl; boot = refl; seq = refl; of_group = refl; view = refl; stripe = refl },
       store_phase stage cast
-      (made stage (replied stage s known parts others before) (in_phase (having s.c (map (counted_of (λ x. Ordered)) cast.xs)) Stores))
+      (made stage (after_replies stage s known parts others before) (in_phase (having s.c (map (counted_of (λ x. Ordered)) cast.xs)) Stores))
       (next_open stage cast s.c (in_phase (having s.c (map (counted_of (λ x. Ordered)) cast.xs)) Stores) others before
-      (made stage (replied stage s known parts others before) (in_phase (having s.c (map (counted_of (λ x. Ordered)) cast.xs)) Stores)) group
+      (made stage (after_replies stage s known parts others before) (in_phase (having s.c (map (counted_of (λ x. Ordered)) cast.xs)) Stores)) group
       (after_in_phase s.c (map (counted_of (λ x. Ordered)) cast.xs) Stores) refl refl)
       refl early (λ x seated. lore.encodes s.c.group.m s.c.content x.seat)
       (each_then (λ (x : Seated). TameWith stage s.c.stamp logs x.brick.0 (parts x.brick.0))
@@ -115,13 +115,13 @@ module _ (stage : Stage) (cast : Cast stage) (logs : ℕ → List Version) (lore
       → (others : List Seated) (before parts : ℕ → Part) (known : ℕ) (counted : List Counted) (v : Stamp)
       → Holds (TameWith stage s.c.stamp logs) parts cast.xs → stamp_below lore.floor v ≡ true
       → total_below logs v cast.xs ≤ total_below logs s.c.stamp cast.xs
-      → Closes stage (sent stage (replied stage s known parts others before) (in_phase (having s.c counted) (Descends v)))
+      → Closes stage (sent stage (after_replies stage s known parts others before) (in_phase (having s.c counted) (Descends v)))
   lower_closes group later early others before parts known counted v tame above few =
       down_phase stage cast logs lore (total_below logs s.c.stamp cast.xs)
-      (sent stage (replied stage s known parts others before) (in_phase (having s.c counted) (Descends v))) v
+      (sent stage (after_replies stage s known parts others before) (in_phase (having s.c counted) (Descends v))) v
       (record {
         open_is = next_open stage cast s.c (in_phase (having s.c counted) (Descends v)) others before
-            (sent stage (replied stage s known parts others before) (in_phase (having s.c counted) (Descends v))) group
+            (sent stage (after_replies stage s known parts others before) (in_phase (having s.c counted) (Descends v))) group
             (after_in_phase s.c counted (Descends v)) refl refl;
         tame = tame;
         later = later;
@@ -131,7 +131,7 @@ module _ (stage : Stage) (cast : Cast stage) (logs : ℕ → List Version) (lore
   pub recover_accepted : s.c.group ≡ stage.group → stamp_same s.c.stamp first_stamp ≡ false
       → s.c.call.phase + total_below logs s.c.stamp cast.xs + 3 ≤ 2 ^ 32 - 1 → stamp_below lore.floor s.c.stamp ≡ true
       → (others : List Seated) (before parts : ℕ → Part) (known : ℕ) → Holds (TameWith stage s.c.stamp logs) parts cast.xs
-      → Carries stage (replied stage s known parts others before)
+      → Carries stage (after_replies stage s known parts others before)
       (recover_goes (map (counted_of (λ x. looking (Below s.c.stamp) Want.All x (logs x.brick.0))) cast.xs))
   recover_accepted group later early above others before parts known tame =
       read_back_goes stage cast logs lore s group s.c.stamp Want.All above others before parts known tame (omega (arith, early))

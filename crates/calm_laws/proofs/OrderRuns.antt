@@ -5,7 +5,7 @@ use Rattle.std.specs.Prelude.{◌-◌, ◌^◌}
 use Rattle.calm_laws.proofs.Asking.{Holds, each_then}
 use Rattle.calm_laws.proofs.Counts.{Carries, counted_of, fresh_at}
 use Rattle.calm_laws.proofs.Decided.{none_full, none_refuses}
-use Rattle.calm_laws.proofs.Descending.{having, replied}
+use Rattle.calm_laws.proofs.Descending.{after_replies, having}
 use Rattle.calm_laws.proofs.Logs.{IsWithin, LogAscends, newest_greatest}
 use Rattle.calm_laws.proofs.Ordering.{TameWith}
 use Rattle.calm_laws.proofs.PhaseRuns.{Cast, IsOpen, known_then, open_run}
@@ -111,10 +111,10 @@ module _ (stage : Stage) (cast : Cast stage) (logs : ℕ → List Version) (s : 
   -- it goes on where all promise, and is tried again where one refuses
   pub ordering_run : (tops : ℕ → Stamp) → Holds (MixedWith stage s.c.stamp tops logs) s.parts cast.xs
       → ((before parts : ℕ → Part) (known : ℕ) → Holds (TameWith stage s.c.stamp logs) parts cast.xs
-      → Carries stage (replied stage s known parts open_is.others before) (goes (map (counted_of (λ x. answer x (logs x.brick.0))) cast.xs)))
+      → Carries stage (after_replies stage s known parts open_is.others before) (goes (map (counted_of (λ x. answer x (logs x.brick.0))) cast.xs)))
       → ((before parts : ℕ → Part) (r : Refuser) → Holds (MixedWith stage s.c.stamp tops logs) parts cast.xs
       → greatest_refuser (counts_of tops) ≡ Some r
-      → Carries stage (replied stage s (known_of tops) parts open_is.others before)
+      → Carries stage (after_replies stage s (known_of tops) parts open_is.others before)
       (ordered_again (fresh_at stage s.c (known_of tops)) (having s.c (counts_of tops)) r))
       → Closes stage s
   ordering_run tops mixed accepted refused =
@@ -126,17 +126,17 @@ module _ (stage : Stage) (cast : Cast stage) (logs : ℕ → List Version) (s : 
       (λ (r : Reply). answers_phase stage.setting.layout.block s.c.stamp x.seat s.c.phase r ≡ true)
       (λ above. ordering.answers_later x (tops x.brick.0)) (λ tame. fits)) ordering.answers)
       (λ before parts holds.
-      subst (λ (z : Next). Carries stage (replied stage s (known_of tops) parts open_is.others before) z)
+      subst (λ (z : Next). Carries stage (after_replies stage s (known_of tops) parts open_is.others before) z)
       (sym (ordering.decides_so (fresh_at stage s.c (known_of tops)) (counts_of tops) (none_full (replies_of tops) (unfull_mixed tops) cast.xs)))
       (go before parts holds (greatest_refuser (counts_of tops)) refl))
     where
       go : (before parts : ℕ → Part) → Holds (MixedWith stage s.c.stamp tops logs) parts cast.xs → (z : Option Refuser)
           → greatest_refuser (counts_of tops) ≡ z
-          → Carries stage (replied stage s (known_of tops) parts open_is.others before)
+          → Carries stage (after_replies stage s (known_of tops) parts open_is.others before)
           (once_ordered (fresh_at stage s.c (known_of tops)) (having s.c (counts_of tops)) z (goes (counts_of tops)))
       go before parts holds None is =
           let tame = unrefused_tame s.c.stamp tops logs answer cast.xs is in
-          subst (λ (l : List Counted). Carries stage (replied stage s (known_of tops) parts open_is.others before) (goes l))
+          subst (λ (l : List Counted). Carries stage (after_replies stage s (known_of tops) parts open_is.others before) (goes l))
           (sym (tame_counted s.c.stamp tops logs answer cast.xs tame))
           (accepted before parts (known_of tops) (tame_then tops parts cast.xs tame holds))
       go before parts holds (Some r) is = refused before parts r holds is
@@ -144,7 +144,7 @@ module _ (stage : Stage) (cast : Cast stage) (logs : ℕ → List Version) (s : 
   -- at tame parts all promise
   pub ordering_tame : Holds (TameWith stage s.c.stamp logs) s.parts cast.xs
       → ((before parts : ℕ → Part) (known : ℕ) → Holds (TameWith stage s.c.stamp logs) parts cast.xs
-      → Carries stage (replied stage s known parts open_is.others before) (goes (map (counted_of (λ x. answer x (logs x.brick.0))) cast.xs)))
+      → Carries stage (after_replies stage s known parts open_is.others before) (goes (map (counted_of (λ x. answer x (logs x.brick.0))) cast.xs)))
       → Closes stage s
   ordering_tame tame accepted =
       ordering_run tops

@@ -2,7 +2,7 @@
 use Rattle.std.proofs.Common.{List, arith, length, refl, ℕ, ◌+◌, ◌<◌, ◌≡◌, ◌≤◌}
 use Rattle.std.specs.Prelude.{◌-◌, ◌^◌}
 use Rattle.calm_laws.proofs.BlockWrites.{block_accepted, block_goes, block_ordering}
-use Rattle.calm_laws.proofs.Descending.{IsSet, Lore, having, replied}
+use Rattle.calm_laws.proofs.Descending.{IsSet, Lore, after_replies, having}
 use Rattle.calm_laws.proofs.Finds.{total_below}
 use Rattle.calm_laws.proofs.FirstRounds.{IsFirst, not_first, ordering_first, second_stamp}
 use Rattle.calm_laws.proofs.OrderPhases.{floor_below, recover_accepted, recover_goes, recover_ordering, write_accepted, write_goes, write_ordering}
@@ -46,7 +46,7 @@ module _ (stage : Stage) (cast : Cast stage) (logs : ℕ → List Version) (lore
       recover_accepted stage cast logs lore s first.open_is.group (not_first s.c.stamp first.view) (omega (arith, early, low))
       (floor_below stage cast logs lore s.c.stamp parts tame unheld) first.open_is.others before parts known tame)
       (λ before parts known counted grows set free.
-      recover_tame (sent stage (replied stage s known parts first.open_is.others before) (reordering (having s.c counted) (second_stamp stage s.c known)))
+      recover_tame (sent stage (after_replies stage s known parts first.open_is.others before) (reordering (having s.c counted) (second_stamp stage s.c known)))
       set phase (omega (arith, early)) free)
 
   -- a stripe write at tame parts
@@ -65,7 +65,7 @@ module _ (stage : Stage) (cast : Cast stage) (logs : ℕ → List Version) (lore
       (λ before parts known tame.
       write_accepted stage cast logs lore s first.open_is.group (omega (arith, early)) first.open_is.others before parts known tame)
       (λ before parts known counted grows set free.
-      write_tame (sent stage (replied stage s known parts first.open_is.others before) (reordering (having s.c counted) (second_stamp stage s.c known)))
+      write_tame (sent stage (after_replies stage s known parts first.open_is.others before) (reordering (having s.c counted) (second_stamp stage s.c known)))
       set phase (omega (arith, early)))
 
   module _ (deltas : (old new : List ℕ) → length old ≡ stage.setting.layout.block → length new ≡ stage.setting.layout.block
@@ -92,5 +92,5 @@ module _ (stage : Stage) (cast : Cast stage) (logs : ℕ → List Version) (lore
         block_accepted stage cast logs lore s j first.open_is.group (not_first s.c.stamp first.view) (omega (arith, early, low))
         (floor_below stage cast logs lore s.c.stamp parts tame unheld) unheld below_m written deltas first.open_is.others before parts known tame)
         (λ before parts known counted grows set free.
-        block_tame (sent stage (replied stage s known parts first.open_is.others before) (reordering (having s.c counted) (second_stamp stage s.c known))) j
+        block_tame (sent stage (after_replies stage s known parts first.open_is.others before) (reordering (having s.c counted) (second_stamp stage s.c known))) j
         set phase (omega (arith, early)) free below_m written)
