@@ -4,6 +4,7 @@ pub mod Counts
 pub mod Decided
 pub mod Descending
 pub mod Finds
+pub mod Finishing
 pub mod FirstRounds
 pub mod Hearing
 pub mod Hears

@@ -62,7 +62,7 @@ finishes_by stage n w s packet rest shows queue up step step_is then =
     (then head))
 
 -- a member handles what it is asked
-asked_step : (stage : Stage) (n : ℕ) (w : World) (s : Scene) (x : Seated) → Shows stage n w s → IsSeated stage x → Fits stage s.c x
+pub asked_step : (stage : Stage) (n : ℕ) (w : World) (s : Scene) (x : Seated) → Shows stage n w s → IsSeated stage x → Fits stage s.c x
     → received stage.setting x.brick (w.clocks x.brick.0) (w.nodes x.brick.0) (asking stage s.c x)
     ≡ reacted x.brick stage.me (w.nodes x.brick.0) s.c.call (reaction stage s.c (s.parts x.brick.0) x)
 unfolding received requested
@@ -105,7 +105,7 @@ reply_own stage w n brick call None number = tt
 reply_own stage w n brick call (Some reply) number = (number, tt)
 
 -- a request is delivered
-asked_move : (stage : Stage) (n : ℕ) (w : World) (s : Scene) (x : Seated) (rest : List Packet) (number : ℕ) → (shows : Shows stage n w s)
+pub asked_move : (stage : Stage) (n : ℕ) (w : World) (s : Scene) (x : Seated) (rest : List Packet) (number : ℕ) → (shows : Shows stage n w s)
     → IsSeated stage x
     → IsMove stage n w
     (world_by stage w number (asking stage s.c x)
