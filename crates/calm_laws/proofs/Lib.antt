@@ -1,5 +1,6 @@
 pub mod Asking
 pub mod BlockWrites
+pub mod Casting
 pub mod Counts
 pub mod Decided
 pub mod Descending
