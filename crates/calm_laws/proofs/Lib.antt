@@ -7,6 +7,7 @@ pub mod Descending
 pub mod Finds
 pub mod Finishing
 pub mod FirstRounds
+pub mod Floors
 pub mod Hearing
 pub mod Hears
 pub mod Logs

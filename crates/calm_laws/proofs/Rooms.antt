@@ -36,11 +36,11 @@ pub record IsTame (stage : Stage) (t : Stamp) (log : List Version) (part : Part)
   pub room : Room stage part
 
 -- the greater of two stamps is at least each
-max_left : (a b : Stamp) → stamp_below (stamp_max a b) a ≡ false
+pub max_left : (a b : Stamp) → stamp_below (stamp_max a b) a ≡ false
 max_left a b = cond_both (stamp_below a b) b a (λ (z : Stamp). stamp_below z a ≡ false)
     (λ less. stamp_below_asym a b less) (λ not_less. stamp_below_irrefl a)
 
-max_right : (a b : Stamp) → stamp_below (stamp_max a b) b ≡ false
+pub max_right : (a b : Stamp) → stamp_below (stamp_max a b) b ≡ false
 max_right a b = cond_both (stamp_below a b) b a (λ (z : Stamp). stamp_below z b ≡ false)
     (λ less. stamp_below_irrefl b) (λ not_less. not_less)
 
