@@ -102,7 +102,7 @@ told_exactly stage c Inv f keeps replies (x ∷ xs) parts holds =
 abbrev pub IsReply : Stage → Call → Packet → Type 0
 IsReply stage call packet = (from : BrickId) × (reply : Reply) × (packet ≡ replying stage from call reply)
 
-each_append : {A : Type 0} (P : A → Type 0) (xs ys : List A) → Each P xs → Each P ys → Each P (xs ++ ys)
+pub each_append : {A : Type 0} (P : A → Type 0) (xs ys : List A) → Each P xs → Each P ys → Each P (xs ++ ys)
 each_append P [] ys left right = right
 each_append P (x ∷ xs) ys left right = (left.0, each_append P xs ys left.1 right)
 

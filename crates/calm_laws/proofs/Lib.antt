@@ -1,4 +1,5 @@
 pub mod Asking
+pub mod Beginnings
 pub mod BlockWrites
 pub mod Casting
 pub mod Counts
@@ -10,6 +11,7 @@ pub mod FirstRounds
 pub mod Floors
 pub mod Hearing
 pub mod Hears
+pub mod Known
 pub mod Logs
 pub mod Looking
 pub mod OrderPhases
