@@ -13,7 +13,7 @@ use Rattle.protocol.specs.Coordinators.{Coordinator}
 use Rattle.protocol.specs.Worlds.{Operation, World}
 
 -- where the first packets wait: all of the operation's that go among the bricks
-waiting_untouched : (w : World) (n : ℕ) (bricks : List BrickId) (start : ℕ) (packets : List Packet)
+pub waiting_untouched : (w : World) (n : ℕ) (bricks : List BrickId) (start : ℕ) (packets : List Packet)
     → ((k : ℕ) (packet : Packet) → slice_get packets k ≡ Some packet → operation_of w packet ≡ n → w.reached (start + k) ≡ false)
     → waiting_in (is_left w n bricks) start packets
     ≡ filter (goes_among bricks) (filter (λ packet. nat_eq (operation_of w packet) n) packets)
@@ -56,12 +56,12 @@ filter_append p (x ∷ xs) ys =
     (λ is. ap (λ (b : Bool). cond b (x ∷ (filter p xs ++ filter p ys)) (filter p xs ++ filter p ys)) is)
     (λ isnt. ap (λ (b : Bool). cond b (x ∷ (filter p xs ++ filter p ys)) (filter p xs ++ filter p ys)) isnt)
 
-map_append : {A B : Type 0} (f : A → B) (xs ys : List A) → map f (xs ++ ys) ≡ map f xs ++ map f ys
+pub map_append : {A B : Type 0} (f : A → B) (xs ys : List A) → map f (xs ++ ys) ≡ map f xs ++ map f ys
 map_append f [] ys = refl
 map_append f (x ∷ xs) ys = ap (λ (l : List _). f x ∷ l) (map_append f xs ys)
 
 -- of messages that were sent several times those to the chosen members
-repeated_sends : (stage : Stage) (c : Coordinator) (k : ℕ) (packets : List Packet) (all : List Seated)
+pub repeated_sends : (stage : Stage) (c : Coordinator) (k : ℕ) (packets : List Packet) (all : List Seated)
     → filter (goes_among stage.bricks) packets ≡ map (asking stage c) all
     → filter (goes_among stage.bricks) (repeated k packets) ≡ map (asking stage c) (repeated k all)
 repeated_sends stage c zero packets all is = refl
@@ -70,7 +70,7 @@ repeated_sends stage c (suc k) packets all is =
     ∙ ap₂ (λ (a b : List Packet). a ++ b) is (repeated_sends stage c k packets all is)
     ∙ sym (map_append (asking stage c) all (repeated k all))
 
-each_repeated : {A : Type 0} (P : A → Type 0) (k : ℕ) (xs : List A) → Each P xs → Each P (repeated k xs)
+pub each_repeated : {A : Type 0} (P : A → Type 0) (k : ℕ) (xs : List A) → Each P xs → Each P (repeated k xs)
 each_repeated P zero xs each = tt
 each_repeated P (suc k) xs each = each_append P xs (repeated k xs) each (each_repeated P k xs each)
 

@@ -1,6 +1,7 @@
 pub mod Asking
 pub mod Beginnings
 pub mod BlockWrites
+pub mod Calmness
 pub mod Casting
 pub mod Counts
 pub mod Decided
