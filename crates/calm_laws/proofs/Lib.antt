@@ -1,3 +1,7 @@
+pub mod Discharge
+pub mod Lives
+pub mod Fresh
+pub mod StepsOf
 pub mod Asking
 pub mod Beginnings
 pub mod BlockWrites

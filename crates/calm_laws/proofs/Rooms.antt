@@ -67,14 +67,14 @@ newest_within t replica version tame newest =
 
 -- once it promised t, its top is t
 promised_top : (t : Stamp) (replica : Replica) → stamp_below t (top_of replica) ≡ false
-    → top_of (record { order = t; log = replica.log }) ≡ t
+    → top_of (record replica { order = t }) ≡ t
 unfolding top_with
 promised_top t replica tame = go (newest_of replica.log) refl
   where
-    go : (z : Option Version) → newest_of replica.log ≡ z → top_of (record { order = t; log = replica.log }) ≡ t
-    go None is = top_is (record { order = t; log = replica.log }) ∙ ap (λ (z : Option Version). top_with t z) is
+    go : (z : Option Version) → newest_of replica.log ≡ z → top_of (record replica { order = t }) ≡ t
+    go None is = top_is (record replica { order = t }) ∙ ap (λ (z : Option Version). top_with t z) is
     go (Some version) is =
-        top_is (record { order = t; log = replica.log }) ∙ ap (λ (z : Option Version). top_with t z) is
+        top_is (record replica { order = t }) ∙ ap (λ (z : Option Version). top_with t z) is
         ∙ ap (λ (b : Bool). cond b version.stamp t) (newest_within t replica version tame is)
 
 -- a promise takes one record at most, and none where an order was there

@@ -1,5 +1,5 @@
 -- A member's part of a stripe, and what it does with each request (Frølund 2004, the storage replica).
-use Rattle.std.specs.Prelude.{ℕ, Bool, true, false, not, nat_eq, nat_lt, ◌||◌, ◌&&◌, if◌then◌else◌, List, [], ◌∷◌, ◌++◌, Option, Some, None, replicate, filter, length}
+use Rattle.std.specs.Prelude.{ℕ, Bool, true, false, not, nat_eq, nat_lt, ◌||◌, ◌&&◌, if◌then◌else◌, List, [], ◌∷◌, ◌++◌, Option, Some, None, replicate, filter, length, ◌-◌}
 use Rattle.fab_base.specs.declared.stamps.Stamp.{Stamp}
 use Rattle.fab_base.specs.Stamps.{stamp_below, stamp_same, first_stamp}
 use Rattle.messages.specs.declared.requests.Version.{Version}
@@ -13,18 +13,20 @@ use Rattle.messages.specs.declared.replies.Reply.{Reply}
 use Rattle.messages.specs.declared.replies.Reply.TheVariants.{Found, Ordered, OrderedRead, Stored, Behind, Later, Full}
 use Rattle.protocol.specs.Settings.{Code}
 
--- the stamp that the member has promised to take nothing below, and its log of versions, oldest first
+-- the stamp that the member has promised to take nothing below; its log of versions, oldest first; and whether that still begins with the first
+-- version, which the member has from the start and which takes no room
 pub record Replica : Type 0 where
   pub order : Stamp
   pub log : List Version
+  pub from_start : Bool
 
 -- what a stripe begins with in view 1: a zero block of the first stamp
 abbrev pub first_replica : ℕ → Replica
-first_replica block = record { order = first_stamp; log = record { stamp = first_stamp; block = replicate block 0 } ∷ [] }
+first_replica block = record { order = first_stamp; log = record { stamp = first_stamp; block = replicate block 0 } ∷ []; from_start = true }
 
 -- what a stripe begins with in a view: nothing, but in view 1
 abbrev pub fresh_replica : ℕ → ℕ → Replica
-fresh_replica block e = if nat_eq e 1 then first_replica block else record { order = first_stamp; log = [] }
+fresh_replica block e = if nat_eq e 1 then first_replica block else record { order = first_stamp; log = []; from_start = false }
 
 -- the last version of a log
 abbrev pub newest_of : List Version → Option Version
@@ -81,7 +83,7 @@ unless_full (Some live) replica reaction = if nat_lt reaction.drops reaction.add
 abbrev pub promised : Replica → Stamp → Reply → Reaction
 promised replica t reply =
     record {
-      replica = record { order = t; log = replica.log };
+      replica = record replica { order = t };
       reply = Some reply;
       adds = if stamp_same replica.order first_stamp && not (stamp_same t first_stamp) then 1 else 0;
       drops = 0;
@@ -91,7 +93,7 @@ promised replica t reply =
 abbrev pub stored : Replica → Stamp → List ℕ → Reaction
 stored replica t block =
     record {
-      replica = record { order = replica.order; log = replica.log ++ (record { stamp = t; block = block } ∷ []) };
+      replica = record replica { log = replica.log ++ (record { stamp = t; block = block } ∷ []) };
       reply = Some Stored;
       adds = 1;
       drops = 0;
@@ -156,19 +158,19 @@ ignored replica = record { replica = replica; reply = None; adds = 0; drops = 0 
 abbrev pub not_below : Stamp → List Version → List Version
 not_below c log = filter (λ version. not (stamp_below version.stamp c)) log
 
--- a version takes room: the first one, with which each log begins, takes none
-abbrev pub takes_room : Version → Bool
-takes_room version = not (stamp_same version.stamp first_stamp)
+-- whether the version that a member has from the start is among those below a stamp
+abbrev pub drops_start : Replica → Stamp → Bool
+drops_start replica c = replica.from_start && stamp_below first_stamp c
 
 -- Drop the versions below one that is held. Where that is not held, nothing changes. There is no reply.
 abbrev pub collected : Replica → Stamp → Reaction
 collected replica c =
     if is_held c replica.log
     then record {
-      replica = record { order = replica.order; log = not_below c replica.log };
+      replica = record replica { log = not_below c replica.log; from_start = replica.from_start && not (stamp_below first_stamp c) };
       reply = None;
       adds = 0;
-      drops = length (filter takes_room (below c replica.log));
+      drops = length (below c replica.log) - (if drops_start replica c then 1 else 0);
     }
     else ignored replica
 

@@ -17,7 +17,7 @@ use Rattle.fab_base.specs.Stamps.{stamp_below}
 use Rattle.fab_base.specs.Layouts.{Group, group_of, brick_at}
 use Rattle.quorum.proofs.Counts.{count_monotone}
 use Rattle.protocol.specs.Settings.{Setting}
-use Rattle.protocol.specs.Replicas.{top_of}
+use Rattle.protocol.specs.Replicas.{top_of, Replica}
 use Rattle.protocol.specs.declared.phases.Phase.{Phase}
 use Rattle.protocol.specs.declared.phases.Phase.TheVariants.{Looks, LooksAt, Orders, OrdersAt, Recovers, Descends, Modifies, Bases, Stores}
 use Rattle.protocol.specs.Coordinators.{Coordinator, request_of}
@@ -30,7 +30,7 @@ use Rattle.protocol_laws.proofs.Said.{Begun, Stamping, Said, IsSaid, IsBegun, Is
 use Rattle.protocol_laws.proofs.Tables.{put_each, put_same, get_grown, get_one, sent_to_member}
 use Rattle.protocol_laws.proofs.Lives.{last_grows}
 use Rattle.protocol_laws.proofs.Growth.{Grows, continues_same}
-use Rattle.protocol_laws.proofs.Steps.{KeepsStamps, parts_kept, sent_by, ages_by, calls_by, phase_asked, said_after}
+use Rattle.protocol_laws.proofs.Steps.{KeepsStamps, parts_kept, sent_by, ages_by, calls_by, phase_asked, said_after, new_none, part_same}
 use Rattle.protocol_laws.proofs.Stampings.{known_first, ComesFrom, ages_within, stays_known, later_unknown, with_stamp, stamp_now, stamps_other, stamp_last, stamps_grow, stamps_say}
 
 -- an operation fits its first phase
@@ -150,6 +150,7 @@ module _ (setting : Setting) (w : World) (stamps : Stamping) (me : BrickId) (ask
   grows : Grows w next stamps later
   grows = record {
     parts = parts_kept w next me.0 node refl refl said.logged refl;
+    fresh = new_none w next refl;
     sent = sent_by w next (phase_packets setting me c) refl;
     operations = λ n o is. (o, goes_on n o is, continues_same o);
     contents = λ g s t made. refl;
@@ -334,11 +335,9 @@ module _ (setting : Setting) (w : World) (stamps : Stamping) (me : BrickId) (ask
           (ages_by w next me.0 node refl (ages_within (w.nodes me.0) node refl (omega arith) (omega arith)))
           (subst (λ (x : Node). IsStampOf x me.0 c.call.boot c.stamp) (sym (put_same w.nodes me.0 node)) own) (omega arith)
           (λ now. let here : (put w.nodes me.0 node me.0).seq ≡ c.call.seq = ap (λ (x : Node). x.seq) (put_same w.nodes me.0 node) in omega arith);
-      tops = λ g s i. inl (put_each (λ j x. top_of (x.replicas g 1 s) ≡ top_of ((w.nodes j).replicas g 1 s)) w.nodes me.0 node refl (λ j other. refl) i);
-      logs = λ g s i k version is. inl
-          (put_each (λ j x. slice_get (x.replicas g 1 s).log k ≡ Some version
-          → slice_get ((w.nodes j).replicas g 1 s).log k ≡ Some version) w.nodes me.0 node
-          (λ has. has) (λ j other has. has) i is);
+      tops = λ g s i. inl (ap (λ (r : Replica). top_of r) (part_same w next me.0 node refl refl g 1 s i));
+      logs = λ g s i k version is. inl (k, ap (λ (r : Replica). slice_get r.log k) (sym (part_same w next me.0 node refl refl g 1 s i)) ∙ is);
+      lowest = λ g s i x log is. inl (log, ap (λ (r : Replica). r.log) (sym (part_same w next me.0 node refl refl g 1 s i)) ∙ is);
       packets = λ k packet is. ⊎_elim
           (λ (there : slice_get w.packets k ≡ Some packet). inl there)
           (λ (sent : (j : ℕ) × (slice_get (phase_packets setting me c) j ≡ Some packet)).

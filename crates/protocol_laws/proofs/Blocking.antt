@@ -1,6 +1,7 @@
 -- What no quorum holds, or ever will: it stays so.
-use Rattle.std.proofs.Common.{◌≡◌, ℕ, zero, suc, ◌+◌, ◌-◌, ◌/◌, ◌<◌, ◌≤◌, ◌⊎◌, inl, inr, Bool, true, false, not, ◌&&◌, length, refl, sym, ap, ◌∙◌, ⊎_elim, arith}
-use Rattle.std.proofs.lemmas.Bool.{cases_Bool, and_from, and_parts, not-true, not_from_false, false≢true}
+use Rattle.protocol.specs.Settings.{Setting}
+use Rattle.std.proofs.Common.{◌≡◌, ℕ, zero, suc, ◌+◌, ◌-◌, ◌/◌, ◌<◌, ◌≤◌, ◌⊎◌, inl, inr, Bool, true, false, not, ◌&&◌, length, refl, sym, ap, ◌∙◌, ⊎_elim, arith, subst, nat_eq}
+use Rattle.std.proofs.lemmas.Bool.{cases_Bool, and_from, and_parts, not-true, not_from_false, false≢true, cond_both}
 use Rattle.fab_base.specs.declared.stamps.Stamp.{Stamp}
 use Rattle.fab_base.specs.Stamps.{stamp_below}
 use Rattle.fab_base.proofs.StampOrder.{stamp_not_below_trans}
@@ -8,56 +9,80 @@ use Rattle.quorum.specs.Quorums.{count, one_if, both, IsWithinLimits}
 use Rattle.quorum.proofs.Counts.{count_none, count_suc, count_both, count_monotone, count_empty}
 use Rattle.fab_base.specs.Layouts.{Group}
 use Rattle.quorum.specs.Quorums.{quorum_of}
-use Rattle.protocol.specs.Replicas.{top_of, is_held}
-use Rattle.protocol.specs.Worlds.{World}
+use Rattle.protocol.specs.Replicas.{top_of, is_held, Replica}
+use Rattle.protocol.specs.Worlds.{World, first_world}
 use Rattle.protocol.specs.Views.{view_of}
 use Rattle.fab_base.specs.Layouts.{brick_at}
 use Rattle.protocol_laws.specs.Laws.{part_in, AtQuorum}
 use Rattle.protocol_laws.proofs.Parts.{PartsNeverFall, PartsAddNothingBelow, part_of, PartsBlock}
-use Rattle.protocol_laws.proofs.Logs.{LogAscends, below_above}
+use Rattle.protocol_laws.proofs.Logs.{LogAscends, IsKept, below_above}
 
--- what bricks have held is what is in their logs: nothing is dropped from a log
-abbrev pub HeldIsLogged : World → Type 0
-HeldIsLogged w = (i g s : ℕ) (t : Stamp) → w.held i g s t ≡ is_held t (part_in w g (view_of t) s i).log
+-- Logs ascend; what is in them was held; and what was held is in them, or was dropped from below all that they have.
+pub record LogsFit (w : World) : Type 0 where
+  pub ascends : (g e s i : ℕ) → LogAscends (part_in w g e s i).log
+  pub held : (i g s : ℕ) (t : Stamp) → is_held t (part_in w g (view_of t) s i).log ≡ true → w.held i g s t ≡ true
+  pub kept : (i g s : ℕ) (t : Stamp) → w.held i g s t ≡ true → IsKept t (part_in w g (view_of t) s i).log
 
--- what is in a part of view 1 is held, where it is of that view, and the other way round
-pub held_in : (w : World) → HeldIsLogged w → (g s i : ℕ) (t : Stamp) → view_of t ≡ 1 → is_held t (part_of w g s i).log ≡ true
+-- so they do in the first world
+pub first_fits : (setting : Setting) → LogsFit (first_world setting.layout)
+first_fits setting = record {
+  ascends = λ g e s i. cond_both (nat_eq e 1) _ _ (λ (r : Replica). LogAscends r.log) (λ one. ((λ d held. absurd (false≢true held)), tt)) (λ other. tt);
+  held = λ i g s t held. held;
+  kept = λ i g s t held. inl held;
+}
+
+-- what is in a part of view 1 was held, where it is of that view, and what was held is kept there
+pub held_in : (w : World) → LogsFit w → (g s i : ℕ) (t : Stamp) → view_of t ≡ 1 → is_held t (part_of w g s i).log ≡ true
     → w.held i g s t ≡ true
-held_in w logged g s i t view held = logged i g s t ∙ ap (λ (e : ℕ). is_held t (part_in w g e s i).log) view ∙ held
+held_in w fit g s i t view held = fit.held i g s t (ap (λ (e : ℕ). is_held t (part_in w g e s i).log) view ∙ held)
 
-pub was_held : (w : World) → HeldIsLogged w → (g s i : ℕ) (t : Stamp) → view_of t ≡ 1 → w.held i g s t ≡ true
-    → is_held t (part_of w g s i).log ≡ true
-was_held w logged g s i t view held = ap (λ (e : ℕ). is_held t (part_in w g e s i).log) (sym view) ∙ sym (logged i g s t) ∙ held
+pub was_kept : (w : World) → LogsFit w → (g s i : ℕ) (t : Stamp) → view_of t ≡ 1 → w.held i g s t ≡ true → IsKept t (part_of w g s i).log
+was_kept w fit g s i t view held = subst (λ (e : ℕ). IsKept t (part_in w g e s i).log) view (fit.kept i g s t held)
 
--- from one world to the next no part falls, what is in a log stays there, what is new is at or above the part's stamps, and logs go on ascending
+-- from one world to the next no part falls, what a log kept it goes on keeping, what is new is at or above the part's stamps, and logs go on ascending
 pub record LogsStay (w next : World) : Type 0 where
   pub tops : PartsNeverFall w next
-  pub held : (g e s i : ℕ) (t : Stamp) → is_held t (part_in w g e s i).log ≡ true → is_held t (part_in next g e s i).log ≡ true
+  pub kept : (g e s i : ℕ) (t : Stamp) → IsKept t (part_in w g e s i).log → IsKept t (part_in next g e s i).log
   pub newer : PartsAddNothingBelow w next
   pub ascends : (g e s i : ℕ) → LogAscends (part_in w g e s i).log → LogAscends (part_in next g e s i).log
 
--- the same of what bricks have held
+-- what comes to be held in the next world is in its logs
+abbrev pub NewIsLogged : World → World → Type 0
+NewIsLogged w next =
+    (i g s : ℕ) (t : Stamp) → next.held i g s t ≡ true → (w.held i g s t ≡ true) ⊎ (is_held t (part_in next g (view_of t) s i).log ≡ true)
+
+-- no part falls, what bricks have held they have held, what they come to hold is at or above their parts' stamps, and logs go on fitting that
 pub record PartsStay (w next : World) : Type 0 where
   pub tops : PartsNeverFall w next
   pub held : (g s i : ℕ) (t : Stamp) → w.held i g s t ≡ true → next.held i g s t ≡ true
   pub newer : (g s i : ℕ) (t : Stamp) → next.held i g s t ≡ true
       → (w.held i g s t ≡ true) ⊎ (stamp_below t (top_of (part_in w g (view_of t) s i)) ≡ false)
   pub adds : PartsAddNothingBelow w next
-  pub ascends : (g e s i : ℕ) → LogAscends (part_in w g e s i).log → LogAscends (part_in next g e s i).log
-  pub logged : HeldIsLogged next
+  pub logged : LogsFit next
 
--- parts stay where logs do, since what bricks have held is what is in them
-pub parts_from : (w next : World) → LogsStay w next → HeldIsLogged w → HeldIsLogged next → PartsStay w next
-parts_from w next stay logged logged_next = record {
+-- parts stay where logs do, and what is in them is noted as held
+pub parts_from : (w next : World) → LogsStay w next → LogsFit w → ((i g s : ℕ) (t : Stamp) → w.held i g s t ≡ true → next.held i g s t ≡ true)
+    → NewIsLogged w next → ((i g s : ℕ) (t : Stamp) → is_held t (part_in next g (view_of t) s i).log ≡ true → next.held i g s t ≡ true)
+    → PartsStay w next
+parts_from w next stay fit more new noted = record {
   tops = stay.tops;
-  held = λ g s i t held. logged_next i g s t ∙ stay.held g (view_of t) s i t (sym (logged i g s t) ∙ held);
+  held = λ g s i t held. more i g s t held;
   newer = λ g s i t held. ⊎_elim
-      (λ (was : is_held t (part_in w g (view_of t) s i).log ≡ true). inl (logged i g s t ∙ was))
-      (λ (new : stamp_below t (top_of (part_in w g (view_of t) s i)) ≡ false). inr new)
-      (stay.newer g (view_of t) s i t (sym (logged_next i g s t) ∙ held));
+      (λ (was : w.held i g s t ≡ true). inl was)
+      (λ (logged : is_held t (part_in next g (view_of t) s i).log ≡ true). ⊎_elim
+      (λ (old : is_held t (part_in w g (view_of t) s i).log ≡ true). inl (fit.held i g s t old))
+      (λ (above : stamp_below t (top_of (part_in w g (view_of t) s i)) ≡ false). inr above)
+      (stay.newer g (view_of t) s i t logged))
+      (new i g s t held);
   adds = stay.newer;
-  ascends = stay.ascends;
-  logged = logged_next;
+  logged = record {
+    ascends = λ g e s i. stay.ascends g e s i (fit.ascends g e s i);
+    held = noted;
+    kept = λ i g s t held. ⊎_elim
+        (λ (was : w.held i g s t ≡ true). stay.kept g (view_of t) s i t (fit.kept i g s t was))
+        (λ (logged : is_held t (part_in next g (view_of t) s i).log ≡ true). inl logged)
+        (new i g s t held);
+  };
 }
 
 -- and so through two steps
@@ -77,7 +102,6 @@ parts_then w mid next first second = record {
       (λ (new : stamp_below t (top_of (part_in mid g e s i)) ≡ false).
       inr (stamp_not_below_trans (top_of (part_in w g e s i)) (top_of (part_in mid g e s i)) t (first.tops g e s i) new))
       (second.adds g e s i t held);
-  ascends = λ g e s i ascends. second.ascends g e s i (first.ascends g e s i ascends);
   logged = second.logged;
 }
 

@@ -70,6 +70,7 @@ ended_world w nodes held packets operations replies n answer =
       contents = w.contents;
       held = held;
       replies = replies;
+      reached = w.reached;
     }
 
 module _ (setting : Setting) (w : World) (i k : ℕ) (c : Coordinator) (before o : Operation) (answer : Answer) (nodes : ℕ → Node) (held : ℕ → ℕ → ℕ → Stamp → Bool)

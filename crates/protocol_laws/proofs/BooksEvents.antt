@@ -52,7 +52,7 @@ books_nothing : (setting : Setting) (w : World) (replies : Replies) (brick : Bri
     → KeepsNumbers (w.nodes brick.0) node → ((l : ℕ) → node.calls l ≡ (w.nodes brick.0).calls l)
     → Books setting (stepped setting w replies brick (sending node packets))
 books_nothing setting w replies brick node packets books keeps calls =
-    books_quiet setting w (put w.nodes brick.0 node) (with_held w.held brick.0 node) w.clocks (w.packets ++ packets) replies books (keeps_put w brick.0 node keeps)
+    books_quiet setting w (put w.nodes brick.0 node) (with_held w.held brick.0 node) w.clocks (w.packets ++ packets) replies w.reached books (keeps_put w brick.0 node keeps)
     (λ j l. put_each (λ (x : ℕ) (y : Node). y.calls l ≡ (w.nodes x).calls l) w.nodes brick.0 node (calls l) (λ x other. refl) j)
 
 -- a brick that changes nothing
@@ -505,11 +505,21 @@ books_received setting w replies me now from to (Message.Request call request) b
 books_received setting w replies me now from to (Message.Reply call reply) books = books_replied setting w replies me now from call reply books
 books_received setting w replies me now from to message books = books_no_step setting w replies me books
 
-books_delivered : (setting : Setting) (w : World) (packet : Option Packet) → Books setting w → Books setting (delivered setting w packet)
-books_delivered setting w None books = books
-books_delivered setting w (Some packet) books =
+-- the books do not change with the replies that count, or the messages that were delivered
+pub books_beside : (setting : Setting) (w : World) (replies : Replies) (reached : ℕ → Bool) → Books setting w
+    → Books setting (record w { replies = replies; reached = reached })
+books_beside setting w replies reached books =
+    books_quiet setting w w.nodes w.held w.clocks w.packets replies reached books (λ i. keeps_all (w.nodes i)) (λ i k. refl)
+
+books_delivered : (setting : Setting) (w : World) (number : ℕ) (packet : Option Packet) → Books setting w
+    → Books setting (delivered setting w number packet)
+books_delivered setting w number None books = books
+books_delivered setting w number (Some packet) books =
+    let noted : World = record w { reached = put w.reached number true } in
     cond_both (is_up setting.layout w packet.to) _ _ (λ (x : World). Books setting x)
-    (λ member. books_received setting w (replies_with setting w packet) packet.to (w.clocks packet.to.0) packet.from packet.to packet.message books)
+    (λ member.
+    books_received setting noted (replies_with setting w packet) packet.to (w.clocks packet.to.0) packet.from packet.to packet.message
+    (books_beside setting w w.replies (put w.reached number true) books))
     (λ stranger. books)
 
 -- where no reason to refuse is found, the group is there, and the ask fits it
@@ -609,7 +619,7 @@ pub books_found : (setting : Setting) (w : World) (brick : BrickId) (found : Fou
 books_found setting w brick Before down leaves books = books
 books_found setting w brick After down leaves books =
     let keeps : (i : ℕ) → KeepsCalls (w.nodes i) ((world_found w brick After).nodes i) = found_keeps setting w brick After down leaves in
-    books_quiet setting w (put w.nodes brick.0 (w.after brick.0)) (with_held w.held brick.0 (w.after brick.0)) w.clocks w.packets w.replies books (λ i. (keeps i).0) (λ i. (keeps i).1)
+    books_quiet setting w (put w.nodes brick.0 (w.after brick.0)) (with_held w.held brick.0 (w.after brick.0)) w.clocks w.packets w.replies w.reached books (λ i. (keeps i).0) (λ i. (keeps i).1)
 
 -- a brick may start that is down, and its store is opened at least once
 pub start_fits : (setting : Setting) (w : World) (brick : BrickId) (openings : ℕ) → may_start setting.layout w brick openings ≡ true
@@ -627,15 +637,15 @@ unfolding happens
 books_kept setting w (Invokes brick ask) leaves books =
     cond_both (may_begin setting w brick ask) _ _ (λ (x : World). Books setting x)
     (λ may. books_invoked setting w brick (w.clocks brick.0) ask books may) (λ refused. books)
-books_kept setting w (Delivers number) leaves books = books_delivered setting w (packet_of w.packets number) books
+books_kept setting w (Delivers number) leaves books = books_delivered setting w number (packet_of w.packets number) books
 books_kept setting w (Sets brick time) leaves books =
     cond_both (is_brick setting.layout brick) _ _ (λ (x : World). Books setting x)
-    (λ member. books_quiet setting w w.nodes w.held (put w.clocks brick.0 time) w.packets w.replies books
+    (λ member. books_quiet setting w w.nodes w.held (put w.clocks brick.0 time) w.packets w.replies w.reached books
     (λ i. keeps_all (w.nodes i)) (λ i k. refl))
     (λ stranger. books)
 books_kept setting w (Ticks brick) leaves books =
     cond_both (is_up setting.layout w brick) _ _ (λ (x : World). Books setting x)
-    (λ up. books_quiet setting w w.nodes w.held w.clocks (w.packets ++ ticked setting brick (w.nodes brick.0)) w.replies books
+    (λ up. books_quiet setting w w.nodes w.held w.clocks (w.packets ++ ticked setting brick (w.nodes brick.0)) w.replies w.reached books
     (λ i. keeps_all (w.nodes i)) (λ i k. refl))
     (λ down. books)
 books_kept setting w (Stops brick during) leaves books =

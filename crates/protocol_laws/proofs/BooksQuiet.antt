@@ -20,9 +20,9 @@ use Rattle.protocol_laws.proofs.Lives.{Stays-refl}
 use Rattle.protocol_laws.proofs.Puts.{put_other}
 use Rattle.protocol_laws.proofs.Tables.{put_each, put_same}
 
--- the world with other bricks, clocks, packets and counted replies
-abbrev pub quiet_world : World → (ℕ → Node) → (ℕ → ℕ → ℕ → Stamp → Bool) → (ℕ → ℕ) → List Packet → (ℕ → ℕ → List Counted) → World
-quiet_world w nodes held clocks packets replies =
+-- the world with other bricks, clocks, packets and counted replies, of which other packets were delivered
+abbrev pub quiet_world : World → (ℕ → Node) → (ℕ → ℕ → ℕ → Stamp → Bool) → (ℕ → ℕ) → List Packet → (ℕ → ℕ → List Counted) → (ℕ → Bool) → World
+quiet_world w nodes held clocks packets replies reached =
     record {
       nodes = nodes;
       after = w.after;
@@ -37,15 +37,16 @@ quiet_world w nodes held clocks packets replies =
       contents = w.contents;
       held = held;
       replies = replies;
+      reached = reached;
     }
 
 -- bricks that keep their calls and numbers keep the books
 pub books_quiet : (setting : Setting) (w : World) (nodes : ℕ → Node) (held : ℕ → ℕ → ℕ → Stamp → Bool) (clocks : ℕ → ℕ) (packets : List Packet) (replies : ℕ → ℕ → List Counted)
-    → Books setting w
+    (reached : ℕ → Bool) → Books setting w
     → ((i : ℕ) → KeepsNumbers (w.nodes i) (nodes i)) → ((i k : ℕ) → (nodes i).calls k ≡ (w.nodes i).calls k)
-    → Books setting (quiet_world w nodes held clocks packets replies)
-books_quiet setting w nodes held clocks packets replies books keeps calls =
-    let later : World = quiet_world w nodes held clocks packets replies in
+    → Books setting (quiet_world w nodes held clocks packets replies reached)
+books_quiet setting w nodes held clocks packets replies reached books keeps calls =
+    let later : World = quiet_world w nodes held clocks packets replies reached in
     record {
       well_formed = books.well_formed;
       places = books.places;

@@ -66,6 +66,7 @@ turned_world w nodes held packets operations contents replies =
       contents = contents;
       held = held;
       replies = replies;
+      reached = w.reached;
     }
 
 module _ (setting : Setting) (w : World) (i k : ℕ) (c d : Coordinator) (before o : Operation) (nodes : ℕ → Node) (held : ℕ → ℕ → ℕ → Stamp → Bool) (packets : List Packet)

@@ -1,14 +1,17 @@
 -- What the replies that count show of the operation, when they are a quorum.
+use Rattle.protocol_laws.proofs.Blocking.{blocked_never_stands}
+use Rattle.fab_base.specs.declared.asks.Ask.{Ask}
+use Rattle.protocol_laws.proofs.OwnStamps.{maker_stamp, operation_unique}
 use Rattle.std.proofs.Common.{◌≡◌, ℕ, zero, suc, ◌-◌, ◌*◌, ◌/◌, ◌<◌, ◌≤◌, ◌⊎◌, inl, inr, true, false, not, List, [], ◌∷◌, length, replicate, Option, Some, None, refl, sym, ap, ◌∙◌, subst, ⊎_elim, arith, Bool}
 use Rattle.std.specs.Prelude.{nat_eq}
 use Rattle.std.specs.Option.{option_map}
-use Rattle.std.proofs.lemmas.Bool.{false≢true, not_from_false, and_parts, eqb-true, eq-eqb, cond-true}
+use Rattle.std.proofs.lemmas.Bool.{false≢true, not_from_false, and_parts, eqb-true, eq-eqb, cond-true, cases_Bool}
 use Rattle.std.proofs.lemmas.Option.{same_Some}
 use Rattle.std.proofs.lemmas.List.{length-replicate}
 use Rattle.fab_base.specs.declared.identities.BrickId.{BrickId}
 use Rattle.fab_base.specs.declared.stamps.Stamp.{Stamp}
 use Rattle.fab_base.specs.Stamps.{stamp_below, stamp_same}
-use Rattle.fab_base.proofs.StampOrder.{stamp_below_irrefl, stamp_not_below_trans}
+use Rattle.fab_base.proofs.StampOrder.{stamp_below_irrefl, stamp_not_below_trans, stamp_same_true, stamp_neither_below}
 use Rattle.messages.specs.declared.calls.Call.{Call}
 use Rattle.messages.specs.declared.packets.Message.TheVariants as Message
 use Rattle.messages.specs.declared.requests.Version.{Version}
@@ -28,14 +31,14 @@ use Rattle.protocol.specs.declared.phases.Counted.{Counted}
 use Rattle.protocol.specs.declared.phases.Phase.{Phase}
 use Rattle.protocol.specs.declared.phases.Phase.TheVariants.{Looks, LooksAt, Orders, OrdersAt, Recovers, Descends, Modifies, Bases, Stores}
 use Rattle.protocol.specs.Coordinators.{Coordinator, may_be_found, may_be_base, told_length, answers_phase, told_in, told_stamp, bytes_of, bytes_at, has_seat, is_behind, some_behind, refuser_of, greatest_refuser, full_member_of, lowest_full, fast_version, found_bytes, pieces_of}
-use Rattle.protocol.specs.Worlds.{World, Operation, zero_content}
+use Rattle.protocol.specs.Worlds.{World, Operation, zero_content, number_of}
 use Rattle.fab_base.specs.Layouts.{brick_at}
 use Rattle.protocol_laws.specs.Laws.{AtQuorum, stamp_stored}
-use Rattle.protocol_laws.proofs.Parts.{part_of, PartsGuard}
+use Rattle.protocol_laws.proofs.Parts.{part_of, PartsGuard, PartsBlock}
 use Rattle.protocol_laws.proofs.FirstViews.{floor_at}
-use Rattle.protocol_laws.proofs.Books.{Books, CallBooks, IsOperation, IsCall}
+use Rattle.protocol_laws.proofs.Books.{Books, CallBooks, IsOperation, IsCall, IsMade, MadeInPhase}
 use Rattle.protocol_laws.proofs.Logs.{IsWithin}
-use Rattle.protocol_laws.proofs.Said.{Stamping, Said, IsBegun, IsContent, IsMadeOrFirst, FloorsAtMost, IsCalled, OrderedSays, OrderedReadSays, FoundSays, ReplySays, CountedSays, EachCounted, AreOnce, IsBlockOf, RequestSays, look_of, want_of, is_looked}
+use Rattle.protocol_laws.proofs.Said.{Stamping, Said, IsBegun, IsContent, IsMadeOrFirst, FloorsAtMost, IsCalled, OrderedSays, OrderedReadSays, FoundSays, ReplySays, CountedSays, EachCounted, AreOnce, IsBlockOf, RequestSays, look_of, want_of, is_looked, IsPassedOver, CollectSays, Stands, IsStamped, WritesWhole, ReadsBack}
 use Rattle.fab_base.proofs.Seats.{seat_within, brick_at_seat}
 use Rattle.protocol_laws.proofs.Reactions.{max_right, max_most}
 use Rattle.protocol_laws.proofs.Stampings.{begun_once}
@@ -181,6 +184,18 @@ found_by block t phase look x looks answers allows = told phase x.reply look ref
     told (Modifies base j) reply l e looks answers allows = cc
     told Stores reply l e looks answers allows = cc
     told p reply l e looks answers allows = absurd (false≢true answers)
+
+-- a phase that looks below a bound looks below its own stamp, or descends
+pub bound_cases : (p : Phase) (t bound : Stamp) → look_of p t ≡ Some (Below bound) → (bound ≡ t) ⊎ (p ≡ Descends bound)
+bound_cases (OrdersAt j) t bound looks = let same : bound ≡ t = cc in inl same
+bound_cases Recovers t bound looks = let same : bound ≡ t = cc in inl same
+bound_cases (Descends b) t bound looks = let same : b ≡ bound = cc in inr (ap Descends same)
+bound_cases p t bound looks = cc
+
+-- a phase that looks for one version reads it back
+base_phase : (p : Phase) (t base : Stamp) → look_of p t ≡ Some (At base) → p ≡ Bases base
+base_phase (Bases b) t base looks = let same : b ≡ base = cc in ap Bases same
+base_phase p t base looks = cc
 
 -- a block that is wanted of a seat is told whole
 wanted_long : (block : ℕ) (t : Stamp) (seat : ℕ) (phase : Phase) (reply : Reply) (version : Version) → told_in reply ≡ Some version
@@ -437,6 +452,82 @@ module _ (setting : Setting) (sound : IsSound setting) (w : World) (stamps : Sta
         same_Some other look (sym other_is ∙ ap (λ (p : Phase). look_of p t) same.0 ∙ ap (λ (z : Stamp). look_of c.phase z) same.1 ∙ looks),
       )
 
+  -- What was collected under the operation's stamp is looked for, since no quorum holds what it does not look for below that, and its own version
+  -- was not collected: the operation is open.
+  none_passed : (look : Look) → look_of c.phase c.stamp ≡ Some look → (d : Stamp) → is_looked look d ≡ true
+      → IsPassedOver w c.call.group.0 c.call.stripe.0 look c.stamp d → ⊥
+  none_passed look looks d looked passed = ⊎_elim
+      (λ (less : stamp_below passed.at c.stamp ≡ true).
+      blocked_never_stands w its_operation.ask.group.0 its_operation.ask.stripe.0 group passed.at (blocked look looks looked passed.unlooked less)
+      (stands group its_group))
+      (λ (above : stamp_below passed.at c.stamp ≡ false). not_own (stamp_neither_below passed.at c.stamp above passed.most))
+      (cases_Bool (stamp_below passed.at c.stamp))
+    where
+      collects : CollectSays w passed.collected.from.0 passed.collected.call passed.at
+      collects =
+          said.packets passed.collected.sent.0 (record {
+            from = passed.collected.from;
+            to = passed.collected.to;
+            message = Message.Request passed.collected.call (Request.Collect passed.at);
+          }) passed.collected.sent.1
+
+      -- the operation that made it
+      n : ℕ
+      n = w.numbers passed.collected.from.0 passed.collected.call.boot passed.collected.call.seq
+
+      maker : Operation
+      maker = collects.operation
+
+      -- of the same stripe
+      stands : Stands setting w its_operation.ask.group.0 its_operation.ask.stripe.0 passed.at
+      stands = of_stripe (λ g s. Stands setting w g s passed.at)
+          (subst (λ (g : ℕ). Stands setting w g c.call.stripe.0 passed.at) (collects.called.group ∙ passed.collected.group)
+          (subst (λ (s : ℕ). Stands setting w maker.ask.group.0 s passed.at) (collects.called.stripe ∙ passed.collected.stripe)
+          ((said.operations n maker collects.called.is).stands passed.at collects.version (inr collects.answered))))
+
+      -- it is another than the one that is open
+      not_own : passed.at ≡ c.stamp → ⊥
+      not_own same =
+          let theirs = maker_stamp setting w stamps books said n maker passed.at collects.called.is collects.made collects.version in
+          let mine : IsStamped stamps its_operation.brick.0 its_operation.boot its_operation.seq c.call.phase passed.at
+          = subst (λ (t : Stamp). IsStamped stamps its_operation.brick.0 its_operation.boot its_operation.seq c.call.phase t) (sym same)
+          (subst (λ (i : ℕ). IsStamped stamps i its_operation.boot its_operation.seq c.call.phase c.stamp) (sym its.brick)
+          (subst (λ (b : ℕ). IsStamped stamps me.0 b its_operation.seq c.call.phase c.stamp) (sym its.boot)
+          (subst (λ (k : ℕ). IsStamped stamps me.0 (w.nodes me.0).boot k c.call.phase c.stamp) (sym its.seq)
+          (c.phase, (said.calls me.0 c.call.seq c is).begun)))) in
+          let number : n ≡ number_of w me.0 c.call.seq
+          = operation_unique setting w stamps books said n (number_of w me.0 c.call.seq) maker its_operation theirs.0 c.call.phase passed.at
+          collects.called.is its.operation_is theirs.1 mine in
+          let one : maker ≡ its_operation
+          = same_Some maker its_operation (sym collects.called.is ∙ ap (λ (a : ℕ). w.operations a) number ∙ its.operation_is) in
+          false≢true (sym its.unanswered ∙ ap (λ (o : Operation). o.answered) (sym one) ∙ collects.answered)
+
+      -- what a phase does not look for below its stamp no quorum holds
+      blocked : (l : Look) → look_of c.phase c.stamp ≡ Some l → is_looked l d ≡ true → is_looked l passed.at ≡ false
+          → stamp_below passed.at c.stamp ≡ true → PartsBlock w its_operation.ask.group.0 its_operation.ask.stripe.0 group passed.at
+      blocked (Below bound) looks looked unlooked less = ⊎_elim
+          (λ (own : bound ≡ c.stamp).
+          absurd (false≢true (sym unlooked ∙ subst (λ (t : Stamp). stamp_below passed.at t ≡ true) (sym own) less)))
+          (λ (lower : c.phase ≡ Descends bound).
+          subst (λ (a : Ask). PartsBlock w a.group.0 a.stripe.0 group passed.at) its.ask
+          ((said.calls me.0 c.call.seq c is).covered bound lower group group_is passed.at (unlooked, less)))
+          (bound_cases c.phase c.stamp bound looks)
+      blocked (At base) looks looked unlooked less =
+          let made : IsMade c its_operation × (c.base ≡ Some base)
+          = subst (λ (p : Phase). MadeInPhase c its_operation p) (base_phase c.phase c.stamp base looks) its.made in
+          by_maker base looked less (made.0.2 ∙ made.1)
+          ((said.operations (number_of w me.0 c.call.seq) its_operation its.operation_is).maker c.stamp made.0.1 made.0.0)
+        where
+          by_maker : (base : Stamp) → stamp_same d base ≡ true → stamp_below passed.at c.stamp ≡ true → its_operation.base ≡ Some base
+              → WritesWhole w its_operation c.stamp ⊎ ReadsBack setting w its_operation c.stamp
+              → PartsBlock w its_operation.ask.group.0 its_operation.ask.stripe.0 group passed.at
+          by_maker base looked less based (inl whole) = let none : None ≡ Some base = sym whole.0 ∙ based in cc
+          by_maker base looked less based (inr back) =
+              let same : back.base ≡ d
+              = same_Some back.base base (sym back.base_is ∙ based) ∙ sym (stamp_same_true d base looked) in
+              back.blocked group its_group passed.at
+              (subst (λ (t : Stamp). stamp_below t passed.at ≡ true) (sym same) passed.above, less)
+
   read_seat : (look : Look) → look_of c.phase c.stamp ≡ Some look → (x : Counted) → CountedSays setting w me.0 c x → Allows x → ReadsAt look x
   read_seat look looks x says allows =
       let answer : FoundBy look x = found_by setting.layout.block c.stamp c.phase look x looks says.answers allows in
@@ -448,8 +539,13 @@ module _ (setting : Setting) (sound : IsSound setting) (w : World) (stamps : Sta
         found = answer.found;
         found_is = ap told_in answer.reply_is;
         newest = at_seat (λ g s j. (d : Stamp) → w.held j g s d ≡ true → is_looked look d ≡ true → IsWithin answer.found d) x says
-            (subst (λ (l : Look). (d : Stamp) → w.held x.brick.0 c.call.group.0 c.call.stripe.0 d ≡ true → is_looked l d ≡ true
-            → IsWithin answer.found d) same.1 told.newest);
+            (λ d held looked. ⊎_elim
+            (λ (within : IsWithin answer.found d). within)
+            (λ (passed : IsPassedOver w c.call.group.0 c.call.stripe.0 told.look told.stamp d).
+            absurd (none_passed look looks d looked
+            (subst (λ (l : Look). IsPassedOver w c.call.group.0 c.call.stripe.0 l c.stamp d) same.1
+            (subst (λ (t : Stamp). IsPassedOver w c.call.group.0 c.call.stripe.0 told.look t d) same.0 passed))))
+            (told.newest d held (subst (λ (l : Look). is_looked l d ≡ true) (sym same.1) looked)));
         looked = answer.looked;
         held = λ version is. at_seat (λ g s j. w.held j g s version.stamp ≡ true) x says (told.held version is);
         made = λ version is. of_stripe (λ g s. IsMadeOrFirst w g s version.stamp) (told.says version is).made;

@@ -1,4 +1,5 @@
 -- A coordinator ends its operation.
+use Rattle.std.proofs.lemmas.Bool.{false≢true}
 use Rattle.std.proofs.Common.{◌≡◌, ℕ, ◌+◌, ◌-◌, ◌≤◌, ◌⊎◌, inl, inr, true, false, List, [], ◌∷◌, ◌++◌, length, Option, Some, None, refl, sym, ap, ◌∙◌, subst, ⊎_elim, arith}
 use Rattle.std.specs.Prelude.{slice_get}
 use Rattle.std.proofs.lemmas.Option.{same_Some}
@@ -17,8 +18,8 @@ use Rattle.protocol.specs.Settings.{Setting}
 use Rattle.protocol.specs.Coordinators.{Coordinator}
 use Rattle.protocol.specs.Nodes.{Node, NodeStep, put, with_call, seen_told, collect_packets}
 use Rattle.protocol.specs.Worlds.{World, Operation, number_of, world_stepped, with_seen, with_answer, is_answer, with_held}
-use Rattle.protocol_laws.proofs.Books.{version_after, Books, CallBooks, IsCall}
-use Rattle.protocol_laws.proofs.Said.{Stamping, Said, Stands, WritesWhole, ReadsBack, PacketSays, HasVersion, OperationSays, CallSays, EndShows}
+use Rattle.protocol_laws.proofs.Books.{version_after, Books, CallBooks, IsCall, IsOperation}
+use Rattle.protocol_laws.proofs.Said.{Stamping, Said, Stands, WritesWhole, ReadsBack, PacketSays, HasVersion, OperationSays, CallSays, EndShows, IsCalled}
 use Rattle.protocol_laws.proofs.Tables.{put_each, put_same, put_twice, get_grown, get_one, sent_to_member}
 use Rattle.protocol_laws.proofs.Lives.{last_grows}
 use Rattle.protocol_laws.proofs.Stampings.{ages_within, stamps_same}
@@ -102,6 +103,7 @@ module _ (setting : Setting) (w : World) (stamps : Stamping) (me : BrickId) (c :
         contents = w.contents;
         held = with_held w.held me.0 node;
         replies = w.replies;
+        reached = w.reached;
       }
 
   next_is : (saw : Option Stamp)
@@ -119,7 +121,8 @@ module _ (setting : Setting) (w : World) (stamps : Stamping) (me : BrickId) (c :
       (stands : (v : Stamp) → version_after o.version seen ≡ Some v → (o.made ≡ false) ⊎ (is_answer answer ≡ true)
       → Stands setting w o.ask.group.0 o.ask.stripe.0 v)
       (answered_made : is_answer answer ≡ true → writes o.ask.op ≡ true → o.made ≡ true)
-      (shows : WillShow setting w o seen answer) where
+      (shows : WillShow setting w o seen answer)
+      (collects : (t : Stamp) → stored ≡ Some t → (o.made ≡ true) × (version_after o.version seen ≡ Some t) × (is_answer answer ≡ true)) where
     on : Continues o ended
     on = record {
       brick = refl;
@@ -131,6 +134,7 @@ module _ (setting : Setting) (w : World) (stamps : Stamping) (me : BrickId) (c :
       version = keeps_version;
       made = λ v has. refl;
       base = λ v has. refl;
+      answered = λ was. absurd (false≢true (sym its.unanswered ∙ was));
     }
 
     keeps : OperatedKeeps w me node marks n o ended w.contents
@@ -203,12 +207,26 @@ module _ (setting : Setting) (w : World) (stamps : Stamping) (me : BrickId) (c :
         (w.nodes me.0).calls c.call.seq None
         (λ at. cc) (λ j other at. inl (at, λ p. refl)) k
 
-    packets : (o : Option Stamp) (k : ℕ) (packet : Packet) → slice_get (collect_packets me c o) k ≡ Some packet
+    -- the call is that of the operation that ended
+    called : IsCalled next me.0 c.call ended
+    called = record {
+      is = subst (λ (b : ℕ). IsOperation next (w.numbers me.0 b c.call.seq) ended) (sym its.call_boot) (put_same w.operations n (Some ended));
+      brick = its.brick;
+      boot = its.boot ∙ sym its.call_boot;
+      seq = its.seq;
+      group = ap (λ a. a.group.0) (sym its.ask) ∙ ap (λ g. g.0) (sym its.call_group);
+      stripe = ap (λ a. a.stripe.0) (sym its.ask) ∙ ap (λ s. s.0) (sym its.call_stripe);
+      view = its.call_view;
+    }
+
+    packets : (z : Option Stamp) → stored ≡ z → (k : ℕ) (packet : Packet) → slice_get (collect_packets me c z) k ≡ Some packet
         → PacketSays setting next stamps packet
-    packets None k packet at = cc
-    packets (Some t) k packet at =
+    packets None is k packet at = cc
+    packets (Some t) is k packet at =
         let sent = sent_to_member me c.call (λ seat. Request.Collect t) 0 c.group.members k packet at in
-        subst (λ (z : Packet). PacketSays setting next stamps z) (sym sent.2) tt
+        let made = collects t is in
+        subst (λ (z : Packet). PacketSays setting next stamps z) (sym sent.2)
+        (record { operation = ended; called = called; made = made.0; version = made.1; answered = made.2 })
 
     end_shows : (a : Answer) → a ≡ answer → EndShows setting next n a
     end_shows (Data bytes) same =
@@ -245,6 +263,6 @@ module _ (setting : Setting) (w : World) (stamps : Stamping) (me : BrickId) (c :
           stamps_other = λ i b k other p. refl;
           operation = operation_says;
           calls = calls;
-          packets = packets stored;
+          packets = packets stored refl;
           ends = ends;
         }))

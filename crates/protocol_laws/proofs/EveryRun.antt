@@ -13,7 +13,7 @@ use Rattle.protocol_laws.proofs.Numbers.{IsNumbered, numbered_run}
 use Rattle.protocol_laws.proofs.QuorumFacts.{QuorumFacts, facts}
 use Rattle.protocol_laws.proofs.Said.{Stamping, Said}
 use Rattle.protocol_laws.proofs.SaidAlways.{always_said}
-use Rattle.protocol_laws.proofs.ViewLaws.{follows_layout, always_first, one_content, writes_guarded, bases_newest}
+use Rattle.protocol_laws.proofs.ViewLaws.{follows_layout, always_first, one_content, writes_guarded, bases_newest, collects_stand, drops_older}
 use Rattle.protocol_laws.proofs.Tallies.{Tallied}
 use Rattle.protocol_laws.proofs.TalliesEvents.{tallied}
 use Rattle.protocol_laws.proofs.StripeLives.{well_formed_stripe, numbers_from_one}
@@ -28,6 +28,8 @@ laws setting views w stamps booked said follows facts history numbered truths = 
   contents_are_made = facts.contents;
   guarded = writes_guarded setting views w stamps booked said follows;
   stored = facts.stored;
+  collects = collects_stand setting views w stamps booked said follows;
+  drops = drops_older setting views w stamps booked said follows;
   bases = bases_newest setting views w stamps booked said follows;
   bases_found = facts.bases_found;
   neighbours = λ g s. neighbours_follow setting w g s booked facts;

@@ -1,5 +1,6 @@
 -- No event lowers what a brick has promised or stored, or drops a version that it holds.
-use Rattle.std.proofs.Common.{◌≡◌, ℕ, List, [], ◌∷◌, Option, Some, None, refl, ⊎_elim, sym, subst, false, ap}
+use Rattle.protocol_laws.proofs.Logs.{LogAscends}
+use Rattle.std.proofs.Common.{◌≡◌, ℕ, List, [], ◌∷◌, Option, Some, None, refl, ⊎_elim, sym, subst, false, ap, true}
 use Rattle.std.proofs.lemmas.Bool.{cond_both}
 use Rattle.fab_base.specs.declared.identities.BrickId.{BrickId}
 use Rattle.fab_base.specs.declared.asks.Ask.{Ask}
@@ -20,7 +21,7 @@ use Rattle.protocol_laws.proofs.Requests.{parts_keep}
 use Rattle.protocol_laws.proofs.Served.{request_each}
 use Rattle.protocol_laws.proofs.BooksEvents.{start_fits}
 use Rattle.protocol_laws.proofs.Left.{IsLeft, Leaves, always_leaves, leaves_happens}
-use Rattle.protocol_laws.proofs.Blocking.{HeldIsLogged, PartsStay, parts_then}
+use Rattle.protocol_laws.proofs.Blocking.{LogsFit, PartsStay, parts_then, first_fits}
 use Rattle.protocol_laws.proofs.Steps.{KeepsParts, keeps_same, parts_by, parts_kept, parts_same}
 
 -- a coordinator's decision changes no part of a stripe
@@ -44,28 +45,32 @@ reply_keeps setting me now from node call reply = at_call (node.calls call.seq)
         decision_keeps setting me node (known_after node.known reply) c
         (on_reply setting.layout.block setting.code (fresh_stamp me c.call.view now node.boot (known_after node.known reply)) c from call reply)
 
-request_keeps : (setting : Setting) (me from : BrickId) (node : Node) (call : Call) (request : Request)
+-- all logs of a brick ascend
+abbrev LogsRise : Node → Type 0
+LogsRise node = (g e s : ℕ) → LogAscends (node.replicas g e s).log
+
+request_keeps : (setting : Setting) (me from : BrickId) (node : Node) (call : Call) (request : Request) → LogsRise node
     → KeepsParts node (requested setting me from node call request).node
-request_keeps setting me from node call request =
+request_keeps setting me from node call request rises =
     request_each (λ step. KeepsParts node step.node) setting me from node call request (keeps_same node node refl)
     (λ group seat here at view.
     let full : Option ℕ = full_at setting.layout.records node.live in
     parts_keep setting.code group.m seat node call request (handle setting.code group.m full seat (replica_at node call) request)
-    (handle_after setting.code group.m seat full (replica_at node call) request))
+    (rises call.group.0 call.view.0 call.stripe.0) (handle_after setting.code group.m seat full (replica_at node call) request))
 
-pub message_keeps : (setting : Setting) (me from to : BrickId) (now : ℕ) (node : Node) (message : Message)
+pub message_keeps : (setting : Setting) (me from to : BrickId) (now : ℕ) (node : Node) (message : Message) → LogsRise node
     → KeepsParts node (received setting me now node (record { from = from; to = to; message = message })).node
 unfolding received
-message_keeps setting me from to now node (Message.Request call request) = request_keeps setting me from node call request
-message_keeps setting me from to now node (Message.Reply call reply) = reply_keeps setting me now from node call reply
-message_keeps setting me from to now node message = keeps_same node node refl
+message_keeps setting me from to now node (Message.Request call request) rises = request_keeps setting me from node call request rises
+message_keeps setting me from to now node (Message.Reply call reply) rises = reply_keeps setting me now from node call reply
+message_keeps setting me from to now node message rises = keeps_same node node refl
 
 -- a message whose handling was the last thing that a brick did
-absorbed_keeps : (setting : Setting) (me from to : BrickId) (node : Node) (message : Message)
+absorbed_keeps : (setting : Setting) (me from to : BrickId) (node : Node) (message : Message) → LogsRise node
     → KeepsParts node (absorbed setting me node (record { from = from; to = to; message = message }))
 unfolding absorbed
-absorbed_keeps setting me from to node (Message.Request call request) = request_keeps setting me from node call request
-absorbed_keeps setting me from to node message = keeps_same node node refl
+absorbed_keeps setting me from to node (Message.Request call request) rises = request_keeps setting me from node call request rises
+absorbed_keeps setting me from to node message rises = keeps_same node node refl
 
 -- a brick stops or starts with its logs as they are
 stopped_replicas : (node : Node) → (stopped node).replicas ≡ node.replicas
@@ -76,31 +81,33 @@ restarted_replicas : (openings : ℕ) (node : Node) → (restarted openings node
 unfolding restarted
 restarted_replicas openings node = refl
 
-delivery_stays : (setting : Setting) (w : World) (z : Option Packet) → HeldIsLogged w → PartsStay w (delivered setting w z)
-delivery_stays setting w None logged = parts_same w w refl refl logged
-delivery_stays setting w (Some packet) logged =
+delivery_stays : (setting : Setting) (w : World) (number : ℕ) (z : Option Packet) → LogsFit w → PartsStay w (delivered setting w number z)
+delivery_stays setting w number None logged = parts_same w w refl refl logged
+delivery_stays setting w number (Some packet) logged =
     let step : NodeStep = received setting packet.to (w.clocks packet.to.0) (w.nodes packet.to.0) packet in
-    let counted : World = record w { replies = replies_with setting w packet } in
+    let counted : World = record w { replies = replies_with setting w packet; reached = put w.reached number true } in
     cond_both (is_up setting.layout w packet.to) (world_stepped setting counted packet.to step) w (λ (next : World). PartsStay w next)
     (λ is. parts_by w (world_stepped setting counted packet.to step) packet.to.0 step.node refl refl logged
-    (message_keeps setting packet.to packet.from packet.to (w.clocks packet.to.0) (w.nodes packet.to.0) packet.message))
+    (message_keeps setting packet.to packet.from packet.to (w.clocks packet.to.0) (w.nodes packet.to.0) packet.message
+    (λ g e s. logged.ascends g e s packet.to.0)))
     (λ isnt. parts_same w w refl refl logged)
 
 -- what the store of a stopped brick may hold
-pub left_keeps : (setting : Setting) (w : World) (i : ℕ) (node : Node) → IsLeft setting w i node → KeepsParts (w.nodes i) node
-left_keeps setting w i node = ⊎_elim
+pub left_keeps : (setting : Setting) (w : World) (i : ℕ) (node : Node) → LogsRise (w.nodes i) → IsLeft setting w i node → KeepsParts (w.nodes i) node
+left_keeps setting w i node rises = ⊎_elim
     (λ (same : node ≡ w.nodes i). keeps_same (w.nodes i) node (ap (λ (z : Node). z.replicas) same))
     (λ (handled : (packet : Packet) × (packet.to ≡ record { 0 = i }) × WasSent w packet
     × (node ≡ absorbed setting (record { 0 = i }) (w.nodes i) packet)).
     subst (λ (z : Node). KeepsParts (w.nodes i) z) (sym handled.3)
-    (absorbed_keeps setting (record { 0 = i }) handled.0.from handled.0.to (w.nodes i) handled.0.message))
+    (absorbed_keeps setting (record { 0 = i }) handled.0.from handled.0.to (w.nodes i) handled.0.message rises))
 
 -- a brick that starts with what its store is found to hold
 found_stays : (setting : Setting) (w : World) (brick : BrickId) (found : Found) → w.up brick.0 ≡ false → Leaves setting w
-    → HeldIsLogged w → PartsStay w (world_found w brick found)
+    → LogsFit w → PartsStay w (world_found w brick found)
 found_stays setting w brick Before down leaves logged = parts_same w w refl refl logged
 found_stays setting w brick After down leaves logged =
-    parts_by w (world_found w brick After) brick.0 (w.after brick.0) refl refl logged (left_keeps setting w brick.0 (w.after brick.0) (leaves brick.0 down))
+    parts_by w (world_found w brick After) brick.0 (w.after brick.0) refl refl logged
+    (left_keeps setting w brick.0 (w.after brick.0) (λ g e s. logged.ascends g e s brick.0) (leaves brick.0 down))
 
 invoked_replicas : (setting : Setting) (me : BrickId) (now : ℕ) (node : Node) (ask : Ask)
     → (invoked setting me now node ask).node.replicas ≡ node.replicas
@@ -112,7 +119,7 @@ invoked_replicas setting me now node ask = in_group (group_at setting.layout nod
     in_group (Some group) = refl
 
 -- through any event
-pub parts_stay : (setting : Setting) (w : World) (event : Event) → Leaves setting w → HeldIsLogged w
+pub parts_stay : (setting : Setting) (w : World) (event : Event) → Leaves setting w → LogsFit w
     → PartsStay w (happens setting w event)
 unfolding happens
 parts_stay setting w (Invokes brick ask) leaves logged =
@@ -120,7 +127,7 @@ parts_stay setting w (Invokes brick ask) leaves logged =
     cond_both (may_begin setting w brick ask) (world_began w brick ask step) w (λ (next : World). PartsStay w next)
     (λ may. parts_kept w (world_began w brick ask step) brick.0 step.node refl refl logged (invoked_replicas setting brick (w.clocks brick.0) (w.nodes brick.0) ask))
     (λ isnt. parts_same w w refl refl logged)
-parts_stay setting w (Delivers number) leaves logged = delivery_stays setting w (packet_of w.packets number) logged
+parts_stay setting w (Delivers number) leaves logged = delivery_stays setting w number (packet_of w.packets number) logged
 parts_stay setting w (Sets brick time) leaves logged =
     cond_both (is_brick setting.layout brick) (record w { clocks = put w.clocks brick.0 time }) w (λ (next : World). PartsStay w next)
     (λ is. parts_same w (record w { clocks = put w.clocks brick.0 time }) refl refl logged)
@@ -137,7 +144,7 @@ parts_stay setting w (Starts brick openings found) leaves logged =
     let with_found : World = world_found w brick found in
     cond_both (may_start setting.layout w brick openings) (world_started with_found brick openings) w (λ (next : World). PartsStay w next)
     (λ may.
-    let stays : HeldIsLogged w → PartsStay w with_found
+    let stays : LogsFit w → PartsStay w with_found
     = found_stays setting w brick found (start_fits setting w brick openings may).0 leaves in
     parts_then w with_found (world_started with_found brick openings)
     (stays logged)
@@ -146,14 +153,14 @@ parts_stay setting w (Starts brick openings found) leaves logged =
     (λ cannot. parts_same w w refl refl logged)
 
 -- and through any schedule
-pub parts_stay_on : (setting : Setting) (more : List Event) (w : World) → Leaves setting w → HeldIsLogged w → PartsStay w (run setting more w)
+pub parts_stay_on : (setting : Setting) (more : List Event) (w : World) → Leaves setting w → LogsFit w → PartsStay w (run setting more w)
 parts_stay_on setting [] w leaves logged = parts_same w w refl refl logged
 parts_stay_on setting (event ∷ more) w leaves logged =
     let first : PartsStay w (happens setting w event) = parts_stay setting w event leaves logged in
     parts_then w (happens setting w event) (run setting more (happens setting w event)) first
     (parts_stay_on setting more (happens setting w event) (leaves_happens setting w event leaves) first.logged)
 
--- what bricks have held is in their logs, in every run
-pub always_logged : (setting : Setting) (events : List Event) → HeldIsLogged (run setting events (first_world setting.layout))
+-- logs fit what bricks have held, in every run
+pub always_logged : (setting : Setting) (events : List Event) → LogsFit (run setting events (first_world setting.layout))
 always_logged setting events =
-    (parts_stay_on setting events (first_world setting.layout) (always_leaves setting []) (λ i g s t. refl)).logged
+    (parts_stay_on setting events (first_world setting.layout) (always_leaves setting []) (first_fits setting)).logged

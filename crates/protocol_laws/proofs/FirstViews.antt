@@ -103,7 +103,7 @@ above_floor t view time = grind (arith, nat_tests)
 pub others_empty : (layout : Layout) (node : Node) (g e s : ℕ) → IsInFirst layout node → e ≢ 1 → (node.replicas g e s).log ≡ []
 others_empty layout node g e s first other =
     ap (λ (r : Replica). r.log) (first.others g e s other)
-    ∙ ap (λ (b : Bool). (if b then first_replica layout.block else record { order = first_stamp; log = [] }).log) (ne_eqb e 1 other)
+    ∙ ap (λ (b : Bool). (if b then first_replica layout.block else record { order = first_stamp; log = []; from_start = false }).log) (ne_eqb e 1 other)
 
 -- what a brick has come to, where its part in view 1 has come to more than some stamp
 pub top_told : (layout : Layout) (node : Node) (g s : ℕ) (t x : Stamp) → IsInFirst layout node → IsOfFirst (top_of (node.replicas g 1 s))

@@ -1,4 +1,5 @@
 -- What was said stays said: nothing falls, messages and versions stay, and a version's content does not change.
+use Rattle.protocol_laws.proofs.Logs.{IsWithin}
 use Rattle.std.proofs.Common.{◌≡◌, ℕ, ◌≤◌, ◌⊎◌, inl, inr, true, false, not, List, length, Option, Some, None, refl, sym, ap, ◌∙◌, subst, ⊎_elim, arith, []}
 use Rattle.std.proofs.lemmas.Bool.{not-true, not_from_false, false≢true}
 use Rattle.fab_base.specs.declared.identities.BrickId.{BrickId}
@@ -34,8 +35,8 @@ use Rattle.protocol_laws.specs.Laws.{WasSent, AskedAt, part_in, IsModified}
 use Rattle.protocol_laws.proofs.Parts.{PartsNeverFall, part_of, PartsGuard}
 use Rattle.protocol_laws.proofs.FirstViews.{floor_at, part_floor, view_below}
 use Rattle.protocol_laws.proofs.Books.{Books, OperationBooks, IsOperation}
-use Rattle.protocol_laws.proofs.Blocking.{PartsStay, blocked_stays, stands_stays}
-use Rattle.protocol_laws.proofs.Said.{Stamping, IsBegun, IsStamped, Stands, AreBlocked, IsContent, IsMadeOrFirst, IsKnown, IsCalled, IsBlockOf, VersionSays, WriteSays, RequestSays, OrderedSays, OrderedReadSays, FoundSays, ReplySays, MessageSays, PacketSays, HasVersion, WritesWhole, ReadsBack, OperationSays, CountedSays, CallSays, DataShown, EndShows, FitsPhase, DescendsFrom, ToldSays, MakerSays, ChangesBlock, ModifySays, OrderSays, OrderReadSays, MadeOn}
+use Rattle.protocol_laws.proofs.Blocking.{PartsStay, blocked_stays, stands_stays, NewIsLogged}
+use Rattle.protocol_laws.proofs.Said.{Stamping, IsBegun, IsStamped, Stands, AreBlocked, IsContent, IsMadeOrFirst, IsKnown, IsCalled, IsBlockOf, VersionSays, WriteSays, RequestSays, OrderedSays, OrderedReadSays, FoundSays, ReplySays, MessageSays, PacketSays, HasVersion, WritesWhole, ReadsBack, OperationSays, CountedSays, CallSays, DataShown, EndShows, FitsPhase, DescendsFrom, ToldSays, MakerSays, ChangesBlock, ModifySays, OrderSays, OrderReadSays, MadeOn, WasCollected, IsPassedOver}
 use Rattle.protocol_laws.proofs.Stampings.{StampsGrow, stays_begun, stays_stamped, stays_known}
 use Rattle.protocol_laws.proofs.Counting.{each_then}
 
@@ -50,6 +51,7 @@ pub record Continues (o p : Operation) : Type 0 where
   pub version : (v : Stamp) → o.version ≡ Some v → p.version ≡ Some v
   pub made : (v : Stamp) → o.version ≡ Some v → p.made ≡ o.made
   pub base : (v : Stamp) → o.version ≡ Some v → p.base ≡ o.base
+  pub answered : o.answered ≡ true → p.answered ≡ true
 
 -- an unchanged operation goes on
 pub continues_same : (o : Operation) → Continues o o
@@ -63,17 +65,31 @@ continues_same o = record {
   version = λ v is. is;
   made = λ v is. refl;
   base = λ v is. refl;
+  answered = λ is. is;
 }
 
 -- from one world to the next nothing that was said is lost
 pub record Grows (w next : World) (stamps later : Stamping) : Type 0 where
   pub parts : PartsStay w next
+  pub fresh : NewIsLogged w next
   pub sent : (packet : Packet) → WasSent w packet → WasSent next packet
   pub operations : (n : ℕ) (o : Operation) → IsOperation w n o → (p : Operation) × IsOperation next n p × Continues o p
   pub contents : (g s : ℕ) (t : Stamp) → IsMadeOrFirst w g s t → next.contents g s t ≡ w.contents g s t
   pub grow : StampsGrow stamps later
   pub numbered : (i b k : ℕ) → (b ≡ (w.nodes i).boot → k ≤ (w.nodes i).seq) → next.numbers i b k ≡ w.numbers i b k
   pub marks : length w.marks ≤ length next.marks
+
+-- a Collect that was sent stays sent
+pub stays_collected : (w next : World) → ((packet : Packet) → WasSent w packet → WasSent next packet) → (g s : ℕ) (c : Stamp) → WasCollected w g s c
+    → WasCollected next g s c
+stays_collected w next sent g s c was = record {
+  call = was.call;
+  from = was.from;
+  to = was.to;
+  sent = sent (record { from = was.from; to = was.to; message = Message.Request was.call (Request.Collect c) }) was.sent;
+  group = was.group;
+  stripe = was.stripe;
+}
 
 -- where no top falls, what is at or above t stays so
 pub above_stays : (w next : World) → PartsNeverFall w next → (g s i : ℕ) (t : Stamp) → stamp_below (top_of (part_of w g s i)) t ≡ false
@@ -279,6 +295,15 @@ module _ (setting : Setting) (w next : World) (stamps later : Stamping) (books :
   stays_request i j call (Request.OrderRead t look want) says = stays_order_read i call t look want says
   stays_request i j call (Request.Write t block) says = stays_write i j call t block says
   stays_request i j call (Request.Modify t base d sent) says = stays_modify i j call t base d sent says
+  stays_request i j call (Request.Collect c) says =
+      let goes = stays_called i call says.operation says.called in
+      record {
+        operation = goes.0;
+        called = goes.1;
+        made = goes.2.made c says.version ∙ says.made;
+        version = goes.2.version c says.version;
+        answered = goes.2.answered says.answered;
+      }
   stays_request i j call request says = tt
 
   pub stays_ordered : (j i : ℕ) (call : Call) → OrderedSays w stamps j i call → OrderedSays next later j i call
@@ -306,7 +331,7 @@ module _ (setting : Setting) (w next : World) (stamps later : Stamping) (books :
         says = stays_told call.group.0 call.stripe.0 j version says.says;
       }
 
-  -- what was found stays the newest that is looked for, since nothing comes to be held below the stamp that was promised
+  -- what was found stays the newest that is looked for, or the others are passed over, since nothing comes to be held below the promised stamp
   pub stays_ordered_read : (j i : ℕ) (call : Call) (found : Option Version) → OrderedReadSays setting w stamps j i call found
       → OrderedReadSays setting next later j i call found
   stays_ordered_read j i call found says =
@@ -324,7 +349,16 @@ module _ (setting : Setting) (w next : World) (stamps later : Stamping) (books :
         promised = stays_above call.group.0 call.stripe.0 j says.stamp says.promised;
         floor = subst (λ (f : ℕ → Stamp). stamp_below says.stamp (part_floor (f j)) ≡ false) (sym goes.2.floor) says.floor;
         newest = λ d held less. ⊎_elim
-            (λ (was : w.held j call.group.0 call.stripe.0 d ≡ true). says.newest d was less)
+            (λ (was : w.held j call.group.0 call.stripe.0 d ≡ true). ⊎_elim
+            (λ (within : IsWithin found d). inl within)
+            (λ (passed : IsPassedOver w call.group.0 call.stripe.0 says.look says.stamp d). inr (record {
+              at = passed.at;
+              above = passed.above;
+              unlooked = passed.unlooked;
+              most = passed.most;
+              collected = stays_collected w next grows.sent call.group.0 call.stripe.0 passed.at passed.collected;
+            }))
+            (says.newest d was less))
             (λ (new : stamp_below d (top_of (part_in w call.group.0 (view_of d) call.stripe.0 j)) ≡ false).
             let lower : stamp_below d says.stamp ≡ true = says.below d less in
             let above : stamp_below d says.stamp ≡ false = stamp_not_below_trans says.stamp

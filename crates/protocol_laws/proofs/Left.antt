@@ -119,23 +119,24 @@ after_stepped setting w me step =
     answered_same (λ x. x.after) me (λ x answered. refl) step.answers (world_tells setting w me step.told)
     ∙ told_same setting (λ x. x.after) me (after_told setting me) step.told w
 
-leaves_stepped : (setting : Setting) (w : World) (replies : ℕ → ℕ → List Counted) (me : BrickId) (step : NodeStep) → w.up me.0 ≡ true
-    → Leaves setting w → Leaves setting (world_stepped setting (record w { replies = replies }) me step)
-leaves_stepped setting w replies me step up leaves =
-    let counted : World = record w { replies = replies } in
+leaves_stepped : (setting : Setting) (w : World) (replies : ℕ → ℕ → List Counted) (reached : ℕ → Bool) (me : BrickId) (step : NodeStep) → w.up me.0 ≡ true
+    → Leaves setting w → Leaves setting (world_stepped setting (record w { replies = replies; reached = reached }) me step)
+leaves_stepped setting w replies reached me step up leaves =
+    let counted : World = record w { replies = replies; reached = reached } in
     leaves_on setting w (world_stepped setting counted me step)
     (λ i down.
     let was : w.up i ≡ false = ap (λ (f : ℕ → Bool). f i) (sym (up_stepped setting counted me step)) ∙ down in
     (was, put_other w.nodes me.0 step.node i (apart w i me.0 was up), ap (λ (f : ℕ → Node). f i) (after_stepped setting counted me step)))
     (λ packet sent. (sent.0, get_kept w.packets step.packets sent.0 packet sent.1)) leaves
 
-leaves_delivered : (setting : Setting) (w : World) (packet : Option Packet) → Leaves setting w → Leaves setting (delivered setting w packet)
-leaves_delivered setting w None leaves = leaves
-leaves_delivered setting w (Some packet) leaves =
+leaves_delivered : (setting : Setting) (w : World) (number : ℕ) (packet : Option Packet) → Leaves setting w
+    → Leaves setting (delivered setting w number packet)
+leaves_delivered setting w number None leaves = leaves
+leaves_delivered setting w number (Some packet) leaves =
     let step : NodeStep = received setting packet.to (w.clocks packet.to.0) (w.nodes packet.to.0) packet in
-    let counted : World = record w { replies = replies_with setting w packet } in
+    let counted : World = record w { replies = replies_with setting w packet; reached = put w.reached number true } in
     cond_both (is_up setting.layout w packet.to) (world_stepped setting counted packet.to step) w (λ (next : World). Leaves setting next)
-    (λ up. leaves_stepped setting w (replies_with setting w packet) packet.to step
+    (λ up. leaves_stepped setting w (replies_with setting w packet) (put w.reached number true) packet.to step
     (and_parts (is_brick setting.layout packet.to) (w.up packet.to.0) up).1 leaves)
     (λ down. leaves)
 
@@ -236,7 +237,7 @@ leaves_happens setting w (Invokes brick ask) leaves =
     (steps_on w brick.0 step.node (and_parts (is_brick setting.layout brick) (w.up brick.0) up.0).1)
     (λ packet sent. (sent.0, get_kept w.packets step.packets sent.0 packet sent.1)) leaves)
     (λ isnt. leaves)
-leaves_happens setting w (Delivers number) leaves = leaves_delivered setting w (packet_of w.packets number) leaves
+leaves_happens setting w (Delivers number) leaves = leaves_delivered setting w number (packet_of w.packets number) leaves
 leaves_happens setting w (Sets brick time) leaves =
     cond_both (is_brick setting.layout brick) (record w { clocks = put w.clocks brick.0 time }) w (λ (next : World). Leaves setting next)
     (λ is. leaves) (λ isnt. leaves)

@@ -16,10 +16,10 @@ use Rattle.messages.specs.declared.replies.Reply.{Reply}
 use Rattle.fab_base.specs.Layouts.{Group}
 use Rattle.protocol.specs.Settings.{Setting, Code}
 use Rattle.protocol_laws.proofs.Reactions.{modified_each}
-use Rattle.protocol.specs.Replicas.{Replica, Reaction, top_of, is_held, is_wanted, told_version, stays, unless_full, promised, stored, looked_up, handle}
+use Rattle.protocol.specs.Replicas.{Replica, Reaction, top_of, is_held, is_wanted, told_version, stays, unless_full, promised, stored, looked_up, handle, ignored}
 use Rattle.protocol.specs.declared.phases.Counted.{Counted}
 use Rattle.protocol.specs.Coordinators.{Coordinator, Next, Ignores, Waits, Sends, Makes, Ends, has_seat, request_of, on_reply}
-use Rattle.protocol.specs.Nodes.{view_at, Node, NodeStep, replica_at, full_at, reply_packets, to_members, collect_packets, resent_to, resent, resent_up_to, ticked, began, invoked, requested, known_after, fresh_stamp, carried_out, group_at, replied_at, replied, received}
+use Rattle.protocol.specs.Nodes.{view_at, Node, NodeStep, replica_at, full_at, reply_packets, to_members, collect_packets, resent_to, resent, resent_up_to, ticked, began, invoked, requested, known_after, fresh_stamp, carried_out, group_at, replied_at, replied, received, put}
 use Rattle.protocol.specs.Worlds.{World, Found, Before, After, Event, Invokes, Delivers, Sets, Ticks, Stops, Starts, first_world, is_brick, is_up, may_begin, may_start, world_began, world_stepped, world_ticked, world_stopped, world_found, world_started, replies_with, delivered, packet_of, happens, run}
 use Rattle.protocol_laws.specs.Laws.{RefusalIsTrue, Sending, RefusalsWereTrue}
 use Rattle.protocol_laws.proofs.FirstViews.{AreInFirst, view_first, top_told}
@@ -113,7 +113,8 @@ handle_true code m full seat replica (Request.OrderRead t look want) =
 handle_true code m full seat replica (Request.Modify t base j delta) =
     modified_each code m seat (λ (z : Reaction). SaysTrue full replica z.reply) full replica t base j delta
     tt (λ below. (refl, (t, below))) (λ newest. tt) (λ live is. is) (λ at old is same. tt)
-handle_true code m full seat replica (Request.Collect t) = tt
+handle_true code m full seat replica (Request.Collect t) =
+    cond_both (is_held t replica.log) _ (ignored replica) (λ (z : Reaction). SaysTrue full replica z.reply) (λ held. tt) (λ isnt. tt)
 handle_true code m full seat replica (Request.OldRead bound) = tt
 handle_true code m full seat replica (Request.Prepare ballot) = tt
 handle_true code m full seat replica (Request.Accept ballot members) = tt
@@ -199,11 +200,12 @@ stepped_adds : (setting : Setting) (w before : World) (me : BrickId) (step : Nod
 stepped_adds setting w before me step same says =
     record { more = step.packets; packets = ap (λ (l : List Packet). l ++ step.packets) same; are_true = says }
 
-delivered_adds : (setting : Setting) (w : World) (packet : Option Packet) → AreInFirst setting.layout w → AddsTrue w (delivered setting w packet)
-delivered_adds setting w None first = adds_none w w refl
-delivered_adds setting w (Some packet) first =
+delivered_adds : (setting : Setting) (w : World) (number : ℕ) (packet : Option Packet) → AreInFirst setting.layout w
+    → AddsTrue w (delivered setting w number packet)
+delivered_adds setting w number None first = adds_none w w refl
+delivered_adds setting w number (Some packet) first =
     let step : NodeStep = received setting packet.to (w.clocks packet.to.0) (w.nodes packet.to.0) packet in
-    let counted : World = record w { replies = replies_with setting w packet } in
+    let counted : World = record w { replies = replies_with setting w packet; reached = put w.reached number true } in
     cond_both (is_up setting.layout w packet.to) (world_stepped setting counted packet.to step) w (λ (next : World). AddsTrue w next)
     (λ up. stepped_adds setting w counted packet.to step refl
     (received_true setting w (w.clocks packet.to.0) packet.from packet.to packet.message first))
@@ -221,7 +223,7 @@ happens_adds setting w (Invokes brick ask) first =
     cond_both (may_begin setting w brick ask) (world_began w brick ask step) w (λ (next : World). AddsTrue w next)
     (λ may. record { more = step.packets; packets = refl; are_true = invoked_true setting w brick (w.clocks brick.0) ask })
     (λ isnt. adds_none w w refl)
-happens_adds setting w (Delivers number) first = delivered_adds setting w (packet_of w.packets number) first
+happens_adds setting w (Delivers number) first = delivered_adds setting w number (packet_of w.packets number) first
 happens_adds setting w (Sets brick time) first =
     cond_both (is_brick setting.layout brick) _ w (λ (next : World). AddsTrue w next) (λ is. adds_none w _ refl) (λ isnt. adds_none w w refl)
 happens_adds setting w (Ticks brick) first =

@@ -1,5 +1,5 @@
 -- Operations are numbered without gaps, in the order of their Begins.
-use Rattle.std.proofs.Common.{◌≡◌, ℕ, ◌+◌, ⊎_elim, List, [], ◌∷◌, ◌++◌, length, Option, Some, None, refl, sym, ap, ◌∙◌, append-nil}
+use Rattle.std.proofs.Common.{◌≡◌, ℕ, ◌+◌, ⊎_elim, List, [], ◌∷◌, ◌++◌, length, Option, Some, None, refl, sym, ap, ◌∙◌, append-nil, true}
 use Rattle.std.specs.Prelude.{slice_get}
 use Rattle.std.proofs.lemmas.Bool.{cond_both}
 use Rattle.std.proofs.lemmas.List.{length_push}
@@ -12,7 +12,7 @@ use Rattle.protocol.specs.Settings.{Setting}
 use Rattle.protocol.specs.declared.tellings.Told.{Told}
 use Rattle.protocol.specs.declared.tellings.Told.TheVariants.{Made, Seen}
 use Rattle.protocol.specs.declared.tellings.Answered.{Answered}
-use Rattle.protocol.specs.Nodes.{NodeStep, invoked, received}
+use Rattle.protocol.specs.Nodes.{NodeStep, invoked, received, put}
 use Rattle.protocol.specs.Worlds.{World, Found, Before, After, Event, Invokes, Delivers, Sets, Ticks, Stops, Starts, is_brick, is_up, may_begin, may_start, world_began, world_told, world_tells, world_answered, world_answers, world_stepped, world_ticked, world_stopped, world_found, world_started, replies_with, delivered, packet_of, happens, run}
 use Rattle.protocol_laws.proofs.MarkLists.{begun_numbers-append, slice_get_push}
 
@@ -65,11 +65,12 @@ numbered_stepped : (setting : Setting) (w : World) (me : BrickId) (step : NodeSt
 numbered_stepped setting w me step numbered =
     numbered_answers me step.answers (world_tells setting w me step.told) (numbered_tells setting me step.told w numbered)
 
-numbered_delivered : (setting : Setting) (w : World) (packet : Option Packet) → IsNumbered w → IsNumbered (delivered setting w packet)
-numbered_delivered setting w None numbered = numbered
-numbered_delivered setting w (Some packet) numbered =
+numbered_delivered : (setting : Setting) (w : World) (number : ℕ) (packet : Option Packet) → IsNumbered w
+    → IsNumbered (delivered setting w number packet)
+numbered_delivered setting w number None numbered = numbered
+numbered_delivered setting w number (Some packet) numbered =
     let step : NodeStep = received setting packet.to (w.clocks packet.to.0) (w.nodes packet.to.0) packet in
-    let counted : World = record w { replies = replies_with setting w packet } in
+    let counted : World = record w { replies = replies_with setting w packet; reached = put w.reached number true } in
     cond_both (is_up setting.layout w packet.to) (world_stepped setting counted packet.to step) w (λ (next : World). IsNumbered next)
     (λ up. numbered_stepped setting counted packet.to step numbered) (λ down. numbered)
 
@@ -85,7 +86,7 @@ numbered_happens setting w (Invokes brick ask) numbered =
     cond_both (may_begin setting w brick ask) (world_began w brick ask (invoked setting brick (w.clocks brick.0) (w.nodes brick.0) ask)) w
     (λ (next : World). IsNumbered next)
     (λ may. numbered_more w.marks (Begin (length w.marks) (w.begun + 1) brick ask) w.begun refl numbered) (λ isnt. numbered)
-numbered_happens setting w (Delivers number) numbered = numbered_delivered setting w (packet_of w.packets number) numbered
+numbered_happens setting w (Delivers number) numbered = numbered_delivered setting w number (packet_of w.packets number) numbered
 numbered_happens setting w (Sets brick time) numbered =
     cond_both (is_brick setting.layout brick) _ w (λ (next : World). IsNumbered next) (λ is. numbered) (λ isnt. numbered)
 numbered_happens setting w (Ticks brick) numbered =

@@ -11,17 +11,17 @@ use Rattle.reg_model.specs.Marks.{life_of}
 use Rattle.reg_model.specs.Walk.{last_of}
 use Rattle.fab_base.specs.Layouts.{Group, group_of}
 use Rattle.protocol.specs.Settings.{Setting}
-use Rattle.protocol.specs.Replicas.{top_of}
+use Rattle.protocol.specs.Replicas.{top_of, Replica}
 use Rattle.protocol.specs.Coordinators.{Coordinator}
 use Rattle.protocol.specs.Nodes.{Node, put}
 use Rattle.protocol.specs.Worlds.{World, Operation, with_held}
 use Rattle.protocol_laws.proofs.Books.{Books, IsOperation}
 use Rattle.protocol_laws.proofs.Said.{Stamping, Said, StampsSay, IsMadeOrFirst, PacketSays, OperationSays, CallSays, EndShows, IsInOrder, FloorsAtLeast}
-use Rattle.protocol_laws.proofs.Blocking.{HeldIsLogged}
+use Rattle.protocol_laws.proofs.Blocking.{LogsFit}
 use Rattle.protocol_laws.proofs.Tables.{put_each, get_grown}
 use Rattle.protocol_laws.proofs.Stampings.{StampsGrow}
 use Rattle.protocol_laws.proofs.Growth.{Grows, Continues, continues_same}
-use Rattle.protocol_laws.proofs.Steps.{KeepsStamps, keeps_same, parts_by, sent_by, calls_by, said_after}
+use Rattle.protocol_laws.proofs.Steps.{KeepsStamps, keeps_same, parts_by, sent_by, calls_by, said_after, new_by, part_same}
 
 -- the world after an operation changed
 abbrev pub operated : World → BrickId → Node → List Packet → List Mark → ℕ → Operation → (ℕ → ℕ → Stamp → List ℕ) → World
@@ -40,6 +40,7 @@ operated w me node more marks n p contents =
       contents = contents;
       held = with_held w.held me.0 node;
       replies = w.replies;
+      reached = w.reached;
     }
 
 -- what such a change keeps: operation n was o, is open, and goes on as p
@@ -75,9 +76,10 @@ module _ (setting : Setting) (w : World) (stamps later : Stamping) (me : BrickId
       (λ is. let same : p ≡ d = cc in (o, keeps.is, subst (λ (z : Operation). Continues o z) same keeps.continues))
       (λ i other is. (d, is, continues_same d)) a
 
-  pub operated_grows : HeldIsLogged w → StampsGrow stamps later → Grows w next stamps later
+  pub operated_grows : LogsFit w → StampsGrow stamps later → Grows w next stamps later
   operated_grows logged grow = record {
     parts = parts_by w next me.0 node refl refl logged (keeps_same (w.nodes me.0) node keeps.replicas);
+    fresh = new_by w next me.0 node refl refl;
     sent = sent_by w next more refl;
     operations = goes_on;
     contents = keeps.kept;
@@ -136,12 +138,9 @@ said_operated setting w stamps later me node more marks n o p contents books sai
     let after : World = operated w me node more marks n p contents in
     said_after setting w after stamps later books said (operated_grows setting w stamps later me node more marks n o p contents keeps said.logged grow) (record {
       stamps_say = owes.stamps_say;
-      tops = λ g s i. inl (put_each (λ j x. top_of (x.replicas g 1 s) ≡ top_of ((w.nodes j).replicas g 1 s)) w.nodes me.0 node
-          (ap (λ r. top_of (r g 1 s)) keeps.replicas) (λ j other. refl) i);
-      logs = λ g s i k version is. inl
-          (put_each (λ j x. slice_get (x.replicas g 1 s).log k ≡ Some version
-          → slice_get ((w.nodes j).replicas g 1 s).log k ≡ Some version) w.nodes me.0 node
-          (λ has. ap (λ r. slice_get (r g 1 s).log k) (sym keeps.replicas) ∙ has) (λ j other has. has) i is);
+      tops = λ g s i. inl (ap (λ (r : Replica). top_of r) (part_same w after me.0 node refl keeps.replicas g 1 s i));
+      logs = λ g s i k version is. inl (k, ap (λ (r : Replica). slice_get r.log k) (sym (part_same w after me.0 node refl keeps.replicas g 1 s i)) ∙ is);
+      lowest = λ g s i x log is. inl (log, ap (λ (r : Replica). r.log) (sym (part_same w after me.0 node refl keeps.replicas g 1 s i)) ∙ is);
       packets = λ k packet is. ⊎_elim
           (λ (old : slice_get w.packets k ≡ Some packet). inl old)
           (λ (new : (j : ℕ) × (slice_get more j ≡ Some packet)). inr (owes.packets new.0 packet new.1))

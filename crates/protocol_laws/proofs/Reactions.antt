@@ -1,9 +1,9 @@
--- What a member's part of a stripe keeps through a request: its stamps never fall, and its log only grows.
-use Rattle.std.proofs.Common.{nat_lt, ◌≡◌, ℕ, ◌⊎◌, inl, inr, Bool, true, false, cond, List, [], ◌∷◌, ◌++◌, Option, Some, None, refl, sym, ap, ◌∙◌, subst, ⊎_elim}
-use Rattle.std.specs.Prelude.{slice_get}
+-- What a member's part of a stripe keeps through a request: its stamp never falls, and its log loses only what is below all that is left.
+use Rattle.std.proofs.Common.{nat_lt, ◌≡◌, ℕ, ◌⊎◌, inl, inr, Bool, true, false, cond, List, [], ◌∷◌, ◌++◌, Option, Some, None, refl, sym, ap, ◌∙◌, subst, ⊎_elim, not}
+use Rattle.std.specs.Prelude.{slice_get, ◌&&◌}
 use Rattle.std.proofs.lemmas.Bool.{cond_both, cond-false, false≢true, or_left, or_right, or_cases}
 use Rattle.fab_base.specs.declared.stamps.Stamp.{Stamp}
-use Rattle.fab_base.specs.Stamps.{stamp_below, stamp_same}
+use Rattle.fab_base.specs.Stamps.{stamp_below, stamp_same, first_stamp}
 use Rattle.fab_base.proofs.StampOrder.{stamp_below_irrefl, stamp_below_asym, stamp_not_below_trans, stamp_neither_below, stamp_same_refl, stamp_same_true}
 use Rattle.messages.specs.declared.requests.Version.{Version}
 use Rattle.messages.specs.declared.requests.Look.{Look}
@@ -13,9 +13,9 @@ use Rattle.messages.specs.declared.requests.Request.TheVariants.{Read, Order, Or
 use Rattle.messages.specs.declared.replies.Reply.{Reply}
 use Rattle.messages.specs.declared.replies.Reply.TheVariants.{Found, Ordered, OrderedRead, Stored, Behind, Later, Full}
 use Rattle.protocol.specs.Settings.{Code}
-use Rattle.protocol.specs.Replicas.{Replica, Reaction, newest_of, is_held, stamp_max, top_of, is_wanted, told_version, stays, unless_full, promised, stored, ordered, written, looked_up, order_read, modified_block, modified_on, modified, handle}
+use Rattle.protocol.specs.Replicas.{Replica, Reaction, newest_of, is_held, stamp_max, top_of, is_wanted, told_version, stays, unless_full, promised, stored, ordered, written, looked_up, order_read, modified_block, modified_on, modified, handle, collected, ignored}
 use Rattle.protocol_laws.specs.Laws.{stamp_stored, stamp_asked}
-use Rattle.protocol_laws.proofs.Logs.{LogAscends, IsWithin, newest_greatest, ascends_more, held_more}
+use Rattle.protocol_laws.proofs.Logs.{among_held, LogAscends, IsWithin, newest_greatest, ascends_more, held_more, among, IsKept, lowest_from, among_ascends, among_stands, at_least, kept_from, newest_kept, IsUnder, below_above}
 use Rattle.protocol_laws.proofs.Tables.{get_grown, get_one}
 
 -- neither of two stamps is above the greater
@@ -53,7 +53,7 @@ newest_cases log = cases_of (newest_of log)
     cases_of (Some version) = inl (version, refl)
 
 -- the order stamp is at most the top, and so is the newest version
-top_order : (replica : Replica) → stamp_below (top_of replica) replica.order ≡ false
+pub top_order : (replica : Replica) → stamp_below (top_of replica) replica.order ≡ false
 top_order replica = ⊎_elim
     (λ (some : (version : Version) × (newest_of replica.log ≡ Some version)).
     subst (λ (z : Stamp). stamp_below z replica.order ≡ false) (sym (top_is replica some.0 some.1)) (max_left replica.order some.0.stamp))
@@ -75,11 +75,11 @@ max_of_higher a b h = cond_both (stamp_below a b) b a (λ (z : Stamp). z ≡ b) 
 
 -- the part with a promise of t
 abbrev pub with_order : Replica → Stamp → Replica
-with_order replica t = record { order = t; log = replica.log }
+with_order replica t = record replica { order = t }
 
 -- the part with one more version
 abbrev pub with_version : Replica → Stamp → List ℕ → Replica
-with_version replica t block = record { order = replica.order; log = replica.log ++ (record { stamp = t; block = block } ∷ []) }
+with_version replica t block = record replica { log = replica.log ++ (record { stamp = t; block = block } ∷ []) }
 
 -- after a promise the top is the promised stamp
 pub top_promised : (replica : Replica) (t : Stamp) → stamp_below t (top_of replica) ≡ false → top_of (with_order replica t) ≡ t
@@ -123,9 +123,22 @@ pub record HasWritten (code : Code) (m seat : ℕ) (replica : Replica) (request 
   pub above : stamp_below stamp (top_of replica) ≡ false
   pub next_is : next ≡ with_version replica stamp block
 
--- the part after a request: as before, or with a promise, or with one more version
+-- the part without what is below a stamp
+abbrev pub with_least : Replica → Stamp → Replica
+with_least replica c =
+    record replica { log = among (at_least c) replica.log; from_start = replica.from_start && not (stamp_below first_stamp c) }
+
+-- a request made the member drop what is below a version that it holds
+pub record HasCollected (replica : Replica) (request : Request) (next : Replica) : Type 0 where
+  pub stamp : Stamp
+  pub request_is : request ≡ Collect stamp
+  pub held : is_held stamp replica.log ≡ true
+  pub next_is : next ≡ with_least replica stamp
+
+-- the part after a request: as before, or with a promise, or with one more version, or without some of the lowest
 abbrev pub IsAfter : Code → ℕ → ℕ → Replica → Request → Replica → Type 0
-IsAfter code m seat replica request next = (next ≡ replica) ⊎ (HasPromised replica request next ⊎ HasWritten code m seat replica request next)
+IsAfter code m seat replica request next =
+    (next ≡ replica) ⊎ (HasPromised replica request next ⊎ (HasWritten code m seat replica request next ⊎ HasCollected replica request next))
 
 -- below the top nothing changes; else the change is made, or is refused where the store is full
 change_cases : (P : Reaction → Type 0) (full : Option ℕ) (replica : Replica) (t : Stamp) (reaction : Reaction)
@@ -165,7 +178,7 @@ module _ (code : Code) (m seat : ℕ) where
       (λ held. inl refl)
       (λ isnt. change_cases (λ (z : Reaction). IsAfter code m seat replica (Write t block) z.replica) full replica t (stored replica t block)
       (λ below. inl refl) (λ live is. inl refl)
-      (λ at. inr (inr (record { stamp = t; block = block; request_is = inl refl; above = at; next_is = refl }))))
+      (λ at. inr (inr (inl (record { stamp = t; block = block; request_is = inl refl; above = at; next_is = refl })))))
 
   -- what a modification comes to, by the newest version
   pub modified_each : (P : Reaction → Type 0) (full : Option ℕ) (replica : Replica) (t base : Stamp) (j : ℕ) (delta : List ℕ)
@@ -201,13 +214,19 @@ module _ (code : Code) (m seat : ℕ) where
       (inl refl) (λ below. inl refl) (λ newest. inl refl) (λ live is. inl refl)
       (λ at old is same.
       let request : Modify t base j delta ≡ Modify t old.stamp j delta = ap (λ (u : Stamp). Modify t u j delta) (sym same) in
-      inr (inr (record {
+      inr (inr (inl (record {
         stamp = t;
         block = modified_block code m j seat delta old.block;
         request_is = inr (old, j, delta, request, is, refl);
         above = at;
         next_is = refl;
-      })))
+      }))))
+
+  collected_after : (replica : Replica) (c : Stamp) → IsAfter code m seat replica (Collect c) (collected replica c).replica
+  collected_after replica c =
+      cond_both (is_held c replica.log) _ (ignored replica) (λ (z : Reaction). IsAfter code m seat replica (Collect c) z.replica)
+      (λ held. inr (inr (inr (record { stamp = c; request_is = refl; held = held; next_is = refl }))))
+      (λ isnt. inl refl)
 
   -- the part after a request
   pub handle_after : (full : Option ℕ) (replica : Replica) (request : Request)
@@ -218,7 +237,7 @@ module _ (code : Code) (m seat : ℕ) where
   handle_after full replica (Write t block) = written_after full replica t block
   handle_after full replica (OrderRead t look want) = order_read_after full replica t look want (is_wanted want seat)
   handle_after full replica (Modify t base j delta) = modified_after full replica t base j delta
-  handle_after full replica (Collect t) = inl refl
+  handle_after full replica (Collect t) = collected_after replica t
   handle_after full replica (OldRead bound) = inl refl
   handle_after full replica (Prepare ballot) = inl refl
   handle_after full replica (Accept ballot members) = inl refl
@@ -339,33 +358,72 @@ handle_says code m full seat replica (Order t) = ordered_says full replica t
 handle_says code m full seat replica (Write t block) = written_says full replica t block
 handle_says code m full seat replica (OrderRead t look want) = order_read_says full replica t look want seat
 handle_says code m full seat replica (Modify t base j delta) = modified_says code m seat full replica t base j delta
-handle_says code m full seat replica (Collect t) = tt
+handle_says code m full seat replica (Collect t) =
+    cond_both (is_held t replica.log) _ (ignored replica) (λ (z : Reaction). SaysIf full replica (Collect t) z.replica z.reply) (λ held. tt) (λ isnt. tt)
 handle_says code m full seat replica (OldRead bound) = tt
 handle_says code m full seat replica (Prepare ballot) = tt
 handle_says code m full seat replica (Accept ballot members) = tt
 
+-- the top is as before once the lowest versions were dropped
+top_collected : (replica : Replica) (c : Stamp) → LogAscends replica.log → is_held c replica.log ≡ true
+    → top_of (with_least replica c) ≡ top_of replica
+top_collected replica c ascends held =
+    let same : newest_of (among (at_least c) replica.log) ≡ newest_of replica.log = newest_kept c replica.log ascends held in
+    ⊎_elim
+    (λ (some : (version : Version) × (newest_of replica.log ≡ Some version)).
+    top_is (with_least replica c) some.0 (same ∙ some.1) ∙ sym (top_is replica some.0 some.1))
+    (λ (none : newest_of replica.log ≡ None).
+    top_is_order (with_least replica c) (same ∙ none) ∙ sym (top_is_order replica none))
+    (newest_cases replica.log)
+
 -- a request does not lower the top
-pub after_top : (code : Code) (m seat : ℕ) (replica : Replica) (request : Request) (next : Replica) → IsAfter code m seat replica request next
-    → stamp_below (top_of next) (top_of replica) ≡ false
-after_top code m seat replica request next (inl same) = subst (λ (z : Replica). stamp_below (top_of z) (top_of replica) ≡ false) (sym same)
+pub after_top : (code : Code) (m seat : ℕ) (replica : Replica) (request : Request) (next : Replica) → LogAscends replica.log
+    → IsAfter code m seat replica request next → stamp_below (top_of next) (top_of replica) ≡ false
+after_top code m seat replica request next ascends (inl same) = subst (λ (z : Replica). stamp_below (top_of z) (top_of replica) ≡ false) (sym same)
     (stamp_below_irrefl (top_of replica))
-after_top code m seat replica request next (inr (inl p)) =
+after_top code m seat replica request next ascends (inr (inl p)) =
     let top : top_of next ≡ p.stamp = ap (λ z. top_of z) p.next_is ∙ top_promised replica p.stamp p.above in
     subst (λ (z : Stamp). stamp_below z (top_of replica) ≡ false) (sym top) p.above
-after_top code m seat replica request next (inr (inr p)) =
+after_top code m seat replica request next ascends (inr (inr (inl p))) =
     let top : top_of next ≡ p.stamp = ap (λ z. top_of z) p.next_is ∙ top_written replica p.stamp p.block p.above in
     subst (λ (z : Stamp). stamp_below z (top_of replica) ≡ false) (sym top) p.above
+after_top code m seat replica request next ascends (inr (inr (inr p))) =
+    subst (λ (z : Stamp). stamp_below z (top_of replica) ≡ false) (sym (ap (λ z. top_of z) p.next_is ∙ top_collected replica p.stamp ascends p.held))
+    (stamp_below_irrefl (top_of replica))
 
--- a request leaves what is held
-pub after_held : (code : Code) (m seat : ℕ) (replica : Replica) (request : Request) (next : Replica) (t : Stamp) → IsAfter code m seat replica request next → is_held t replica.log ≡ true
-    → is_held t next.log ≡ true
-after_held code m seat replica request next t (inl same) held = subst (λ (z : Replica). is_held t z.log ≡ true) (sym same) held
-after_held code m seat replica request next t (inr (inl p)) held = subst (λ (z : Replica). is_held t z.log ≡ true) (sym p.next_is) held
-after_held code m seat replica request next t (inr (inr p)) held =
-    subst (λ (z : Replica). is_held t z.log ≡ true) (sym p.next_is) (held_kept t replica.log (record { stamp = p.stamp; block = p.block } ∷ []) held)
+-- a log that grew keeps what it kept
+kept_more : (t : Stamp) (log more : List Version) → IsKept t log → IsKept t (log ++ more)
+kept_more t log more (inl held) = inl (held_kept t log more held)
+kept_more t [] more (inr under) = absurd under
+kept_more t (x ∷ log) more (inr under) = inr under
+
+-- a request drops only what is below all that is left
+pub after_kept : (code : Code) (m seat : ℕ) (replica : Replica) (request : Request) (next : Replica) (t : Stamp) → LogAscends replica.log
+    → IsAfter code m seat replica request next → IsKept t replica.log → IsKept t next.log
+after_kept code m seat replica request next t ascends (inl same) kept = subst (λ (z : Replica). IsKept t z.log) (sym same) kept
+after_kept code m seat replica request next t ascends (inr (inl p)) kept = subst (λ (z : Replica). IsKept t z.log) (sym p.next_is) kept
+after_kept code m seat replica request next t ascends (inr (inr (inl p))) kept =
+    subst (λ (z : Replica). IsKept t z.log) (sym p.next_is) (kept_more t replica.log (record { stamp = p.stamp; block = p.block } ∷ []) kept)
+after_kept code m seat replica request next t ascends (inr (inr (inr p))) kept =
+    subst (λ (z : Replica). IsKept t z.log) (sym p.next_is) (kept_from p.stamp t replica.log ascends p.held kept)
+
+-- the lowest version of a log that is not empty stays, or is the one that a Collect names
+pub after_lowest : (code : Code) (m seat : ℕ) (replica : Replica) (request : Request) (next : Replica) (y x : Version) (rest log : List Version)
+    → LogAscends replica.log → IsAfter code m seat replica request next → replica.log ≡ y ∷ rest → next.log ≡ x ∷ log
+    → ((more : List Version) × (replica.log ≡ x ∷ more)) ⊎ (request ≡ Collect x.stamp)
+after_lowest code m seat replica request next y x rest log ascends (inl same) was is = inl (log, sym (ap (λ z. z.log) same) ∙ is)
+after_lowest code m seat replica request next y x rest log ascends (inr (inl p)) was is = inl (log, sym (ap (λ z. z.log) p.next_is) ∙ is)
+after_lowest code m seat replica request next y x rest log ascends (inr (inr (inl p))) was is =
+    let grown : (y ∷ rest) ++ (record { stamp = p.stamp; block = p.block } ∷ []) ≡ x ∷ log
+    = ap (λ (l : List Version). l ++ (record { stamp = p.stamp; block = p.block } ∷ [])) (sym was) ∙ sym (ap (λ z. z.log) p.next_is) ∙ is in
+    let same : y ≡ x = cc in
+    inl (rest, was ∙ ap (λ (z : Version). z ∷ rest) same)
+after_lowest code m seat replica request next y x rest log ascends (inr (inr (inr p))) was is =
+    let stamp : x.stamp ≡ p.stamp = lowest_from p.stamp replica.log x log ascends p.held (sym (ap (λ z. z.log) p.next_is) ∙ is) in
+    inr (p.request_is ∙ ap Collect (sym stamp))
 
 -- what is held is at most the top
-held_top : (replica : Replica) (d : Stamp) → LogAscends replica.log → is_held d replica.log ≡ true → stamp_below (top_of replica) d ≡ false
+pub held_top : (replica : Replica) (d : Stamp) → LogAscends replica.log → is_held d replica.log ≡ true → stamp_below (top_of replica) d ≡ false
 held_top replica d ascends held = within (newest_of replica.log) refl
   where
     within : (z : Option Version) → newest_of replica.log ≡ z → stamp_below (top_of replica) d ≡ false
@@ -374,12 +432,25 @@ held_top replica d ascends held = within (newest_of replica.log) refl
         stamp_not_below_trans d version.stamp (top_of replica)
         (subst (λ (z : Option Version). IsWithin z d) is (newest_greatest d replica.log ascends held)) (top_newest replica version is)
 
+-- what is below all of a log is below the top
+pub under_top : (replica : Replica) (d : Stamp) → LogAscends replica.log → IsUnder d replica.log → stamp_below d (top_of replica) ≡ true
+under_top replica d ascends under = at replica.log refl under
+  where
+    at : (log : List Version) → replica.log ≡ log → IsUnder d log → stamp_below d (top_of replica) ≡ true
+    at [] is under = absurd under
+    at (x ∷ log) is under =
+        below_above d x.stamp (top_of replica) under
+        (held_top replica x.stamp ascends (subst (λ (l : List Version). is_held x.stamp l ≡ true) (sym is)
+        (or_left (stamp_same x.stamp x.stamp) (is_held x.stamp log) (stamp_same_refl x.stamp))))
+
 -- after a request a log goes on ascending
 pub after_ascends : (code : Code) (m seat : ℕ) (replica : Replica) (request : Request) (next : Replica) → IsAfter code m seat replica request next → LogAscends replica.log
     → LogAscends next.log
 after_ascends code m seat replica request next (inl same) ascends = subst (λ (z : Replica). LogAscends z.log) (sym same) ascends
 after_ascends code m seat replica request next (inr (inl p)) ascends = subst (λ (z : Replica). LogAscends z.log) (sym p.next_is) ascends
-after_ascends code m seat replica request next (inr (inr p)) ascends =
+after_ascends code m seat replica request next (inr (inr (inr p))) ascends =
+    subst (λ (z : Replica). LogAscends z.log) (sym p.next_is) (among_ascends (at_least p.stamp) replica.log ascends)
+after_ascends code m seat replica request next (inr (inr (inl p))) ascends =
     subst (λ (z : Replica). LogAscends z.log) (sym p.next_is)
     (ascends_more replica.log (record { stamp = p.stamp; block = p.block }) ascends
     (λ d held. stamp_not_below_trans d (top_of replica) p.stamp (held_top replica d ascends held) p.above))
@@ -389,7 +460,9 @@ pub after_newer : (code : Code) (m seat : ℕ) (replica : Replica) (request : Re
     → (is_held t replica.log ≡ true) ⊎ (stamp_below t (top_of replica) ≡ false)
 after_newer code m seat replica request next t (inl same) held = inl (subst (λ (z : Replica). is_held t z.log ≡ true) same held)
 after_newer code m seat replica request next t (inr (inl p)) held = inl (subst (λ (z : Replica). is_held t z.log ≡ true) p.next_is held)
-after_newer code m seat replica request next t (inr (inr p)) held = ⊎_elim
+after_newer code m seat replica request next t (inr (inr (inr p))) held =
+    inl (among_held (at_least p.stamp) t replica.log (subst (λ (z : Replica). is_held t z.log ≡ true) p.next_is held))
+after_newer code m seat replica request next t (inr (inr (inl p))) held = ⊎_elim
     (λ (old : is_held t replica.log ≡ true). inl old)
     (λ (new : p.stamp ≡ t). inr (subst (λ (z : Stamp). stamp_below z (top_of replica) ≡ false) new p.above))
     (held_more t replica.log (record { stamp = p.stamp; block = p.block }) (subst (λ (z : Replica). is_held t z.log ≡ true) p.next_is held))
@@ -405,13 +478,15 @@ store_asked code m seat replica request t block (inl is) = ap stamp_asked is
 store_asked code m seat replica request t block (inr (old, j, delta, is, newest, block_is)) = ap stamp_asked is
 
 -- the top is as before, or the stamp that was asked for
-pub after_asked : (code : Code) (m seat : ℕ) (replica : Replica) (request : Request) (next : Replica) → IsAfter code m seat replica request next
-    → (top_of next ≡ top_of replica) ⊎ (stamp_asked request ≡ Some (top_of next))
-after_asked code m seat replica request next (inl same) = inl (ap (λ z. top_of z) same)
-after_asked code m seat replica request next (inr (inl p)) =
+pub after_asked : (code : Code) (m seat : ℕ) (replica : Replica) (request : Request) (next : Replica) → LogAscends replica.log
+    → IsAfter code m seat replica request next → (top_of next ≡ top_of replica) ⊎ (stamp_asked request ≡ Some (top_of next))
+after_asked code m seat replica request next ascends (inl same) = inl (ap (λ z. top_of z) same)
+after_asked code m seat replica request next ascends (inr (inl p)) =
     let top : top_of next ≡ p.stamp = ap (λ z. top_of z) p.next_is ∙ top_promised replica p.stamp p.above in
     inr (order_asked request p.stamp p.request_is ∙ ap (λ (t : Stamp). Some t) (sym top))
-after_asked code m seat replica request next (inr (inr p)) =
+after_asked code m seat replica request next ascends (inr (inr (inr p))) =
+    inl (ap (λ z. top_of z) p.next_is ∙ top_collected replica p.stamp ascends p.held)
+after_asked code m seat replica request next ascends (inr (inr (inl p))) =
     let top : top_of next ≡ p.stamp = ap (λ z. top_of z) p.next_is ∙ top_written replica p.stamp p.block p.above in
     inr (store_asked code m seat replica request p.stamp p.block p.request_is ∙ ap (λ (t : Stamp). Some t) (sym top))
 
@@ -419,14 +494,16 @@ after_asked code m seat replica request next (inr (inr p)) =
 pub after_log : (code : Code) (m seat : ℕ) (replica : Replica) (request : Request) (next : Replica) (k : ℕ) (version : Version)
     → IsAfter code m seat replica request next
     → slice_get next.log k ≡ Some version
-    → (slice_get replica.log k ≡ Some version) ⊎ StoresBlock code m seat replica request version.stamp version.block
-after_log code m seat replica request next k version (inl same) is = inl (subst (λ (z : Replica). slice_get z.log k ≡ Some version) same is)
-after_log code m seat replica request next k version (inr (inl p)) is = inl (subst (λ (z : Replica). slice_get z.log k ≡ Some version) p.next_is is)
-after_log code m seat replica request next k version (inr (inr p)) is =
+    → ((j : ℕ) × (slice_get replica.log j ≡ Some version)) ⊎ StoresBlock code m seat replica request version.stamp version.block
+after_log code m seat replica request next k version (inl same) is = inl (k, subst (λ (z : Replica). slice_get z.log k ≡ Some version) same is)
+after_log code m seat replica request next k version (inr (inl p)) is = inl (k, subst (λ (z : Replica). slice_get z.log k ≡ Some version) p.next_is is)
+after_log code m seat replica request next k version (inr (inr (inr p))) is =
+    inl (among_stands (at_least p.stamp) replica.log version k (subst (λ (z : Replica). slice_get z.log k ≡ Some version) p.next_is is))
+after_log code m seat replica request next k version (inr (inr (inl p))) is =
     let grown : slice_get (replica.log ++ (record { stamp = p.stamp; block = p.block } ∷ [])) k ≡ Some version
     = subst (λ (z : Replica). slice_get z.log k ≡ Some version) p.next_is is in
     ⊎_elim
-    (λ (old : slice_get replica.log k ≡ Some version). inl old)
+    (λ (old : slice_get replica.log k ≡ Some version). inl (k, old))
     (λ (new : (j : ℕ) × (slice_get (record { stamp = p.stamp; block = p.block } ∷ []) j ≡ Some version)).
     let same : record { stamp = p.stamp; block = p.block } ≡ version = get_one (record { stamp = p.stamp; block = p.block }) version new.0 new.1 in
     inr (subst (λ (z : Version). StoresBlock code m seat replica request z.stamp z.block) same p.request_is))

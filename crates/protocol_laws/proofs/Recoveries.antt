@@ -1,6 +1,6 @@
 -- What a quorum of replies to a recovery decides: nothing that a quorum holds, or ever will, lies between the greatest version found and the
 -- recovery's stamp; nor that version itself, where too few blocks of it were found.
-use Rattle.std.proofs.Common.{◌≡◌, ℕ, ◌+◌, ◌<◌, ◌≤◌, Bool, true, false, not, List, [], ◌∷◌, length, Option, Some, None, refl, sym, ap, ◌∙◌, subst, ⊎_elim, arith, ◌⊎◌, inl, inr, ◌&&◌}
+use Rattle.std.proofs.Common.{◌≡◌, ℕ, ◌+◌, ◌<◌, ◌≤◌, Bool, true, false, not, List, [], ◌∷◌, length, Option, Some, None, refl, sym, ap, ◌∙◌, subst, ⊎_elim, arith, ◌&&◌}
 use Rattle.std.specs.Prelude.{filter}
 use Rattle.std.specs.Option.{option_map}
 use Rattle.std.proofs.lemmas.Bool.{cond_both, false≢true, cases_Bool, not-true, not_from_false}
@@ -23,7 +23,7 @@ use Rattle.messages.specs.declared.requests.Look.TheVariants.{Below, At}
 use Rattle.messages.specs.declared.requests.Want.{Want}
 use Rattle.messages.specs.declared.requests.Want.TheVariants.{All}
 use Rattle.protocol.specs.declared.phases.Phase.{Phase}
-use Rattle.protocol.specs.declared.phases.Phase.TheVariants.{OrdersAt, Recovers, Descends, Bases}
+use Rattle.protocol.specs.declared.phases.Phase.TheVariants.{Descends, Bases}
 use Rattle.protocol.specs.Coordinators.{Coordinator, told_in, told_stamp, finds, bytes_of, pieces_at, greater_stamp, greatest_found, greatest_refuser, lowest_full}
 use Rattle.protocol.specs.Worlds.{World, Operation}
 use Rattle.fab_base.specs.Layouts.{brick_at}
@@ -36,7 +36,7 @@ use Rattle.protocol_laws.proofs.Blocking.{twice_quorum, passes_by, passes, block
 use Rattle.protocol_laws.proofs.Said.{Stamping, Said, IsContent, IsMadeOrFirst, IsStampOf, CallSays, CountedSays, EachCounted, AreOnce, look_of, want_of, is_looked, MadeOn, base_in}
 use Rattle.protocol_laws.proofs.Counting.{each_then, each_both, each_filter, once_filter, at_seats, TellsAtMost, found_most, found_one, finds_told, told_finds, IsPieceOf, are_pieces, pieces_length}
 use Rattle.protocol_laws.proofs.Stampings.{not_first, above_first}
-use Rattle.protocol_laws.proofs.Decisions.{quorum_enough, ReadsAt, told_version_is, content_formed, all_read}
+use Rattle.protocol_laws.proofs.Decisions.{quorum_enough, ReadsAt, told_version_is, content_formed, all_read, bound_cases}
 
 -- nothing is told where nothing is found
 none_told : (found : Option Version) → option_map (λ (z : Version). z.stamp) found ≡ None → found ≡ None
@@ -49,13 +49,6 @@ none_greater None b is = refl
 none_greater (Some a) None is = is
 none_greater (Some a) (Some b) is =
     cond_both (stamp_below a b) (Some b) (Some a) (λ (z : Option Stamp). z ≡ None → Some a ≡ None) (λ less e. cc) (λ above e. cc) is
-
--- a phase that looks below a bound looks below its own stamp, or descends
-bound_cases : (p : Phase) (t bound : Stamp) → look_of p t ≡ Some (Below bound) → (bound ≡ t) ⊎ (p ≡ Descends bound)
-bound_cases (OrdersAt j) t bound looks = let same : bound ≡ t = cc in inl same
-bound_cases Recovers t bound looks = let same : bound ≡ t = cc in inl same
-bound_cases (Descends b) t bound looks = let same : b ≡ bound = cc in inr (ap Descends same)
-bound_cases p t bound looks = cc
 
 module _ (setting : Setting) (sound : IsSound setting) (w : World) (stamps : Stamping) (me : BrickId) (c : Coordinator)
     (books : Books setting w) (said : Said setting w stamps) (is : IsCall w me.0 c.call.seq c)

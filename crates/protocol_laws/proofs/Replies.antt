@@ -28,7 +28,7 @@ use Rattle.protocol.specs.declared.phases.Phase.{Phase}
 use Rattle.protocol.specs.declared.phases.Phase.TheVariants.{Looks, LooksAt, Orders, OrdersAt, Recovers, Descends, Modifies, Bases, Stores}
 use Rattle.protocol.specs.Coordinators.{Coordinator, Next, Waits, Sends, Makes, Ends, answers_phase, has_seat, counts_at, fast_version, pieces_of, pieces_at, greatest_found, greatest_refuser, lowest_full, in_phase, restoring, reordering, most_rounds, aborted_by, unless_told_full, unless_refused, ordered_again, once_ordered, answered_fast, read_back, answer_with, decided, with_reply, once_full, counted_at, on_reply, request_of, fast_version_at, common_version, common_version_at, bytes_at, block_written, some_behind, answered_fast_at, modifying, modified_if, once_modified, rebuilt, forgetting}
 use Rattle.protocol.specs.Nodes.{Node, has_block, has_length, given_content, with_known, with_call, carried_out}
-use Rattle.protocol.specs.Worlds.{World, Operation, number_of, world_stepped, content_on}
+use Rattle.protocol.specs.Worlds.{World, Operation, number_of, world_stepped, content_on, is_answer}
 use Rattle.protocol.specs.Happenings.{writes}
 use Rattle.fab_base.specs.Layouts.{brick_at}
 use Rattle.protocol_laws.specs.Laws.{WasSent, AtQuorum}
@@ -59,7 +59,8 @@ said_known setting w stamps me known books said more =
           (ages_within (w.nodes me.0) (with_known (w.nodes me.0) known) refl more (omega arith));
       stamps_other = λ i b k other p. refl;
       tops = λ g s. inl refl;
-      logs = λ g s k version is. inl is;
+      logs = λ g s k version is. inl (k, is);
+      lowest = λ g s x log is. inl (log, is);
       calls = λ k c is. inl (is, λ p. refl);
       packets = λ k packet is. cc;
     })
@@ -154,7 +155,8 @@ module _ (setting : Setting) (sound : IsSound setting) (w : World) (stamps : Sta
               (ages_within (w.nodes me.0) node refl more_known (omega arith));
           stamps_other = λ i b k other p. refl;
           tops = λ g s. inl refl;
-          logs = λ g s k version at. inl at;
+          logs = λ g s k version at. inl (k, at);
+          lowest = λ g s x log at. inl (log, at);
           calls = λ k e.
               put_each (λ j x. x ≡ Some e
               → (((w.nodes me.0).calls j ≡ Some e) × KeepsStamps stamps stamps me.0 (w.nodes me.0).boot j)
@@ -181,7 +183,8 @@ module _ (setting : Setting) (sound : IsSound setting) (w : World) (stamps : Sta
         (λ (bad : false ≡ true). absurd (false≢true bad))
         how))
         (λ bad writing. absurd (false≢true bad))
-        tt,
+        tt
+        (λ t bad. let never : None ≡ Some t = bad in cc),
   )
 
   -- a group that is the operation's is the one at hand
@@ -270,7 +273,8 @@ module _ (setting : Setting) (sound : IsSound setting) (w : World) (stamps : Sta
                 (subst (λ (t : Stamp). AtQuorum group (λ seat. w.held (brick_at group seat) o.ask.group.0 o.ask.stripe.0 t)) same
                 (fast_stands setting sound w stamps me c books said is d.counted each once many v fast)))
                 (λ answered writing. absurd (false≢true (sym reads ∙ writing)))
-                (v, refl, gives),
+                (v, refl, gives)
+                (λ t bad. let never : None ≡ Some t = bad in cc),
           )
 
       -- the coordinator begins its next phase with its own stamp
@@ -606,10 +610,15 @@ module _ (setting : Setting) (sound : IsSound setting) (w : World) (stamps : Sta
       stored_shows (WriteBlock j bytes) v content is has same = ap writes is
       stored_shows (WriteStripe bytes) v content is has same = ap writes is
 
+      -- what is not aborted is answered
+      answer_is : (z : Option (List ℕ)) → is_answer (answer_with z) ≡ true
+      answer_is None = refl
+      answer_is (Some bytes) = refl
+
       -- an operation whose version stands is answered
-      answers_on : (answer : Answer) → IsMade c o → AtQuorum group (λ seat. w.held (brick_at group seat) o.ask.group.0 o.ask.stripe.0 c.stamp)
+      answers_on : (answer : Answer) → is_answer answer ≡ true → IsMade c o → AtQuorum group (λ seat. w.held (brick_at group seat) o.ask.group.0 o.ask.stripe.0 c.stamp)
           → WillShow setting w o None answer → IsSaid setting (after (Ends answer None (Some c.stamp)))
-      answers_on answer made stands shows = (
+      answers_on answer is_one made stands shows = (
         stamps,
         said_ended setting w stamps me c known books said is more_known answer None (Some c.stamp)
             (λ v has. has)
@@ -620,14 +629,15 @@ module _ (setting : Setting) (sound : IsSound setting) (w : World) (stamps : Sta
             subst (λ (z : Group). AtQuorum z (λ seat. w.held (brick_at z seat) o.ask.group.0 o.ask.stripe.0 v)) group_same
             (subst (λ (t : Stamp). AtQuorum group (λ seat. w.held (brick_at group seat) o.ask.group.0 o.ask.stripe.0 t)) same stands))
             (λ answered writing. made.1)
-            shows,
+            shows
+            (λ t is. (made.1, made.0 ∙ is, is_one)),
       )
 
       stores_on : c.phase ≡ Stores → lowest_full d.counted ≡ None → (z : Option Refuser) → greatest_refuser d.counted ≡ z
           → IsSaid setting (after (unless_refused z (Ends (answer_with (read_of setting.layout.block c.ask.op c.content)) None (Some c.stamp))))
       stores_on stores roomy None none =
           let made : IsMade c o = subst (λ (p : Phase). MadeInPhase c o p) stores its.made in
-          answers_on (answer_with (read_of setting.layout.block c.ask.op c.content)) made
+          answers_on (answer_with (read_of setting.layout.block c.ask.op c.content)) (answer_is (read_of setting.layout.block c.ask.op c.content)) made
           (stored_stands setting sound w stamps me c books said is d.counted each once many stores none roomy)
           (stored_shows c.ask.op c.stamp c.content its_op made.0
           ((says.stores stores).1 ∙ ap (λ (a : Ask). w.contents a.group.0 a.stripe.0 c.stamp) its.ask))
@@ -645,7 +655,7 @@ module _ (setting : Setting) (sound : IsSound setting) (w : World) (stamps : Sta
           begins c.base c.content (Bases base) (j, writing.0, writing.1) (refl, refl, says.based base (ap base_in modifies))
           (level (Bases base) c.ask.op c.stamp (λ bound bad. cc)))
           (λ level_all.
-          answers_on Done made.0 (modified_stands setting sound w stamps me c books said is d.counted each once many base j modifies none roomy level_all)
+          answers_on Done refl made.0 (modified_stands setting sound w stamps me c books said is d.counted each once many base j modifies none roomy level_all)
           (ap writes (its_op ∙ writing.1)))
 
       -- a base that was read back is stored, with what the operation makes of it

@@ -1,12 +1,12 @@
 -- A member handles a request: what its part of the stripe, and its reply, then say.
-use Rattle.std.proofs.Common.{◌≡◌, ℕ, ◌⊎◌, inl, inr, true, false, List, [], Option, Some, None, refl, sym, ap, ◌∙◌, subst, ⊎_elim, arith}
+use Rattle.std.proofs.Common.{◌≡◌, ℕ, ◌⊎◌, inl, inr, true, false, List, [], Option, Some, None, refl, sym, ap, ◌∙◌, subst, ⊎_elim, arith, ◌∷◌}
 use Rattle.std.specs.Prelude.{slice_get, nat_eq}
-use Rattle.std.proofs.lemmas.Bool.{cond_both, eqb-true}
+use Rattle.std.proofs.lemmas.Bool.{cond_both, eqb-true, or_left, false≢true, cases_Bool}
 use Rattle.std.proofs.lemmas.Option.{same_Some}
 use Rattle.fab_base.specs.declared.identities.BrickId.{BrickId}
 use Rattle.fab_base.specs.declared.stamps.Stamp.{Stamp}
-use Rattle.fab_base.specs.Stamps.{stamp_below}
-use Rattle.fab_base.proofs.StampOrder.{stamp_below_irrefl, stamp_not_below_trans}
+use Rattle.fab_base.specs.Stamps.{stamp_below, stamp_same, first_stamp}
+use Rattle.fab_base.proofs.StampOrder.{stamp_below_irrefl, stamp_not_below_trans, stamp_below_asym, stamp_same_refl, stamp_below_first}
 use Rattle.messages.specs.declared.calls.Call.{Call}
 use Rattle.messages.specs.declared.packets.Message.TheVariants as Message
 use Rattle.messages.specs.declared.packets.Packet.{Packet}
@@ -28,24 +28,24 @@ use Rattle.protocol_laws.proofs.Served.{parts_each}
 use Rattle.protocol_laws.proofs.FirstViews.{floor_at, part_floor, view_is, view_below}
 use Rattle.protocol_laws.proofs.Books.{Books}
 use Rattle.protocol_laws.proofs.OwnStamps.{made_view}
-use Rattle.protocol_laws.proofs.Blocking.{held_in, was_held}
-use Rattle.protocol_laws.proofs.Said.{Stamping, Said, IsStamped, IsMadeOrFirst, IsKnown, IsCalled, VersionSays, ToldSays, MakerSays, WriteSays, ChangesBlock, ModifySays, OrderSays, OrderReadSays, RequestSays, is_looked, OrderedSays, OrderedReadSays, FoundSays, ReplySays, PacketSays}
+use Rattle.protocol_laws.proofs.Blocking.{held_in, was_kept}
+use Rattle.protocol_laws.proofs.Said.{Stamping, Said, IsStamped, IsMadeOrFirst, IsKnown, IsCalled, VersionSays, ToldSays, MakerSays, WriteSays, ChangesBlock, ModifySays, OrderSays, OrderReadSays, RequestSays, is_looked, OrderedSays, OrderedReadSays, FoundSays, ReplySays, PacketSays, IsPassedOver, WasCollected}
 use Rattle.protocol_laws.proofs.Tables.{put_same, get_one}
-use Rattle.protocol_laws.proofs.Logs.{LogAscends, IsWithin, among, place_held, newest_stands, newest_held, newest_among, newest_stands_among}
-use Rattle.protocol_laws.proofs.Reactions.{IsAfter, StoresBlock, IsTold, ReactionSays, SaysIf, with_order, top_promised, after_top, after_held, after_newer, after_ascends, after_asked, after_log, top_is}
+use Rattle.protocol_laws.proofs.Logs.{LogAscends, IsWithin, among, place_held, newest_stands, newest_held, newest_among, newest_stands_among, IsKept, IsUnder}
+use Rattle.protocol_laws.proofs.Reactions.{IsAfter, StoresBlock, IsTold, ReactionSays, SaysIf, with_order, top_promised, after_top, after_kept, after_lowest, after_newer, after_ascends, after_asked, after_log, top_is, held_top}
 use Rattle.protocol_laws.proofs.Stampings.{ages_within, stamps_same}
-use Rattle.protocol_laws.proofs.Growth.{Grows, Continues, stays_version, stays_told, stays_called, stays_found}
+use Rattle.protocol_laws.proofs.Growth.{Grows, Continues, stays_version, stays_told, stays_called, stays_found, stays_collected}
 use Rattle.protocol_laws.proofs.Steps.{KeepsParts, quiet, quiet_grows, said_quiet, stamps_stay_by}
 
--- a request lowers no part, and leaves what is held
+-- a request lowers no part, and drops only what is below all that is left
 pub parts_keep : (code : Code) (m seat : ℕ) (node : Node) (call : Call) (request : Request) (reaction : Reaction)
-    → IsAfter code m seat (replica_at node call) request reaction.replica
+    → LogAscends (replica_at node call).log → IsAfter code m seat (replica_at node call) request reaction.replica
     → KeepsParts node (with_replica node call reaction)
-parts_keep code m seat node call request reaction after = record {
+parts_keep code m seat node call request reaction rises after = record {
   tops = parts_each (λ g e s r. stamp_below (top_of r) (top_of (node.replicas g e s)) ≡ false) node call reaction
-      (after_top code m seat (replica_at node call) request reaction.replica after) (λ g e s. stamp_below_irrefl (top_of (node.replicas g e s)));
-  held = λ g e s t. parts_each (λ h v r x. is_held t (node.replicas h v r).log ≡ true → is_held t x.log ≡ true) node call reaction
-      (λ held. after_held code m seat (replica_at node call) request reaction.replica t after held) (λ h v r held. held) g e s;
+      (after_top code m seat (replica_at node call) request reaction.replica rises after) (λ g e s. stamp_below_irrefl (top_of (node.replicas g e s)));
+  kept = λ g e s t. parts_each (λ h v r x. IsKept t (node.replicas h v r).log → IsKept t x.log) node call reaction
+      (λ kept. after_kept code m seat (replica_at node call) request reaction.replica t rises after kept) (λ h v r kept. kept) g e s;
   newer = λ g e s t.
       parts_each (λ h v r x. is_held t x.log ≡ true → (is_held t (node.replicas h v r).log ≡ true) ⊎ (stamp_below t (top_of (node.replicas h v r)) ≡ false))
       node call reaction (λ held. after_newer code m seat (replica_at node call) request reaction.replica t after held)
@@ -64,6 +64,17 @@ part_now node call reaction =
     (put_same (node.replicas call.group.0) call.view.0 (put (node.replicas call.group.0 call.view.0) call.stripe.0 reaction.replica))
     ∙ put_same (node.replicas call.group.0 call.view.0) call.stripe.0 reaction.replica
 
+-- a log that keeps something is not empty
+kept_some : (t : Stamp) (log : List Version) → IsKept t log → (x : Version) × (rest : List Version) × (log ≡ x ∷ rest)
+kept_some t [] (inl held) = absurd (false≢true held)
+kept_some t [] (inr under) = absurd under
+kept_some t (x ∷ rest) kept = (x, rest, refl)
+
+-- what was found is at least what is below it
+within_lower : (found : Option Version) (d c : Stamp) → stamp_below d c ≡ true → IsWithin found c → IsWithin found d
+within_lower None d c less within = within
+within_lower (Some version) d c less within = stamp_not_below_trans d c version.stamp (stamp_below_asym d c less) within
+
 -- the call in view 1
 abbrev pub in_first : Call → Call
 in_first call =
@@ -79,6 +90,15 @@ module _ (setting : Setting) (w : World) (stamps : Stamping) (me from : BrickId)
   -- the member's part before the request
   abbrev before : Replica
   before = part_of w call.group.0 call.stripe.0 me.0
+
+  -- its log ascends, and has a lowest version
+  rises : LogAscends before.log
+  rises = said.logged.ascends call.group.0 1 call.stripe.0 me.0
+
+  lowest_is : (x : Version) × (rest : List Version) × (before.log ≡ x ∷ rest)
+  lowest_is =
+      kept_some first_stamp before.log
+      (was_kept w said.logged call.group.0 call.stripe.0 me.0 first_stamp refl (said.first_held call.group.0 call.stripe.0 me.0))
 
   asks : RequestSays setting w stamps from.0 me.0 call request
   asks = said.packets sent.0 (record { from = from; to = me; message = Message.Request call request }) sent.1
@@ -129,7 +149,7 @@ module _ (setting : Setting) (w : World) (stamps : Stamping) (me from : BrickId)
     next = quiet w me (with_replica (w.nodes me.0) call reaction) more
 
     keeps : KeepsParts (w.nodes me.0) (with_replica (w.nodes me.0) call reaction)
-    keeps = parts_keep setting.code group.m seat (w.nodes me.0) call request reaction after
+    keeps = parts_keep setting.code group.m seat (w.nodes me.0) call request reaction rises after
 
     grows : Grows w next stamps stamps
     grows = quiet_grows w stamps stamps me (with_replica (w.nodes me.0) call reaction) more (stamps_same stamps) said.logged keeps
@@ -140,7 +160,7 @@ module _ (setting : Setting) (w : World) (stamps : Stamping) (me from : BrickId)
         (⊎_elim (λ (same : top_of part ≡ top_of before). inl same)
         (λ (asked : stamp_asked request ≡ Some (top_of part)).
         inr (asked_known (top_of part) asked))
-        (after_asked setting.code group.m seat before request part after))
+        (after_asked setting.code group.m seat before request part rises after))
         (λ h e r. inl refl) g 1 s
 
     -- a version that is stored says what it should
@@ -176,17 +196,37 @@ module _ (setting : Setting) (w : World) (stamps : Stamping) (me from : BrickId)
         }
 
     logs : (g s k : ℕ) (version : Version) → slice_get ((with_replica (w.nodes me.0) call reaction).replicas g 1 s).log k ≡ Some version
-        → (slice_get ((w.nodes me.0).replicas g 1 s).log k ≡ Some version) ⊎ VersionSays setting next g s me.0 version
+        → ((j : ℕ) × (slice_get ((w.nodes me.0).replicas g 1 s).log j ≡ Some version)) ⊎ VersionSays setting next g s me.0 version
     logs g s k version = parts_each
         (λ h e r x. slice_get x.log k ≡ Some version
-        → (slice_get ((w.nodes me.0).replicas h e r).log k ≡ Some version) ⊎ VersionSays setting next h r me.0 version)
+        → ((j : ℕ) × (slice_get ((w.nodes me.0).replicas h e r).log j ≡ Some version)) ⊎ VersionSays setting next h r me.0 version)
         (w.nodes me.0) call reaction
         (λ is. ⊎_elim
-        (λ (old : slice_get before.log k ≡ Some version). inl old)
+        (λ (old : (j : ℕ) × (slice_get before.log j ≡ Some version)). inl old)
         (λ (new : StoresBlock setting.code group.m seat before request version.stamp version.block).
         inr (stays_version setting w next stamps stamps books grows call.group.0 call.stripe.0 me.0 version (stored_version version new)))
         (after_log setting.code group.m seat before request part k version after is))
-        (λ h e r is. inl is) g 1 s
+        (λ h e r is. inl (k, is)) g 1 s
+
+    -- the lowest version is as before, or one that was collected
+    lowest : (g s : ℕ) (x : Version) (log : List Version) → ((with_replica (w.nodes me.0) call reaction).replicas g 1 s).log ≡ x ∷ log
+        → ((rest : List Version) × (((w.nodes me.0).replicas g 1 s).log ≡ x ∷ rest)) ⊎ WasCollected next g s x.stamp
+    lowest g s x log = parts_each
+        (λ h e r y. y.log ≡ x ∷ log → ((rest : List Version) × (((w.nodes me.0).replicas h e r).log ≡ x ∷ rest)) ⊎ WasCollected next h r x.stamp)
+        (w.nodes me.0) call reaction
+        (λ is. ⊎_elim
+        (λ (old : (rest : List Version) × (before.log ≡ x ∷ rest)). inl old)
+        (λ (collects : request ≡ Request.Collect x.stamp). inr (record {
+          call = call;
+          from = from;
+          to = me;
+          sent = grows.sent (record { from = from; to = me; message = Message.Request call (Request.Collect x.stamp) })
+              (subst (λ (z : Request). WasSent w (record { from = from; to = me; message = Message.Request call z })) collects sent);
+          group = refl;
+          stripe = refl;
+        }))
+        (after_lowest setting.code group.m seat before request part lowest_is.0 x lowest_is.1 log rises after lowest_is.2 is))
+        (λ h e r is. inl (log, is)) g 1 s
 
     -- the member's part after the request
     now : part_of next call.group.0 call.stripe.0 me.0 ≡ part
@@ -276,6 +316,34 @@ module _ (setting : Setting) (w : World) (stamps : Stamping) (me from : BrickId)
         let old : IsWithin (Some told.0) d = subst (λ (z : Option Version). IsWithin z d) told.1 within in
         subst (λ (t : Stamp). stamp_below t d ≡ false) (sym told.2) old
 
+    -- what was dropped, and is looked for, is below what was found, or is passed over
+    dropped_passed : (found : Option Version) (look : Look) (t d : Stamp) → IsTold found (looked_up look before.log)
+        → stamp_below t (top_of before) ≡ false → IsUnder d before.log → IsWithin found d ⊎ IsPassedOver next call.group.0 call.stripe.0 look t d
+    dropped_passed found look t d told above under =
+        let x : Version = lowest_is.0 in
+        let less : stamp_below d x.stamp ≡ true = subst (λ (l : List Version). IsUnder d l) lowest_is.2 under in
+        let here : is_held x.stamp before.log ≡ true
+        = subst (λ (l : List Version). is_held x.stamp l ≡ true) (sym lowest_is.2)
+        (or_left (stamp_same x.stamp x.stamp) (is_held x.stamp lowest_is.1) (stamp_same_refl x.stamp)) in
+        ⊎_elim
+        (λ (looked : is_looked look x.stamp ≡ true).
+        inl (within_lower found d x.stamp less
+        (found_within found (looked_up look before.log) x.stamp told
+        (subst (λ (z : Option Version). IsWithin z x.stamp) (sym (looked_is look before.log))
+        (newest_among (is_looked look) x.stamp before.log rises here looked)))))
+        (λ (unlooked : is_looked look x.stamp ≡ false). ⊎_elim
+        (λ (first : x.stamp ≡ first_stamp).
+        absurd (false≢true (sym (stamp_below_first d) ∙ subst (λ (z : Stamp). stamp_below d z ≡ true) first less)))
+        (λ (collected : WasCollected w call.group.0 call.stripe.0 x.stamp). inr (record {
+          at = x.stamp;
+          above = less;
+          unlooked = unlooked;
+          most = stamp_not_below_trans x.stamp (top_of before) t (held_top before x.stamp rises here) above;
+          collected = stays_collected w next grows.sent call.group.0 call.stripe.0 x.stamp collected;
+        }))
+        (said.lowest call.group.0 call.stripe.0 me.0 x lowest_is.1 lowest_is.2))
+        (cases_Bool (is_looked look x.stamp))
+
     found_told : (found : Option Version) (kept : Option Version) (version : Version) → IsTold found kept → found ≡ Some version
         → IsTold (Some version) kept
     found_told found kept version told is = subst (λ (z : Option Version). IsTold z kept) is told
@@ -304,13 +372,14 @@ module _ (setting : Setting) (w : World) (stamps : Stamping) (me from : BrickId)
           view = view;
           promised = subst (λ (t : Stamp). stamp_below t told.0 ≡ false) (sym top) (stamp_below_irrefl told.0);
           floor = promise_above told.0 says.operation says.called goes.0 goes.2 told.1.3;
-          newest = λ d held looked.
-              found_within found (looked_up look before.log) d told.1.5
-              (subst (λ (z : Option Version). IsWithin z d) (sym kept)
-              (newest_among (is_looked look) d before.log (said.ascends call.group.0 call.stripe.0 me.0)
-              (subst (λ (r : Replica). is_held d r.log ≡ true) promise
-              (was_held next grows.parts.logged call.group.0 call.stripe.0 me.0 d
-              (view_below d told.0 (omega (arith, view)) (says.below d looked)) held)) looked));
+          newest = λ d held looked. ⊎_elim
+              (λ (there : is_held d before.log ≡ true).
+              inl (found_within found (looked_up look before.log) d told.1.5
+              (subst (λ (z : Option Version). IsWithin z d) (sym kept) (newest_among (is_looked look) d before.log rises there looked))))
+              (λ (under : IsUnder d before.log). dropped_passed found look told.0 d told.1.5 told.1.3 under)
+              (subst (λ (r : Replica). IsKept d r.log) promise
+              (was_kept next grows.parts.logged call.group.0 call.stripe.0 me.0 d
+              (view_below d told.0 (omega (arith, view)) (says.below d looked)) held));
           held = λ version is.
               let tells = found_told found (looked_up look before.log) version told.1.5 is in
               let at = newest_stands_among (is_looked look) before.log tells.0 (sym kept ∙ tells.1) in
@@ -376,6 +445,7 @@ module _ (setting : Setting) (w : World) (stamps : Stamping) (me from : BrickId)
           stamps_other = λ i b k other p. refl;
           tops = tops;
           logs = logs;
+          lowest = lowest;
           calls = λ k c is. inl (is, λ p. refl);
           packets = packets_say;
         })

@@ -1,5 +1,6 @@
 -- What the messages, the logs, the operations and the marks of a world say: the invariant behind the laws. The stamp of each phase of each
 -- brick's calls is remembered beside the world.
+use Rattle.protocol.specs.Views.{view_of}
 use Rattle.std.proofs.Common.{◌≡◌, ℕ, ◌*◌, ◌<◌, ◌≤◌, ◌⊎◌, Bool, true, false, not, List, [], ◌∷◌, length, Option, Some, None}
 use Rattle.std.specs.Prelude.{slice_get}
 use Rattle.fab_base.specs.declared.identities.BrickId.{BrickId}
@@ -37,9 +38,9 @@ use Rattle.fab_base.specs.Layouts.{brick_at}
 use Rattle.protocol_laws.specs.Laws.{WasSent, RequestSent, AskedAt, AtQuorum, IsModified, stamp_stored}
 use Rattle.protocol_laws.proofs.Parts.{part_of, PartsGuard, PartsBlock}
 use Rattle.protocol_laws.proofs.Books.{IsOperation, IsCall}
-use Rattle.protocol_laws.proofs.Blocking.{HeldIsLogged}
+use Rattle.protocol_laws.proofs.Blocking.{LogsFit}
 use Rattle.protocol_laws.proofs.FirstViews.{floor_at}
-use Rattle.protocol_laws.proofs.Logs.{LogAscends, IsWithin}
+use Rattle.protocol_laws.proofs.Logs.{IsWithin}
 
 -- a phase that was begun: its stamp, and what it does
 pub record Begun : Type 0 where
@@ -215,6 +216,31 @@ pub record OrderSays (w : World) (stamps : Stamping) (i : ℕ) (call : Call) (t 
   pub begun : IsBegun stamps i call.boot call.seq call.phase Orders t
   pub fits : FitsPhase Orders operation.ask.op
 
+-- a request to drop what is below version c: its operation made that, and was answered
+pub record CollectSays (w : World) (i : ℕ) (call : Call) (c : Stamp) : Type 0 where
+  pub operation : Operation
+  pub called : IsCalled w i call operation
+  pub made : operation.made ≡ true
+  pub version : operation.version ≡ Some c
+  pub answered : operation.answered ≡ true
+
+-- a member was sent word to drop what is below version c of a stripe
+pub record WasCollected (w : World) (g s : ℕ) (c : Stamp) : Type 0 where
+  pub call : Call
+  pub from : BrickId
+  pub to : BrickId
+  pub sent : RequestSent w call from to (Request.Collect c)
+  pub group : call.group.0 ≡ g
+  pub stripe : call.stripe.0 ≡ s
+
+-- version d lies below one that was collected, which is not looked for, and is no higher than t
+pub record IsPassedOver (w : World) (g s : ℕ) (look : Look) (t d : Stamp) : Type 0 where
+  pub at : Stamp
+  pub above : stamp_below d at ≡ true
+  pub unlooked : is_looked look at ≡ false
+  pub most : stamp_below t at ≡ false
+  pub collected : WasCollected w g s at
+
 -- what a request of brick i to brick j says
 abbrev pub RequestSays : Setting → World → Stamping → ℕ → ℕ → Call → Request → Type 0
 RequestSays setting w stamps i j call (Request.Read want) = (o : Operation) × IsCalled w i call o
@@ -222,6 +248,7 @@ RequestSays setting w stamps i j call (Request.Order t) = OrderSays w stamps i c
 RequestSays setting w stamps i j call (Request.OrderRead t look want) = OrderReadSays w stamps i call t look want
 RequestSays setting w stamps i j call (Request.Write t block) = WriteSays setting w stamps i j call t block
 RequestSays setting w stamps i j call (Request.Modify t base d delta) = ModifySays setting w stamps i j call t base d delta
+RequestSays setting w stamps i j call (Request.Collect c) = CollectSays w i call c
 RequestSays setting w stamps i j call request = Unit {0}
 
 -- an order that brick j answered
@@ -233,7 +260,8 @@ pub record OrderedSays (w : World) (stamps : Stamping) (j i : ℕ) (call : Call)
   pub promised : stamp_below (top_of (part_of w call.group.0 call.stripe.0 j)) stamp ≡ false
   pub floor : stamp_below stamp (floor_at operation j) ≡ false
 
--- what brick j found, when it promised the stamp of a phase that looks for a version: each version looked for that it holds is at most that
+-- what brick j found, when it promised the stamp of a phase that looks for a version: each version looked for that it has held is at most that, or is
+-- passed over
 pub record OrderedReadSays (setting : Setting) (w : World) (stamps : Stamping) (j i : ℕ) (call : Call) (found : Option Version) : Type 0 where
   pub operation : Operation
   pub called : IsCalled w i call operation
@@ -246,7 +274,8 @@ pub record OrderedReadSays (setting : Setting) (w : World) (stamps : Stamping) (
   pub view : stamp.view.0 ≡ 1
   pub promised : stamp_below (top_of (part_of w call.group.0 call.stripe.0 j)) stamp ≡ false
   pub floor : stamp_below stamp (floor_at operation j) ≡ false
-  pub newest : (d : Stamp) → w.held j call.group.0 call.stripe.0 d ≡ true → is_looked look d ≡ true → IsWithin found d
+  pub newest : (d : Stamp) → w.held j call.group.0 call.stripe.0 d ≡ true → is_looked look d ≡ true
+      → IsWithin found d ⊎ IsPassedOver w call.group.0 call.stripe.0 look stamp d
   pub held : (version : Version) → found ≡ Some version → w.held j call.group.0 call.stripe.0 version.stamp ≡ true
   pub says : (version : Version) → found ≡ Some version → ToldSays setting w call.group.0 call.stripe.0 j version
 
@@ -393,15 +422,16 @@ IsInOrder setting w =
 pub record Said (setting : Setting) (w : World) (stamps : Stamping) : Type 0 where
   pub stamps_say : StampsSay w stamps
   pub tops : (g s i : ℕ) → IsKnown stamps (top_of (part_of w g s i))
-  pub ascends : (g s i : ℕ) → LogAscends (part_of w g s i).log
   pub first_held : (g s i : ℕ) → w.held i g s first_stamp ≡ true
   pub logs : (g s i k : ℕ) (version : Version) → slice_get (part_of w g s i).log k ≡ Some version → VersionSays setting w g s i version
+  pub lowest : (g s i : ℕ) (x : Version) (log : List Version) → (part_of w g s i).log ≡ x ∷ log → (x.stamp ≡ first_stamp) ⊎ WasCollected w g s x.stamp
+  pub held_made : (g s i : ℕ) (t : Stamp) → view_of t ≡ 1 → w.held i g s t ≡ true → IsMadeOrFirst w g s t
   pub packets : (k : ℕ) (packet : Packet) → slice_get w.packets k ≡ Some packet → PacketSays setting w stamps packet
   pub operations : (n : ℕ) (o : Operation) → IsOperation w n o → OperationSays setting w stamps n o
   pub calls : (i k : ℕ) (c : Coordinator) → IsCall w i k c → CallSays setting w stamps i k c
   pub ends : (k p n : ℕ) (answer : Answer) → slice_get w.marks k ≡ Some (End p n answer) → EndShows setting w n answer
   pub order : IsInOrder setting w
-  pub logged : HeldIsLogged w
+  pub logged : LogsFit w
   pub first : (g s : ℕ) → w.contents g s first_stamp ≡ zero_content setting.layout.block (group_of setting.layout g)
 
 -- what is said of a world, by some stamps of its phases

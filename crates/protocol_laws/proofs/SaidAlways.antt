@@ -1,14 +1,15 @@
 -- What is said is so in every world that a run reaches.
+use Rattle.protocol_laws.proofs.Blocking.{first_fits}
 use Rattle.std.proofs.Common.{◌≡◌, ℕ, ◌<◌, ◌≤◌, ◌+◌, inl, true, false, List, [], ◌∷◌, ◌++◌, length, replicate, Option, Some, None, refl, sym, ap, ◌∙◌, subst, ⊎_elim, arith}
 use Rattle.std.specs.Prelude.{slice_get}
 use Rattle.std.proofs.lemmas.List.{append-nil, length-append}
-use Rattle.std.proofs.lemmas.Bool.{cond_both, cond-false, false≢true, or_left}
+use Rattle.std.proofs.lemmas.Bool.{cond_both, cond-false, false≢true, or_left, or_cases}
 use Rattle.fab_base.specs.declared.identities.BrickId.{BrickId}
 use Rattle.fab_base.specs.declared.identities.ViewNo.{ViewNo}
 use Rattle.fab_base.specs.declared.stamps.Stamp.{Stamp}
 use Rattle.fab_base.specs.declared.asks.Ask.{Ask}
 use Rattle.fab_base.specs.Stamps.{stamp_below, stamp_same, first_stamp}
-use Rattle.fab_base.proofs.StampOrder.{stamp_below_irrefl, stamp_same_refl}
+use Rattle.fab_base.proofs.StampOrder.{stamp_below_irrefl, stamp_same_refl, stamp_same_true}
 use Rattle.messages.specs.declared.calls.Call.{Call}
 use Rattle.messages.specs.declared.packets.Message.{Message}
 use Rattle.messages.specs.declared.packets.Packet.{Packet}
@@ -19,19 +20,16 @@ use Rattle.reg_model.specs.declared.marks.Mark.{Mark}
 use Rattle.reg_model.specs.declared.marks.Mark.TheVariants.{End, Crash}
 use Rattle.fab_base.specs.Layouts.{Group, group_of, seat_in}
 use Rattle.protocol.specs.Settings.{Setting, IsSound}
-use Rattle.protocol.specs.Replicas.{Reaction, first_replica, top_of, handle}
-use Rattle.protocol.specs.declared.phases.Counted.{Counted}
+use Rattle.protocol.specs.Replicas.{Reaction, first_replica, top_of, handle, is_held, fresh_replica}
 use Rattle.protocol.specs.Coordinators.{Coordinator}
 use Rattle.protocol.specs.Nodes.{Node, NodeStep, put, with_known, with_replica, replica_at, reacted, full_at, reply_packets, absorbed, ticked, stopped, restarted, new_stamp, fresh_stamp, no_step, began, invoked, requested, known_after, replied_at, replied, received, group_at, view_at, seat_served}
-use Rattle.protocol.specs.Worlds.{World, Found, Before, After, Event, Invokes, Delivers, Sets, Ticks, Stops, Starts, replies_with, first_world, zero_content, is_brick, is_up, may_start, world_ticked, left_after, packet_during, world_stopped, world_found, world_started, may_begin, world_began, world_stepped, delivered, packet_of, happens, run, with_held}
+use Rattle.protocol.specs.Worlds.{World, Found, Before, After, Event, Invokes, Delivers, Sets, Ticks, Stops, Starts, replies_with, first_world, zero_content, is_brick, is_up, may_start, world_ticked, left_after, packet_during, world_stopped, world_found, world_started, may_begin, world_began, world_stepped, delivered, packet_of, happens, run, with_held, reached_during}
 use Rattle.protocol_laws.specs.Laws.{WasSent}
-use Rattle.protocol_laws.proofs.BooksKept.{keeps_all}
 use Rattle.protocol_laws.proofs.FirstViews.{group_first, view_first}
 use Rattle.protocol_laws.proofs.Books.{Books, IsCall}
 use Rattle.protocol_laws.proofs.Left.{IsLeft, Leaves, always_leaves, leaves_happens, packet_was_sent}
 use Rattle.protocol_laws.proofs.Said.{Stamping, Said, IsSaid, IsStampOf, VersionSays}
-use Rattle.protocol_laws.proofs.BooksQuiet.{books_quiet}
-use Rattle.protocol_laws.proofs.BooksEvents.{known_grows, fresh_is, BeginFits, begin_fits, start_fits, books_found, books_run, books}
+use Rattle.protocol_laws.proofs.BooksEvents.{known_grows, fresh_is, BeginFits, begin_fits, start_fits, books_found, books_run, books, books_beside}
 use Rattle.protocol_laws.proofs.Tables.{get_one, get_kept, get_grown}
 use Rattle.protocol_laws.proofs.Lives.{last_grows}
 use Rattle.protocol_laws.proofs.Stampings.{ages_within}
@@ -179,22 +177,17 @@ absorbed_said setting w stamps me from to (Message.Request call request) books s
     request_kept setting w stamps me from call request books said sent
 absorbed_said setting w stamps me from to message books said sent = nothing_said setting w stamps me books said
 
--- the books do not change with the replies that count
-books_beside : (setting : Setting) (w : World) (replies : ℕ → ℕ → List Counted) → Books setting w → Books setting (record w { replies = replies })
-books_beside setting w replies books =
-    books_quiet setting w w.nodes w.held w.clocks w.packets replies books (λ i. keeps_all (w.nodes i)) (λ i k. refl)
-
-delivered_said : (setting : Setting) (w : World) (stamps : Stamping) (z : Option Packet) → IsSound setting → Books setting w → Said setting w stamps
-    → ((packet : Packet) → z ≡ Some packet → WasSent w packet) → IsSaid setting (delivered setting w z)
-delivered_said setting w stamps None sound books said sent = (stamps, said)
-delivered_said setting w stamps (Some packet) sound books said sent =
-    let counted : World = record w { replies = replies_with setting w packet } in
+delivered_said : (setting : Setting) (w : World) (stamps : Stamping) (number : ℕ) (z : Option Packet) → IsSound setting → Books setting w → Said setting w stamps
+    → ((packet : Packet) → z ≡ Some packet → WasSent w packet) → IsSaid setting (delivered setting w number z)
+delivered_said setting w stamps number None sound books said sent = (stamps, said)
+delivered_said setting w stamps number (Some packet) sound books said sent =
+    let counted : World = record w { replies = replies_with setting w packet; reached = put w.reached number true } in
     cond_both (is_up setting.layout w packet.to)
     (stepped setting counted packet.to (received setting packet.to (w.clocks packet.to.0) (w.nodes packet.to.0) packet)) w
     (λ (next : World). IsSaid setting next)
     (λ is. message_said setting counted stamps packet.to packet.from (w.clocks packet.to.0) packet.message sound
-    (books_beside setting w (replies_with setting w packet) books)
-    (said_beside setting w stamps w.clocks (replies_with setting w packet) books said)
+    (books_beside setting w (replies_with setting w packet) (put w.reached number true) books)
+    (said_beside setting w stamps w.clocks (replies_with setting w packet) (put w.reached number true) books said)
     (sent packet refl))
     (λ isnt. (stamps, said))
 
@@ -228,7 +221,7 @@ ticked_said : (setting : Setting) (w : World) (stamps : Stamping) (me : BrickId)
     → Said setting (world_ticked setting w me) stamps
 ticked_said setting w stamps me books said =
     let more : List Packet = ticked setting me (w.nodes me.0) in
-    said_added setting w stamps w.clocks w.replies (w.packets ++ more) books said
+    said_added setting w stamps w.clocks w.replies w.reached (w.packets ++ more) books said
     (λ packet sent. (sent.0, get_kept w.packets more sent.0 packet sent.1))
     (λ packet sent. ⊎_elim
     (λ (old : slice_get w.packets sent.0 ≡ Some packet). (sent.0, old))
@@ -243,7 +236,8 @@ stopped_said setting w stamps me during books said =
     let crash : Mark = Crash (length w.marks) me in
     let longer : length (w.marks ++ (crash ∷ [])) ≡ length w.marks + 1 = length-append w.marks (crash ∷ []) in
     said_idle setting w stamps me.0 (stopped (w.nodes me.0))
-    (put w.after me.0 (left_after setting me (w.nodes me.0) (packet_during w.packets during))) (put w.up me.0 false) w.past (w.marks ++ (crash ∷ [])) books said refl (λ k. refl)
+    (put w.after me.0 (left_after setting me (w.nodes me.0) (packet_during w.packets during))) (put w.up me.0 false) w.past (w.marks ++ (crash ∷ []))
+    (reached_during w me during) books said refl (λ k. refl)
     (ages_within (w.nodes me.0) (stopped (w.nodes me.0)) refl (omega arith) (omega arith)) (omega arith)
     (λ a. last_grows w.marks crash a (λ k mark at. let place = books.places k mark at in omega (arith, place)) refl)
     (λ k p n answer at. ⊎_elim
@@ -258,7 +252,7 @@ started_said : (setting : Setting) (w : World) (stamps : Stamping) (me : BrickId
 unfolding restarted
 started_said setting w stamps me openings books said some =
     said_idle setting w stamps me.0 (restarted openings (w.nodes me.0)) w.after (put w.up me.0 true)
-    (put w.past me.0 (put (w.past me.0) (w.nodes me.0).boot (w.nodes me.0).known)) w.marks books said refl (λ k. refl)
+    (put w.past me.0 (put (w.past me.0) (w.nodes me.0).boot (w.nodes me.0).known)) w.marks w.reached books said refl (λ k. refl)
     (record { boot = omega arith; known = λ same. absurd (omega arith); seq = λ same. absurd (omega arith) }) (omega arith) (λ a. omega arith)
     (λ k p n answer at. at)
 
@@ -282,10 +276,10 @@ said_happens setting w (Invokes brick ask) sound leaves books said =
     (λ may. invoked_said setting w said.0 brick ask books said.1 may)
     (λ isnt. said)
 said_happens setting w (Delivers number) sound leaves books said =
-    delivered_said setting w said.0 (packet_of w.packets number) sound books said.1 (packet_was_sent w number)
+    delivered_said setting w said.0 number (packet_of w.packets number) sound books said.1 (packet_was_sent w number)
 said_happens setting w (Sets brick time) sound leaves books said =
     cond_both (is_brick setting.layout brick) (record w { clocks = put w.clocks brick.0 time }) w (λ (next : World). IsSaid setting next)
-    (λ is. (said.0, said_beside setting w said.0 (put w.clocks brick.0 time) w.replies books said.1))
+    (λ is. (said.0, said_beside setting w said.0 (put w.clocks brick.0 time) w.replies w.reached books said.1))
     (λ isnt. said)
 said_happens setting w (Ticks brick) sound leaves books said =
     cond_both (is_up setting.layout w brick) (world_ticked setting w brick) w (λ (next : World). IsSaid setting next)
@@ -318,7 +312,6 @@ said_first setting sound = (
   record {
     stamps_say = record { are = λ i b k p t is. cc; begun = λ i b k p t is. cc; apart = λ i b k l p q t is its. cc };
     tops = λ g s i. inl (first_top setting.layout.block);
-    ascends = λ g s i. ((λ d held. absurd (false≢true held)), tt);
     first_held = λ g s i. or_left (stamp_same first_stamp first_stamp) false (stamp_same_refl first_stamp);
     logs = λ g s i k version is.
         let same : record { stamp = first_stamp; block = replicate setting.layout.block 0 } ≡ version
@@ -335,7 +328,15 @@ said_first setting sound = (
     ends = λ k p n answer is. cc;
     order = λ a b earlier late u earlier_is late_is groups stripes version. cc;
     first = λ g s. refl;
-    logged = λ i g s t. refl;
+    lowest = λ g s i x log is.
+        let same : record { stamp = first_stamp; block = replicate setting.layout.block 0 } ≡ x = cc in inl (ap (λ (z : Version). z.stamp) (sym same));
+    held_made = λ g s i t view held.
+        let there = subst (λ (e : ℕ). is_held t (fresh_replica setting.layout.block e).log ≡ true) view held in
+        ⊎_elim
+        (λ (first : stamp_same first_stamp t ≡ true). inl (sym (stamp_same_true first_stamp t first)))
+        (λ (none : false ≡ true). absurd (false≢true none))
+        (or_cases (stamp_same first_stamp t) false there);
+    logged = first_fits setting;
   },
 )
 

@@ -286,7 +286,8 @@ module _ (setting : Setting) (sound : IsSound setting) (w : World) (stamps : Sta
               omega arith);
           stamps_other = λ i b k other. stamps_other stamps me.0 boot c.call.seq (c.call.phase + 1) begun i b k (λ brick same. other brick);
           tops = λ g s. inl refl;
-          logs = λ g s k version at. inl at;
+          logs = λ g s k version at. inl (k, at);
+          lowest = λ g s x log at. inl (log, at);
           calls = calls;
           packets = packets;
         }),

@@ -1,4 +1,5 @@
 -- What an event owes to the invariant: only what is new.
+use Rattle.std.proofs.lemmas.Bool.{or_left, or_cases, or_right}
 use Rattle.std.proofs.Common.{◌≡◌, ◌≢◌, ℕ, ◌+◌, ◌≤◌, ◌⊎◌, inl, inr, true, false, List, ◌++◌, length, zero, suc, Bool, Some, None, [], ◌∷◌, refl, sym, ap, ◌∙◌, subst, ⊎_elim, arith}
 use Rattle.std.specs.Prelude.{slice_get, ◌||◌}
 use Rattle.fab_base.specs.declared.identities.BrickId.{BrickId}
@@ -26,12 +27,12 @@ use Rattle.protocol.specs.Worlds.{World, Operation, with_held}
 use Rattle.protocol_laws.specs.Laws.{WasSent, part_in}
 use Rattle.protocol_laws.proofs.Parts.{part_of}
 use Rattle.protocol_laws.proofs.Books.{Books, IsOperation, IsCall}
-use Rattle.protocol_laws.proofs.Logs.{LogAscends}
-use Rattle.protocol_laws.proofs.Blocking.{PartsStay, HeldIsLogged, LogsStay, parts_from}
-use Rattle.protocol_laws.proofs.Said.{Stamping, Said, StampsSay, IsKnown, VersionSays, PacketSays, OperationSays, CallSays, EndShows, IsInOrder, FloorsAtLeast}
+use Rattle.protocol_laws.proofs.Logs.{LogAscends, IsKept, held_stands}
+use Rattle.protocol_laws.proofs.Blocking.{PartsStay, LogsFit, LogsStay, NewIsLogged, parts_from}
+use Rattle.protocol_laws.proofs.Said.{Stamping, Said, StampsSay, IsKnown, VersionSays, PacketSays, OperationSays, CallSays, EndShows, IsInOrder, FloorsAtLeast, WasCollected, IsMadeOrFirst}
 use Rattle.protocol_laws.proofs.Tables.{put_each, get_kept, get_grown, get_added, put_same}
 use Rattle.protocol_laws.proofs.Stampings.{StampsGrow, Ages, ages_within, stamps_same, stays_known, stamps_stay}
-use Rattle.protocol_laws.proofs.Growth.{Grows, continues_same, stays_version, stays_packet, stays_operation, stays_call, stays_end}
+use Rattle.protocol_laws.proofs.Growth.{Grows, continues_same, stays_version, stays_packet, stays_operation, stays_call, stays_end, stays_collected, stays_made}
 use Rattle.protocol_laws.proofs.Puts.{put_other}
 
 -- call k of brick i's boot b has the stamps that it had
@@ -47,7 +48,9 @@ pub record Owes (setting : Setting) (w next : World) (stamps later : Stamping) :
   pub stamps_say : StampsSay next later
   pub tops : (g s i : ℕ) → (top_of (part_of next g s i) ≡ top_of (part_of w g s i)) ⊎ IsKnown later (top_of (part_of next g s i))
   pub logs : (g s i k : ℕ) (version : Version) → slice_get (part_of next g s i).log k ≡ Some version
-      → (slice_get (part_of w g s i).log k ≡ Some version) ⊎ VersionSays setting next g s i version
+      → ((j : ℕ) × (slice_get (part_of w g s i).log j ≡ Some version)) ⊎ VersionSays setting next g s i version
+  pub lowest : (g s i : ℕ) (x : Version) (log : List Version) → (part_of next g s i).log ≡ x ∷ log
+      → ((more : List Version) × ((part_of w g s i).log ≡ x ∷ more)) ⊎ WasCollected next g s x.stamp
   pub packets : (k : ℕ) (packet : Packet) → slice_get next.packets k ≡ Some packet
       → (slice_get w.packets k ≡ Some packet) ⊎ PacketSays setting next later packet
   pub operations : (n : ℕ) (o : Operation) → IsOperation next n o → IsOperation w n o ⊎ OperationSays setting next later n o
@@ -62,18 +65,26 @@ pub said_after : (setting : Setting) (w next : World) (stamps later : Stamping) 
     → Grows w next stamps later → Owes setting w next stamps later → Said setting next later
 said_after setting w next stamps later books said grows owes = record {
   stamps_say = owes.stamps_say;
-  ascends = λ g s i. grows.parts.ascends g 1 s i (said.ascends g s i);
   first_held = λ g s i. grows.parts.held g s i first_stamp (said.first_held g s i);
   tops = λ g s i. ⊎_elim
       (λ (same : top_of (part_of next g s i) ≡ top_of (part_of w g s i)).
       subst (λ (t : Stamp). IsKnown later t) (sym same) (stays_known stamps later grows.grow (top_of (part_of w g s i)) (said.tops g s i)))
       (λ (new : IsKnown later (top_of (part_of next g s i))). new)
       (owes.tops g s i);
-  logs = λ g s i k version is. ⊎_elim
-      (λ (old : slice_get (part_of w g s i).log k ≡ Some version).
-      stays_version setting w next stamps later books grows g s i version (said.logs g s i k version old))
-      (λ (new : VersionSays setting next g s i version). new)
-      (owes.logs g s i k version is);
+  logs = logs;
+  lowest = λ g s i x log is. ⊎_elim
+      (λ (old : (more : List Version) × ((part_of w g s i).log ≡ x ∷ more)). ⊎_elim
+      (λ (first : x.stamp ≡ first_stamp). inl first)
+      (λ (was : WasCollected w g s x.stamp). inr (stays_collected w next grows.sent g s x.stamp was))
+      (said.lowest g s i x old.0 old.1))
+      (λ (new : WasCollected next g s x.stamp). inr new)
+      (owes.lowest g s i x log is);
+  held_made = λ g s i t view held. ⊎_elim
+      (λ (was : w.held i g s t ≡ true). stays_made setting w next stamps later books grows g s t (said.held_made g s i t view was))
+      (λ (new : is_held t (part_in next g (view_of t) s i).log ≡ true).
+      let at = held_stands t (part_of next g s i).log (ap (λ (e : ℕ). is_held t (part_in next g e s i).log) (sym view) ∙ new) in
+      subst (λ (z : Stamp). IsMadeOrFirst next g s z) at.3 (logs g s i at.0 at.1 at.2).made)
+      (grows.fresh i g s t held);
   packets = λ k packet is. ⊎_elim
       (λ (old : slice_get w.packets k ≡ Some packet). stays_packet setting w next stamps later books grows packet (said.packets k packet old))
       (λ (new : PacketSays setting next later packet). new)
@@ -96,11 +107,18 @@ said_after setting w next stamps later books said grows owes = record {
   first = λ g s. grows.contents g s first_stamp (inl refl) ∙ said.first g s;
   logged = grows.parts.logged;
 }
+  where
+    logs : (g s i k : ℕ) (version : Version) → slice_get (part_of next g s i).log k ≡ Some version → VersionSays setting next g s i version
+    logs g s i k version is = ⊎_elim
+        (λ (old : (j : ℕ) × (slice_get (part_of w g s i).log j ≡ Some version)).
+        stays_version setting w next stamps later books grows g s i version (said.logs g s i old.0 version old.1))
+        (λ (new : VersionSays setting next g s i version). new)
+        (owes.logs g s i k version is)
 
--- one brick's parts of stripes do not fall, hold what they held, take nothing new below their stamps, and go on ascending
+-- one brick's parts of stripes do not fall, keep what they kept, take nothing new below their stamps, and go on ascending
 pub record KeepsParts (node next : Node) : Type 0 where
   pub tops : (g e s : ℕ) → stamp_below (top_of (next.replicas g e s)) (top_of (node.replicas g e s)) ≡ false
-  pub held : (g e s : ℕ) (t : Stamp) → is_held t (node.replicas g e s).log ≡ true → is_held t (next.replicas g e s).log ≡ true
+  pub kept : (g e s : ℕ) (t : Stamp) → IsKept t (node.replicas g e s).log → IsKept t (next.replicas g e s).log
   pub newer : (g e s : ℕ) (t : Stamp) → is_held t (next.replicas g e s).log ≡ true
       → (is_held t (node.replicas g e s).log ≡ true) ⊎ (stamp_below t (top_of (node.replicas g e s)) ≡ false)
   pub ascends : (g e s : ℕ) → LogAscends (node.replicas g e s).log → LogAscends (next.replicas g e s).log
@@ -111,10 +129,17 @@ keeps_same node next same = record {
   tops = λ g e s.
       subst (λ (r : ℕ → ℕ → ℕ → Replica). stamp_below (top_of (r g e s)) (top_of (node.replicas g e s)) ≡ false) (sym same)
       (stamp_below_irrefl (top_of (node.replicas g e s)));
-  held = λ g e s t held. subst (λ (r : ℕ → ℕ → ℕ → Replica). is_held t (r g e s).log ≡ true) (sym same) held;
+  kept = λ g e s t kept. subst (λ (r : ℕ → ℕ → ℕ → Replica). IsKept t (r g e s).log) (sym same) kept;
   newer = λ g e s t held. inl (subst (λ (r : ℕ → ℕ → ℕ → Replica). is_held t (r g e s).log ≡ true) same held);
   ascends = λ g e s ascends. subst (λ (r : ℕ → ℕ → ℕ → Replica). LogAscends (r g e s).log) (sym same) ascends;
 }
+
+-- where one brick changes, and keeps its parts as they are, all parts are as they were
+pub part_same : (w next : World) (me : ℕ) (node : Node) → next.nodes ≡ put w.nodes me node → node.replicas ≡ (w.nodes me).replicas → (g e s i : ℕ)
+    → part_in next g e s i ≡ part_in w g e s i
+part_same w next me node nodes same g e s i =
+    ap (λ (f : ℕ → Node). (f i).replicas g e s) nodes
+    ∙ put_each (λ j x. x.replicas g e s ≡ (w.nodes j).replicas g e s) w.nodes me node (ap (λ (r : ℕ → ℕ → ℕ → Replica). r g e s) same) (λ j other. refl) i
 
 -- logs stay where one brick keeps its own
 logs_by : (w next : World) (me : ℕ) (node : Node) → next.nodes ≡ put w.nodes me node → KeepsParts (w.nodes me) node → LogsStay w next
@@ -123,10 +148,10 @@ logs_by w next me node nodes keeps = record {
       subst (λ (f : ℕ → Node). stamp_below (top_of ((f i).replicas g e s)) (top_of ((w.nodes i).replicas g e s)) ≡ false) (sym nodes)
       (put_each (λ j x. stamp_below (top_of (x.replicas g e s)) (top_of ((w.nodes j).replicas g e s)) ≡ false) w.nodes me node
       (keeps.tops g e s) (λ j other. stamp_below_irrefl (top_of ((w.nodes j).replicas g e s))) i);
-  held = λ g e s i t.
-      subst (λ (f : ℕ → Node). is_held t ((w.nodes i).replicas g e s).log ≡ true → is_held t ((f i).replicas g e s).log ≡ true) (sym nodes)
-      (put_each (λ j x. is_held t ((w.nodes j).replicas g e s).log ≡ true → is_held t (x.replicas g e s).log ≡ true) w.nodes me node
-      (keeps.held g e s t) (λ j other held. held) i);
+  kept = λ g e s i t.
+      subst (λ (f : ℕ → Node). IsKept t ((w.nodes i).replicas g e s).log → IsKept t ((f i).replicas g e s).log) (sym nodes)
+      (put_each (λ j x. IsKept t ((w.nodes j).replicas g e s).log → IsKept t (x.replicas g e s).log) w.nodes me node
+      (keeps.kept g e s t) (λ j other kept. kept) i);
   newer = λ g e s i t.
       subst (λ (f : ℕ → Node). is_held t ((f i).replicas g e s).log ≡ true
       → (is_held t ((w.nodes i).replicas g e s).log ≡ true) ⊎ (stamp_below t (top_of ((w.nodes i).replicas g e s)) ≡ false)) (sym nodes)
@@ -139,53 +164,84 @@ logs_by w next me node nodes keeps = record {
       (keeps.ascends g e s) (λ j other ascends. ascends) i);
 }
 
--- either of two, of which the first makes the second true
-either : (a b : Bool) → (a ≡ true → b ≡ true) → (a || b) ≡ b
-either true b goes = sym (goes refl)
-either false b goes = refl
+-- what bricks have held, with what one of them keeps now
+module _ (w : World) (me : ℕ) (node : Node) where
+  -- of that brick, at one stamp
+  own_held : (g s : ℕ) (t : Stamp) → with_held w.held me node me g s t ≡ (w.held me g s t || is_held t (node.replicas g (view_of t) s).log)
+  own_held g s t =
+      ap (λ (f : ℕ → ℕ → Stamp → Bool). f g s t) (put_same w.held me (λ h r u. w.held me h r u || is_held u (node.replicas h (view_of u) r).log))
 
--- what bricks have held is in their logs, where one of them keeps its logs and adds to them
-logged_step : (w : World) (me : ℕ) (node : Node) → HeldIsLogged w → KeepsParts (w.nodes me) node → (i g s : ℕ) (t : Stamp)
-    → with_held w.held me node i g s t ≡ is_held t ((put w.nodes me node i).replicas g (view_of t) s).log
-logged_step w me node logged keeps i g s t =
-    put_each (λ j x. with_held w.held me node j g s t ≡ is_held t (x.replicas g (view_of t) s).log) w.nodes me node
-    (ap (λ (f : ℕ → ℕ → Stamp → Bool). f g s t) (put_same w.held me (λ h r u. w.held me h r u || is_held u (node.replicas h (view_of u) r).log))
-    ∙ ap (λ (b : Bool). b || is_held t (node.replicas g (view_of t) s).log) (logged me g s t)
-    ∙ either (is_held t ((w.nodes me).replicas g (view_of t) s).log) (is_held t (node.replicas g (view_of t) s).log) (keeps.held g (view_of t) s t))
-    (λ j other.
-    ap (λ (f : ℕ → ℕ → Stamp → Bool). f g s t) (put_other w.held me (λ h r u. w.held me h r u || is_held u (node.replicas h (view_of u) r).log) j other)
-    ∙ logged j g s t) i
+  -- of another
+  other_held : (j : ℕ) → j ≢ me → (g s : ℕ) (t : Stamp) → with_held w.held me node j g s t ≡ w.held j g s t
+  other_held j other g s t =
+      ap (λ (f : ℕ → ℕ → Stamp → Bool). f g s t)
+      (put_other w.held me (λ h r u. w.held me h r u || is_held u (node.replicas h (view_of u) r).log) j other)
+
+  -- what was held stays so
+  stays_held : (i g s : ℕ) (t : Stamp) → w.held i g s t ≡ true → with_held w.held me node i g s t ≡ true
+  stays_held i g s t =
+      put_each (λ j f. w.held j g s t ≡ true → f g s t ≡ true) w.held me (λ h r u. w.held me h r u || is_held u (node.replicas h (view_of u) r).log)
+      (λ was. or_left (w.held me g s t) (is_held t (node.replicas g (view_of t) s).log) was) (λ j other was. was) i
+
+  -- what is new is in the log
+  new_held : (i g s : ℕ) (t : Stamp) → with_held w.held me node i g s t ≡ true
+      → (w.held i g s t ≡ true) ⊎ (is_held t ((put w.nodes me node i).replicas g (view_of t) s).log ≡ true)
+  new_held i g s t =
+      put_each (λ j x. with_held w.held me node j g s t ≡ true → (w.held j g s t ≡ true) ⊎ (is_held t (x.replicas g (view_of t) s).log ≡ true))
+      w.nodes me node
+      (λ held. or_cases (w.held me g s t) (is_held t (node.replicas g (view_of t) s).log) (sym (own_held g s t) ∙ held))
+      (λ j other held. inl (sym (other_held j other g s t) ∙ held)) i
+
+  -- and what is in a log is noted
+  logs_held : LogsFit w → (i g s : ℕ) (t : Stamp) → is_held t ((put w.nodes me node i).replicas g (view_of t) s).log ≡ true
+      → with_held w.held me node i g s t ≡ true
+  logs_held fit i g s t =
+      put_each (λ j x. is_held t (x.replicas g (view_of t) s).log ≡ true → with_held w.held me node j g s t ≡ true) w.nodes me node
+      (λ held. own_held g s t ∙ or_right (w.held me g s t) (is_held t (node.replicas g (view_of t) s).log) held)
+      (λ j other held. other_held j other g s t ∙ fit.held j g s t held) i
+
+-- what is new where one brick changes is in its log
+pub new_by : (w next : World) (me : ℕ) (node : Node) → next.nodes ≡ put w.nodes me node → next.held ≡ with_held w.held me node → NewIsLogged w next
+new_by w next me node nodes helds i g s t held =
+    subst (λ (f : ℕ → Node). (w.held i g s t ≡ true) ⊎ (is_held t ((f i).replicas g (view_of t) s).log ≡ true)) (sym nodes)
+    (new_held w me node i g s t (ap (λ (f : ℕ → ℕ → ℕ → Stamp → Bool). f i g s t) (sym helds) ∙ held))
+
+-- nothing is, where nothing comes to be held
+pub new_none : (w next : World) → next.held ≡ w.held → NewIsLogged w next
+new_none w next helds i g s t held = inl (ap (λ (f : ℕ → ℕ → ℕ → Stamp → Bool). f i g s t) (sym helds) ∙ held)
 
 -- parts stay where one brick keeps its own, and what it keeps is noted as held
-pub parts_by : (w next : World) (me : ℕ) (node : Node) → next.nodes ≡ put w.nodes me node → next.held ≡ with_held w.held me node → HeldIsLogged w
+pub parts_by : (w next : World) (me : ℕ) (node : Node) → next.nodes ≡ put w.nodes me node → next.held ≡ with_held w.held me node → LogsFit w
     → KeepsParts (w.nodes me) node → PartsStay w next
-parts_by w next me node nodes helds logged keeps =
-    parts_from w next (logs_by w next me node nodes keeps) logged (λ i g s t.
-    ap (λ (f : ℕ → ℕ → ℕ → Stamp → Bool). f i g s t) helds ∙ logged_step w me node logged keeps i g s t
-    ∙ ap (λ (f : ℕ → Node). is_held t ((f i).replicas g (view_of t) s).log) (sym nodes))
+parts_by w next me node nodes helds fit keeps =
+    parts_from w next (logs_by w next me node nodes keeps) fit
+    (λ i g s t was. ap (λ (f : ℕ → ℕ → ℕ → Stamp → Bool). f i g s t) helds ∙ stays_held w me node i g s t was)
+    (new_by w next me node nodes helds)
+    (λ i g s t held. ap (λ (f : ℕ → ℕ → ℕ → Stamp → Bool). f i g s t) helds
+    ∙ logs_held w me node fit i g s t (ap (λ (f : ℕ → Node). is_held t ((f i).replicas g (view_of t) s).log) (sym nodes) ∙ held))
 
 -- and where its logs are as they were
-pub parts_kept : (w next : World) (me : ℕ) (node : Node) → next.nodes ≡ put w.nodes me node → next.held ≡ w.held → HeldIsLogged w
+pub parts_kept : (w next : World) (me : ℕ) (node : Node) → next.nodes ≡ put w.nodes me node → next.held ≡ w.held → LogsFit w
     → node.replicas ≡ (w.nodes me).replicas → PartsStay w next
-parts_kept w next me node nodes helds logged same =
-    parts_from w next (logs_by w next me node nodes (keeps_same (w.nodes me) node same)) logged (λ i g s t.
-    ap (λ (f : ℕ → ℕ → ℕ → Stamp → Bool). f i g s t) helds
-    ∙ put_each (λ j x. w.held j g s t ≡ is_held t (x.replicas g (view_of t) s).log) w.nodes me node
-    (logged me g s t ∙ ap (λ (r : ℕ → ℕ → ℕ → Replica). is_held t (r g (view_of t) s).log) (sym same)) (λ j other. logged j g s t) i
-    ∙ ap (λ (f : ℕ → Node). is_held t ((f i).replicas g (view_of t) s).log) (sym nodes))
+parts_kept w next me node nodes helds fit same =
+    parts_from w next (logs_by w next me node nodes (keeps_same (w.nodes me) node same)) fit
+    (λ i g s t was. ap (λ (f : ℕ → ℕ → ℕ → Stamp → Bool). f i g s t) helds ∙ was) (new_none w next helds)
+    (λ i g s t held. ap (λ (f : ℕ → ℕ → ℕ → Stamp → Bool). f i g s t) helds
+    ∙ fit.held i g s t (sym (ap (λ (r : Replica). is_held t r.log) (part_same w next me node nodes same g (view_of t) s i)) ∙ held))
 
 -- a world whose bricks are the same
-pub parts_same : (w next : World) → next.nodes ≡ w.nodes → next.held ≡ w.held → HeldIsLogged w → PartsStay w next
-parts_same w next nodes helds logged =
+pub parts_same : (w next : World) → next.nodes ≡ w.nodes → next.held ≡ w.held → LogsFit w → PartsStay w next
+parts_same w next nodes helds fit =
     parts_from w next
     (subst (λ (f : ℕ → Node). LogsStay w (record next { nodes = f })) (sym nodes) (record {
       tops = λ g e s i. stamp_below_irrefl (top_of (part_in w g e s i));
-      held = λ g e s i t held. held;
+      kept = λ g e s i t kept. kept;
       newer = λ g e s i t held. inl held;
       ascends = λ g e s i ascends. ascends;
-    })) logged (λ i g s t.
-    ap (λ (f : ℕ → ℕ → ℕ → Stamp → Bool). f i g s t) helds ∙ logged i g s t
-    ∙ ap (λ (f : ℕ → Node). is_held t ((f i).replicas g (view_of t) s).log) (sym nodes))
+    })) fit
+    (λ i g s t was. ap (λ (f : ℕ → ℕ → ℕ → Stamp → Bool). f i g s t) helds ∙ was) (new_none w next helds)
+    (λ i g s t held. ap (λ (f : ℕ → ℕ → ℕ → Stamp → Bool). f i g s t) helds
+    ∙ fit.held i g s t (ap (λ (f : ℕ → Node). is_held t ((f i).replicas g (view_of t) s).log) (sym nodes) ∙ held))
 
 -- what was sent stays sent where packets are added
 pub sent_by : (w next : World) (more : List Packet) → next.packets ≡ w.packets ++ more → (packet : Packet) → WasSent w packet → WasSent next packet
@@ -222,9 +278,10 @@ quiet w me node more =
     record w { nodes = put w.nodes me.0 node; held = with_held w.held me.0 node; packets = w.packets ++ more }
 
 pub quiet_grows : (w : World) (stamps later : Stamping) (me : BrickId) (node : Node) (more : List Packet) → StampsGrow stamps later
-    → HeldIsLogged w → KeepsParts (w.nodes me.0) node → Grows w (quiet w me node more) stamps later
+    → LogsFit w → KeepsParts (w.nodes me.0) node → Grows w (quiet w me node more) stamps later
 quiet_grows w stamps later me node more grow logged keeps = record {
   parts = parts_by w (quiet w me node more) me.0 node refl refl logged keeps;
+  fresh = new_by w (quiet w me node more) me.0 node refl refl;
   sent = sent_by w (quiet w me node more) more refl;
   operations = λ n o is. (o, is, continues_same o);
   contents = λ g s t made. refl;
@@ -241,7 +298,9 @@ pub record QuietOwes (setting : Setting) (w : World) (stamps later : Stamping) (
   pub stamps_other : (i b k : ℕ) → i ≢ me.0 → KeepsStamps stamps later i b k
   pub tops : (g s : ℕ) → (top_of (node.replicas g 1 s) ≡ top_of ((w.nodes me.0).replicas g 1 s)) ⊎ IsKnown later (top_of (node.replicas g 1 s))
   pub logs : (g s k : ℕ) (version : Version) → slice_get (node.replicas g 1 s).log k ≡ Some version
-      → (slice_get ((w.nodes me.0).replicas g 1 s).log k ≡ Some version) ⊎ VersionSays setting (quiet w me node more) g s me.0 version
+      → ((j : ℕ) × (slice_get ((w.nodes me.0).replicas g 1 s).log j ≡ Some version)) ⊎ VersionSays setting (quiet w me node more) g s me.0 version
+  pub lowest : (g s : ℕ) (x : Version) (log : List Version) → (node.replicas g 1 s).log ≡ x ∷ log
+      → ((rest : List Version) × (((w.nodes me.0).replicas g 1 s).log ≡ x ∷ rest)) ⊎ WasCollected (quiet w me node more) g s x.stamp
   pub calls : (k : ℕ) (c : Coordinator) → node.calls k ≡ Some c
       → (((w.nodes me.0).calls k ≡ Some c) × KeepsStamps stamps later me.0 (w.nodes me.0).boot k)
       ⊎ CallSays setting (quiet w me node more) later me.0 k c
@@ -258,8 +317,12 @@ said_quiet setting w stamps later me node more books said grow owes =
           w.nodes me.0 node (owes.tops g s) (λ j other. inl refl) i;
       logs = λ g s i k version.
           put_each (λ j x. slice_get (x.replicas g 1 s).log k ≡ Some version
-          → (slice_get ((w.nodes j).replicas g 1 s).log k ≡ Some version) ⊎ VersionSays setting (quiet w me node more) g s j version)
-          w.nodes me.0 node (owes.logs g s k version) (λ j other is. inl is) i;
+          → ((l : ℕ) × (slice_get ((w.nodes j).replicas g 1 s).log l ≡ Some version)) ⊎ VersionSays setting (quiet w me node more) g s j version)
+          w.nodes me.0 node (owes.logs g s k version) (λ j other is. inl (k, is)) i;
+      lowest = λ g s i x log.
+          put_each (λ j y. (y.replicas g 1 s).log ≡ x ∷ log
+          → ((rest : List Version) × (((w.nodes j).replicas g 1 s).log ≡ x ∷ rest)) ⊎ WasCollected (quiet w me node more) g s x.stamp)
+          w.nodes me.0 node (owes.lowest g s x log) (λ j other is. inl (log, is)) i;
       packets = λ k packet is. ⊎_elim
           (λ (old : slice_get w.packets k ≡ Some packet). inl old)
           (λ (new : (j : ℕ) × (slice_get more j ≡ Some packet)). inr (owes.packets new.0 packet new.1))
@@ -307,14 +370,16 @@ phase_asked setting w me c packets is seat member at =
     (sent.0, subst (λ (l : List Packet). slice_get l sent.0 ≡ Some packet) (sym is) sent.1)
 
 -- a world that sends again what was sent, and whose clocks and counted replies are other, says what was said
-pub said_added : (setting : Setting) (w : World) (stamps : Stamping) (clocks : ℕ → ℕ) (replies : ℕ → ℕ → List Counted) (packets : List Packet)
+pub said_added : (setting : Setting) (w : World) (stamps : Stamping) (clocks : ℕ → ℕ) (replies : ℕ → ℕ → List Counted) (reached : ℕ → Bool)
+    (packets : List Packet)
     → Books setting w → Said setting w stamps → ((packet : Packet) → WasSent w packet → WasSent (record w { packets = packets }) packet)
     → ((packet : Packet) → WasSent (record w { packets = packets }) packet → WasSent w packet)
-    → Said setting (record w { clocks = clocks; packets = packets; replies = replies }) stamps
-said_added setting w stamps clocks replies packets books said kept old =
-    let next : World = record w { clocks = clocks; packets = packets; replies = replies } in
+    → Said setting (record w { clocks = clocks; packets = packets; replies = replies; reached = reached }) stamps
+said_added setting w stamps clocks replies reached packets books said kept old =
+    let next : World = record w { clocks = clocks; packets = packets; replies = replies; reached = reached } in
     let grows : Grows w next stamps stamps = record {
       parts = parts_same w next refl refl said.logged;
+      fresh = new_none w next refl;
       sent = kept;
       operations = λ n o is. (o, is, continues_same o);
       contents = λ g s t made. refl;
@@ -325,7 +390,8 @@ said_added setting w stamps clocks replies packets books said kept old =
     said_after setting w next stamps stamps books said grows (record {
       stamps_say = stamps_stay w next stamps said.stamps_say (λ i. ages_within (w.nodes i) (w.nodes i) refl (omega arith) (omega arith));
       tops = λ g s i. inl refl;
-      logs = λ g s i k version is. inl is;
+      logs = λ g s i k version is. inl (k, is);
+      lowest = λ g s i x log is. inl (log, is);
       packets = λ k packet is.
           let was = old packet (k, is) in
           inr (stays_packet setting w next stamps stamps books grows packet (said.packets was.0 packet was.1));
@@ -335,25 +401,26 @@ said_added setting w stamps clocks replies packets books said kept old =
       order = said.order;
     })
 
--- other clocks, and other replies that count, change nothing of what is said
-pub said_beside : (setting : Setting) (w : World) (stamps : Stamping) (clocks : ℕ → ℕ) (replies : ℕ → ℕ → List Counted) → Books setting w
-    → Said setting w stamps → Said setting (record w { clocks = clocks; replies = replies }) stamps
-said_beside setting w stamps clocks replies books said =
-    said_added setting w stamps clocks replies w.packets books said (λ packet sent. sent) (λ packet sent. sent)
+-- other clocks, other replies that count, and other messages that were delivered, change nothing of what is said
+pub said_beside : (setting : Setting) (w : World) (stamps : Stamping) (clocks : ℕ → ℕ) (replies : ℕ → ℕ → List Counted) (reached : ℕ → Bool)
+    → Books setting w → Said setting w stamps → Said setting (record w { clocks = clocks; replies = replies; reached = reached }) stamps
+said_beside setting w stamps clocks replies reached books said =
+    said_added setting w stamps clocks replies reached w.packets books said (λ packet sent. sent) (λ packet sent. sent)
 
 -- a brick that has no operation open any more, as it stopped or was started again, changes nothing of what is said, where no operation's
 -- last position comes forward
 pub said_idle : (setting : Setting) (w : World) (stamps : Stamping) (me : ℕ) (node : Node) (after : ℕ → Node) (up : ℕ → Bool) (past : ℕ → ℕ → ℕ)
-    (marks : List Mark)
+    (marks : List Mark) (reached : ℕ → Bool)
     → Books setting w → Said setting w stamps → node.replicas ≡ (w.nodes me).replicas → ((k : ℕ) → node.calls k ≡ None) → Ages (w.nodes me) node
     → length w.marks ≤ length marks → ((a : ℕ) → last_of (life_of w.marks a) ≤ last_of (life_of marks a))
     → ((k p n : ℕ) (answer : Answer) → slice_get marks k ≡ Some (End p n answer) → slice_get w.marks k ≡ Some (End p n answer))
-    → Said setting (record w { nodes = put w.nodes me node; after = after; up = up; past = past; marks = marks }) stamps
-said_idle setting w stamps me node after up past marks books said same none ages longer lasts ends =
-    let next : World = record w { nodes = put w.nodes me node; after = after; up = up; past = past; marks = marks } in
+    → Said setting (record w { nodes = put w.nodes me node; after = after; up = up; past = past; marks = marks; reached = reached }) stamps
+said_idle setting w stamps me node after up past marks reached books said same none ages longer lasts ends =
+    let next : World = record w { nodes = put w.nodes me node; after = after; up = up; past = past; marks = marks; reached = reached } in
     said_after setting w next stamps stamps books said
     (record {
       parts = parts_kept w next me node refl refl said.logged same;
+      fresh = new_none w next refl;
       sent = λ packet sent. sent;
       operations = λ n o is. (o, is, continues_same o);
       contents = λ g s t made. refl;
@@ -363,12 +430,9 @@ said_idle setting w stamps me node after up past marks books said same none ages
     })
     (record {
       stamps_say = stamps_stay_by setting w next stamps me node said refl ages;
-      tops = λ g s i. inl (put_each (λ j x. top_of (x.replicas g 1 s) ≡ top_of ((w.nodes j).replicas g 1 s)) w.nodes me node
-          (ap (λ r. top_of (r g 1 s)) same) (λ j other. refl) i);
-      logs = λ g s i k version is. inl
-          (put_each (λ j x. slice_get (x.replicas g 1 s).log k ≡ Some version
-          → slice_get ((w.nodes j).replicas g 1 s).log k ≡ Some version) w.nodes me node
-          (λ has. ap (λ r. slice_get (r g 1 s).log k) (sym same) ∙ has) (λ j other has. has) i is);
+      tops = λ g s i. inl (ap (λ (r : Replica). top_of r) (part_same w next me node refl same g 1 s i));
+      logs = λ g s i k version is. inl (k, ap (λ (r : Replica). slice_get r.log k) (sym (part_same w next me node refl same g 1 s i)) ∙ is);
+      lowest = λ g s i x log is. inl (log, ap (λ (r : Replica). r.log) (sym (part_same w next me node refl same g 1 s i)) ∙ is);
       packets = λ k packet is. inl is;
       operations = λ n o is. inl is;
       calls = λ i k c.

@@ -183,6 +183,7 @@ module _ (setting : Setting) (sound : IsSound setting) (w : World) (stamps : Sta
         contents = with_content setting.layout.block w.contents c.stamp base x;
         held = with_held w.held me.0 node;
         replies = w.replies;
+        reached = w.reached;
       })
       its.operation_is
       ∙ ap (λ (a : Ask).
@@ -200,6 +201,7 @@ module _ (setting : Setting) (sound : IsSound setting) (w : World) (stamps : Sta
         contents = content_by setting.layout.block w.contents c.stamp base a;
         held = with_held w.held me.0 node;
         replies = w.replies;
+        reached = w.reached;
       })
       (sym its.ask)
 
@@ -290,6 +292,7 @@ module _ (setting : Setting) (sound : IsSound setting) (w : World) (stamps : Sta
         version = λ v has. let e : Some v ≡ None = sym has ∙ unmade.0 in cc;
         made = λ v has. let e : Some v ≡ None = sym has ∙ unmade.0 in cc;
         base = λ v has. let e : Some v ≡ None = sym has ∙ unmade.0 in cc;
+        answered = λ is. is;
       };
       kept = kept;
       longer = omega arith;

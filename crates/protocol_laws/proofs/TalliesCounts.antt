@@ -363,6 +363,7 @@ module _ (setting : Setting) (w : World) (me : BrickId) (now known : ℕ) (c : C
         held = with_held w.held me.0 (with_call (w.nodes me.0) known ((w.nodes me.0).busy - 1) c.call.seq None);
         replies = with_counted w.replies (number_of w me.0 c.call.seq) c.call.phase
             (record { seat = seat; brick = from; reply = reply });
+        reached = w.reached;
       }
 
   same_operations : (m : ℕ) (e : Operation) → IsOperation w m e → (p : Operation) × IsOperation w m p × GoesOn e p

@@ -28,7 +28,7 @@ use Rattle.protocol_laws.proofs.BooksKept.{KeepsNumbers, cases_call, keeps_all, 
 use Rattle.protocol_laws.proofs.BooksQuiet.{quiet_world, started_calls, unstarted, started_known}
 use Rattle.protocol_laws.proofs.BooksEnds.{stopped_keeps, stopped_calls, unstopped_calls}
 use Rattle.protocol_laws.proofs.BooksBegins.{call_is, other_calls, same_boots, call_number, other_number, other_operations, knows}
-use Rattle.protocol_laws.proofs.BooksEvents.{keeps_put, stepped, known_grows, BeginFits, begin_fits, begin_up, KeepsCalls, found_keeps, books_found, start_fits}
+use Rattle.protocol_laws.proofs.BooksEvents.{keeps_put, stepped, known_grows, BeginFits, begin_fits, begin_up, KeepsCalls, found_keeps, books_found, start_fits, books_beside}
 use Rattle.protocol_laws.proofs.Outcomes.{first_round_above, once_full_fits}
 use Rattle.protocol_laws.proofs.Said.{Stamping, Said, IsSaid, CountedSays}
 use Rattle.protocol_laws.proofs.SaidAlways.{said_first, said_run}
@@ -41,16 +41,17 @@ use Rattle.protocol_laws.proofs.TalliesKept.{call_tallied_on, known_kept, tallie
 use Rattle.protocol_laws.proofs.TalliesCounts.{tallied_counted}
 
 -- a step that changes no operation
-tallied_quiet : (setting : Setting) (w : World) (nodes : ℕ → Node) (held : ℕ → ℕ → ℕ → Stamp → Bool) (clocks : ℕ → ℕ) (packets : List Packet) → Books setting w → Tallied w
-    → MessagesShow (quiet_world w nodes held clocks packets w.replies) → ((i : ℕ) → KeepsNumbers (w.nodes i) (nodes i))
+tallied_quiet : (setting : Setting) (w : World) (nodes : ℕ → Node) (held : ℕ → ℕ → ℕ → Stamp → Bool) (clocks : ℕ → ℕ) (packets : List Packet)
+    (reached : ℕ → Bool) → Books setting w → Tallied w
+    → MessagesShow (quiet_world w nodes held clocks packets w.replies reached) → ((i : ℕ) → KeepsNumbers (w.nodes i) (nodes i))
     → ((i k : ℕ) → (nodes i).calls k ≡ (w.nodes i).calls k)
-    → ((packet : Packet) → WasSent w packet → WasSent (quiet_world w nodes held clocks packets w.replies) packet)
-    → Tallied (quiet_world w nodes held clocks packets w.replies)
-tallied_quiet setting w nodes held clocks packets books tallied shows keeps calls sent =
-    tallied_on setting w (quiet_world w nodes held clocks packets w.replies) books tallied shows
+    → ((packet : Packet) → WasSent w packet → WasSent (quiet_world w nodes held clocks packets w.replies reached) packet)
+    → Tallied (quiet_world w nodes held clocks packets w.replies reached)
+tallied_quiet setting w nodes held clocks packets reached books tallied shows keeps calls sent =
+    tallied_on setting w (quiet_world w nodes held clocks packets w.replies reached) books tallied shows
     (record {
       sent = sent;
-      known = known_kept w (quiet_world w nodes held clocks packets w.replies) (λ i b. refl) (λ i. (keeps i).boot) (λ i. (keeps i).known);
+      known = known_kept w (quiet_world w nodes held clocks packets w.replies reached) (λ i b. refl) (λ i. (keeps i).boot) (λ i. (keeps i).known);
       operations = λ n o is. (o, is, record { brick = refl; boot = refl; seq = refl; ask = refl });
       replies = λ n. inl (λ p. refl);
     })
@@ -62,7 +63,7 @@ tallied_nothing : (setting : Setting) (w : World) (me : BrickId) (node : Node) (
     → MessagesShow (stepped setting w w.replies me (sending node packets)) → KeepsNumbers (w.nodes me.0) node
     → ((l : ℕ) → node.calls l ≡ (w.nodes me.0).calls l) → Tallied (stepped setting w w.replies me (sending node packets))
 tallied_nothing setting w me node packets books tallied shows keeps calls =
-    tallied_quiet setting w (put w.nodes me.0 node) (with_held w.held me.0 node) w.clocks (w.packets ++ packets) books tallied shows (keeps_put w me.0 node keeps)
+    tallied_quiet setting w (put w.nodes me.0 node) (with_held w.held me.0 node) w.clocks (w.packets ++ packets) w.reached books tallied shows (keeps_put w me.0 node keeps)
     (λ j l. put_each (λ (x : ℕ) (y : Node). y.calls l ≡ (w.nodes x).calls l) w.nodes me.0 node (calls l) (λ x other. refl) j)
     (λ packet sent. (sent.0, get_kept w.packets packets sent.0 packet sent.1))
 
@@ -146,12 +147,23 @@ tallied_received setting w now from to (Message.Reply call reply) books tallied 
     tallied_replied setting w to now from call reply books tallied shows sent
 tallied_received setting w now from to message books tallied shows sent = tallied_no_step setting w to books tallied
 
-tallied_delivered : (setting : Setting) (w : World) (packet : Option Packet) → Books setting w → Tallied w → MessagesShow w
-    → ((sent : Packet) → packet ≡ Some sent → WasSent w sent) → MessagesShow (delivered setting w packet) → Tallied (delivered setting w packet)
-tallied_delivered setting w None books tallied shows sent shown = tallied
-tallied_delivered setting w (Some packet) books tallied shows sent shown =
+-- what messages show does not change with those that were delivered
+shows_reached : (w : World) (reached : ℕ → Bool) → MessagesShow w → MessagesShow (record w { reached = reached })
+shows_reached w reached shows = record { later = shows.later; orders_alone = shows.orders_alone; in_round = shows.in_round; counted = shows.counted }
+
+tallied_delivered : (setting : Setting) (w : World) (number : ℕ) (packet : Option Packet) → Books setting w → Tallied w → MessagesShow w
+    → ((sent : Packet) → packet ≡ Some sent → WasSent w sent) → MessagesShow (delivered setting w number packet)
+    → Tallied (delivered setting w number packet)
+tallied_delivered setting w number None books tallied shows sent shown = tallied
+tallied_delivered setting w number (Some packet) books tallied shows sent shown =
+    let reached : ℕ → Bool = put w.reached number true in
+    let noted : World = record w { reached = reached } in
+    let noted_shows : MessagesShow noted = shows_reached w reached shows in
     cond_both (is_up setting.layout w packet.to) _ _ (λ (x : World). MessagesShow x → Tallied x)
-    (λ member. tallied_received setting w (w.clocks packet.to.0) packet.from packet.to packet.message books tallied shows (sent packet refl))
+    (λ member. tallied_received setting noted (w.clocks packet.to.0) packet.from packet.to packet.message
+    (books_beside setting w w.replies reached books)
+    (tallied_quiet setting w w.nodes w.held w.clocks w.packets reached books tallied noted_shows (λ i. keeps_all (w.nodes i)) (λ i k. refl)
+    (λ other was. was)) noted_shows (sent packet refl))
     (λ stranger same. tallied)
     shown
 
@@ -294,7 +306,7 @@ tallied_found : (setting : Setting) (w : World) (brick : BrickId) (found : Found
 tallied_found setting w brick Before down leaves books tallied shows = tallied
 tallied_found setting w brick After down leaves books tallied shows =
     let keeps : (i : ℕ) → KeepsCalls (w.nodes i) ((world_found w brick After).nodes i) = found_keeps setting w brick After down leaves in
-    tallied_quiet setting w (put w.nodes brick.0 (w.after brick.0)) (with_held w.held brick.0 (w.after brick.0)) w.clocks w.packets books tallied
+    tallied_quiet setting w (put w.nodes brick.0 (w.after brick.0)) (with_held w.held brick.0 (w.after brick.0)) w.clocks w.packets w.reached books tallied
     (shows_found w brick (λ i. (keeps i).1) shows) (λ i. (keeps i).0) (λ i. (keeps i).1) (λ packet sent. sent)
 
 -- every event keeps the history of replies
@@ -305,16 +317,16 @@ tallied_happens setting w (Invokes brick ask) leaves books tallied shows later =
     cond_both (may_begin setting w brick ask) _ _ (λ (x : World). MessagesShow x → Tallied x)
     (λ may. tallied_invoked setting w brick (w.clocks brick.0) ask books tallied may) (λ refused same. tallied) later
 tallied_happens setting w (Delivers number) leaves books tallied shows later =
-    tallied_delivered setting w (packet_of w.packets number) books tallied shows (packet_was_sent w number) later
+    tallied_delivered setting w number (packet_of w.packets number) books tallied shows (packet_was_sent w number) later
 tallied_happens setting w (Sets brick time) leaves books tallied shows later =
     cond_both (is_brick setting.layout brick) _ _ (λ (x : World). MessagesShow x → Tallied x)
-    (λ member more. tallied_quiet setting w w.nodes w.held (put w.clocks brick.0 time) w.packets books tallied more
+    (λ member more. tallied_quiet setting w w.nodes w.held (put w.clocks brick.0 time) w.packets w.reached books tallied more
     (λ i. keeps_all (w.nodes i)) (λ i k. refl) (λ packet sent. sent))
     (λ stranger same. tallied) later
 tallied_happens setting w (Ticks brick) leaves books tallied shows later =
     let more : List Packet = ticked setting brick (w.nodes brick.0) in
     cond_both (is_up setting.layout w brick) _ _ (λ (x : World). MessagesShow x → Tallied x)
-    (λ up shown. tallied_quiet setting w w.nodes w.held w.clocks (w.packets ++ more) books tallied shown
+    (λ up shown. tallied_quiet setting w w.nodes w.held w.clocks (w.packets ++ more) w.reached books tallied shown
     (λ i. keeps_all (w.nodes i)) (λ i k. refl)
     (λ packet sent. (sent.0, get_kept w.packets more sent.0 packet sent.1)))
     (λ down same. tallied) later

@@ -7,7 +7,7 @@ use Rattle.fab_base.specs.declared.identities.BrickId.{BrickId}
 use Rattle.fab_base.specs.declared.stamps.Stamp.{Stamp}
 use Rattle.fab_base.specs.declared.asks.Op.TheVariants.{WriteStripe}
 use Rattle.fab_base.specs.Stamps.{stamp_below, first_stamp}
-use Rattle.fab_base.proofs.StampOrder.{stamp_below_asym, stamp_not_below_trans}
+use Rattle.fab_base.proofs.StampOrder.{stamp_below_asym, stamp_not_below_trans, stamp_below_first}
 use Rattle.fab_base.specs.Layouts.{Layout, Group, group_of, seat_in, brick_at}
 use Rattle.fab_base.proofs.Seats.{seat_within, brick_at_seat}
 use Rattle.messages.specs.declared.calls.Call.{Call}
@@ -24,16 +24,16 @@ use Rattle.protocol.specs.declared.phases.Phase.{Phase}
 use Rattle.protocol.specs.declared.phases.Phase.TheVariants.{Modifies, Stores}
 use Rattle.protocol.specs.Coordinators.{told_in}
 use Rattle.protocol.specs.Nodes.{view_at}
-use Rattle.protocol.specs.Worlds.{World, Event, first_world, run}
-use Rattle.protocol_laws.specs.Laws.{part_in, top_in, Follows, EveryRunFollowsTheLayout, IsGuarded, IsBlocked, RequestSent, OneContent, BasesAreNewest, WritesAreGuarded, NeverFalls, AddsNothingBelow, NoEventLowers, IsLost, NeverSurfaces}
+use Rattle.protocol.specs.Worlds.{World, Event, first_world, run, Operation}
+use Rattle.protocol_laws.specs.Laws.{part_in, top_in, Follows, EveryRunFollowsTheLayout, IsGuarded, IsBlocked, RequestSent, OneContent, BasesAreNewest, WritesAreGuarded, NeverFalls, AddsNothingBelow, NoEventLowers, IsLost, NeverSurfaces, CollectsStand, IsHeldByQuorum, DropsOnlyOlder}
 use Rattle.protocol_laws.proofs.Parts.{part_of, PartsGuard, PartsBlock}
 use Rattle.protocol_laws.proofs.FirstViews.{AreInFirst, own_members, view_first, view_below, top_first, others_empty}
 use Rattle.protocol_laws.proofs.Books.{Books}
 use Rattle.protocol_laws.proofs.BooksEvents.{books_run, books}
-use Rattle.protocol_laws.proofs.Logs.{below_above, held_stands}
-use Rattle.protocol_laws.proofs.Reactions.{max_left, max_right, max_most}
-use Rattle.protocol_laws.proofs.Blocking.{PartsStay, was_held, passes_by, passes, blocked_by, blocked_stays, blocked_never_stands, count_split}
-use Rattle.protocol_laws.proofs.Said.{Stamping, Said, IsSaid, IsMadeOrFirst, IsBlockOf, ToldSays, MakerSays, WriteSays, ModifySays, RequestSays, ReplySays, WritesWhole, ReadsBack}
+use Rattle.protocol_laws.proofs.Logs.{below_above, held_stands, IsUnder, nothing_kept, IsKept, place_held}
+use Rattle.protocol_laws.proofs.Reactions.{max_left, max_right, max_most, under_top}
+use Rattle.protocol_laws.proofs.Blocking.{PartsStay, was_kept, passes_by, passes, blocked_by, blocked_stays, blocked_never_stands, count_split}
+use Rattle.protocol_laws.proofs.Said.{Stamping, Said, IsSaid, IsMadeOrFirst, IsBlockOf, ToldSays, MakerSays, WriteSays, ModifySays, RequestSays, ReplySays, WritesWhole, ReadsBack, WasCollected, Stands, CollectSays}
 use Rattle.protocol_laws.proofs.Stampings.{known_first, known_view}
 use Rattle.protocol_laws.proofs.OwnStamps.{made_view, made_first}
 use Rattle.protocol_laws.proofs.Decisions.{quorum_enough}
@@ -194,6 +194,65 @@ module _ (setting : Setting) (views : Views) (w : World) (stamps : Stamping) (bo
       (subst (λ (u : Stamp). MakerSays setting w stamps from.0 to.0 call (Modifies base j) u) (same_Some z t stores) says.maker) found
   writes_guarded call from to request t group found sent stores = cc
 
+  -- a version that was collected is of view 1, and a quorum has held it
+  collected_stands : (g s : ℕ) (c : Stamp) → WasCollected w g s c → (view_of c ≡ 1) × Stands setting w g s c
+  collected_stands g s c was =
+      let says : CollectSays w was.from.0 was.call c = sent_says was.call was.from was.to (Request.Collect c) was.sent in
+      let n : ℕ = w.numbers was.from.0 was.call.boot was.call.seq in
+      let o : Operation = says.operation in
+      let group : o.ask.group.0 ≡ g = says.called.group ∙ was.group in
+      let stripe : o.ask.stripe.0 ≡ s = says.called.stripe ∙ was.stripe in (
+        made_view setting w stamps books said g s c (inr (n, o, says.called.is, group, stripe, says.made, says.version)),
+        subst (λ (h : ℕ). Stands setting w h s c) group
+            (subst (λ (r : ℕ). Stands setting w o.ask.group.0 r c) stripe
+            ((said.operations n o says.called.is).stands c says.version (inr says.answered))),
+      )
+
+  stands_in : (g s : ℕ) (c : Stamp) (group : Group) → WasCollected w g s c → group_in setting.layout views g (view_of c) ≡ Some group
+      → IsHeldByQuorum w g s group c
+  stands_in g s c group was found =
+      let stands = collected_stands g s c was in stands.1 group (group_first setting w first views follows g (view_of c) group stands.0 found)
+
+  -- what members were told to drop lies below a version that a quorum has held
+  pub collects_stand : CollectsStand setting views w
+  collects_stand call from to c group found sent =
+      stands_in call.group.0 call.stripe.0 c group
+      (record { call = call; from = from; to = to; sent = sent; group = refl; stripe = refl }) found
+
+  -- a version is in a log, or a later one is that a quorum has held
+  abbrev IsKeptOrOlder : ℕ → ℕ → Stamp → List Version → Type 0
+  IsKeptOrOlder g s t log =
+      (is_held t log ≡ true)
+      ⊎ ((c : Stamp) × (is_held c log ≡ true) × (stamp_below t c ≡ true)
+      × ((group : Group) → group_in setting.layout views g (view_of c) ≡ Some group → IsHeldByQuorum w g s group c))
+
+  -- and so does what they dropped
+  pub drops_older : DropsOnlyOlder setting views w
+  drops_older g s i t held = ⊎_elim
+      (λ (one : view_of t ≡ 1).
+      subst (λ (e : ℕ). IsKeptOrOlder g s t (part_in w g e s i).log) (sym one)
+      (by_log (part_of w g s i).log refl (was_kept w said.logged g s i t one held)))
+      (λ (other : view_of t ≢ 1).
+      absurd (nothing_kept t (subst (λ (l : List Version). IsKept t l) (others_empty setting.layout (w.nodes i) g (view_of t) s (first.bricks i) other)
+      (said.logged.kept i g s t held))))
+      (cases_eq (view_of t) 1)
+    where
+      by_log : (log : List Version) → (part_of w g s i).log ≡ log → IsKept t (part_of w g s i).log → IsKeptOrOlder g s t (part_of w g s i).log
+      by_log log is (inl there) = inl there
+      by_log [] is (inr under) = absurd (subst (λ (l : List Version). IsUnder t l) is under)
+      by_log (x ∷ rest) is (inr under) =
+          let less : stamp_below t x.stamp ≡ true = subst (λ (l : List Version). IsUnder t l) is under in
+          ⊎_elim
+          (λ (lowest : x.stamp ≡ first_stamp).
+          absurd (false≢true (sym (stamp_below_first t) ∙ subst (λ (z : Stamp). stamp_below t z ≡ true) lowest less)))
+          (λ (was : WasCollected w g s x.stamp). inr (
+            x.stamp,
+            place_held (part_of w g s i).log 0 x (ap (λ (l : List Version). slice_get l 0) is),
+            less,
+            (λ group found. stands_in g s x.stamp group was found),
+          ))
+          (said.lowest g s i x rest is)
+
   -- an operation's base is the one that it read back
   pub bases_newest : BasesAreNewest setting views w
   bases_newest n o t b is made version base = ⊎_elim
@@ -281,9 +340,13 @@ never_lowers setting events more sound = (falls, adds)
         let made : IsMadeOrFirst next g s t
         = subst (λ (z : Stamp). IsMadeOrFirst next g s z) at.3 (later.1.logs g s i at.0 at.1 at.2).made in
         ⊎_elim
-        (λ (first : t ≡ first_stamp).
-        inl (subst (λ (z : Stamp). is_held z (part_of w g s i).log ≡ true) (sym first)
-        (was_held w said.1.logged g s i first_stamp refl (said.1.first_held g s i))))
+        (λ (first : t ≡ first_stamp). ⊎_elim
+        (λ (there : is_held first_stamp (part_of w g s i).log ≡ true).
+        inl (subst (λ (z : Stamp). is_held z (part_of w g s i).log ≡ true) (sym first) there))
+        (λ (under : IsUnder first_stamp (part_of w g s i).log).
+        absurd (false≢true (sym (subst (λ (z : Stamp). stamp_below z (top_of (part_of w g s i)) ≡ false) first new)
+        ∙ under_top (part_of w g s i) first_stamp (said.1.logged.ascends g 1 s i) under)))
+        (was_kept w said.1.logged g s i first_stamp refl (said.1.first_held g s i)))
         (λ (above : stamp_below (floor_of 1) t ≡ true).
         inr (subst (λ (z : Stamp). stamp_below t z ≡ false) (sym (top_is setting w before g s i))
         (max_most (floor_of 1) (top_of (part_of w g s i)) t (stamp_below_asym (floor_of 1) t above) new)))
@@ -377,12 +440,10 @@ never_surfaces setting views events more g s group v sound follows found lost he
     unheld : (i : ℕ) → stamp_below (floor_of 1) v ≡ false → next.held i g s v ≡ true → ⊥
     unheld i not_over is = ⊎_elim
         (λ (one : view_of v ≡ 1).
-        let at = held_stands v (part_of next g s i).log (was_held next later.1.logged g s i v one is) in
-        let made : IsMadeOrFirst next g s v
-        = subst (λ (z : Stamp). IsMadeOrFirst next g s z) at.3 (later.1.logs g s i at.0 at.1 at.2).made in
+        let made : IsMadeOrFirst next g s v = later.1.held_made g s i v one is in
         ⊎_elim not_first (λ (over : stamp_below (floor_of 1) v ≡ true). false≢true (sym not_over ∙ over))
         (made_first setting next later.0 booked later.1 g s v made))
         (λ (other : view_of v ≢ 1).
-        false≢true (ap (λ l. is_held v l) (sym (others_empty setting.layout (next.nodes i) g (view_of v) s (booked.first i) other))
-        ∙ sym (later.1.logged i g s v) ∙ is))
+        nothing_kept v (subst (λ l. IsKept v l) (others_empty setting.layout (next.nodes i) g (view_of v) s (booked.first i) other)
+        (later.1.logged.kept i g s v is)))
         (cases_eq (view_of v) 1)

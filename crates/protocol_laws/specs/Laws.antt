@@ -169,6 +169,24 @@ WritesAreGuarded setting views w =
     → group_in setting.layout views call.group.0 (view_of t) ≡ Some group → RequestSent w call from to request → stamp_stored request ≡ Some t
     → IsGuarded w call.group.0 call.stripe.0 group t
 
+-- a quorum of the group has held version v of the stripe
+abbrev pub IsHeldByQuorum : World → ℕ → ℕ → Group → Stamp → Type 0
+IsHeldByQuorum w g s group v = AtQuorum group (λ seat. w.held (brick_at group seat) g s v)
+
+-- A member was sent word to drop what is below version c only after a quorum of the view of c had held that.
+abbrev pub CollectsStand : Setting → Views → World → Type 0
+CollectsStand setting views w =
+    (call : Call) (from to : BrickId) (c : Stamp) (group : Group) → group_in setting.layout views call.group.0 (view_of c) ≡ Some group
+    → RequestSent w call from to (Request.Collect c) → IsHeldByQuorum w call.group.0 call.stripe.0 group c
+
+-- A version that a member has held it keeps, or it keeps a later one that a quorum of that one's view has held.
+abbrev pub DropsOnlyOlder : Setting → Views → World → Type 0
+DropsOnlyOlder setting views w =
+    (g s i : ℕ) (t : Stamp) → w.held i g s t ≡ true
+    → (is_held t (part_in w g (view_of t) s i).log ≡ true)
+    ⊎ ((c : Stamp) × (is_held c (part_in w g (view_of t) s i).log ≡ true) × (stamp_below t c ≡ true)
+    × ((group : Group) → group_in setting.layout views g (view_of c) ≡ Some group → IsHeldByQuorum w g s group c))
+
 -- no step lowers the stamp below which a brick takes nothing
 abbrev pub NeverFalls : World → World → Type 0
 NeverFalls old new = (g s i : ℕ) → stamp_below (top_in new g s i) (top_in old g s i) ≡ false
@@ -317,6 +335,8 @@ pub record Laws (setting : Setting) (views : Views) (w : World) : Type 0 where
   pub contents_are_made : ContentsAreMade setting w
   pub guarded : WritesAreGuarded setting views w
   pub stored : StoredIsHeld w
+  pub collects : CollectsStand setting views w
+  pub drops : DropsOnlyOlder setting views w
   pub bases : BasesAreNewest setting views w
   pub bases_found : BasesAreFound setting w
   pub neighbours : (g s : ℕ) → NeighboursFollow w g s
@@ -332,10 +352,6 @@ pub record Laws (setting : Setting) (views : Views) (w : World) : Type 0 where
   pub stripe_well_formed : (g s : ℕ) → IsWellFormed (stripe_marks g s w.marks)
   pub strict : (g s : ℕ) (group : Group) → group_of setting.layout g ≡ Some group
       → IsStrict group.m setting.layout.block (stripe_marks g s w.marks) (happenings_of w g s)
-
--- a quorum of the group has held version v of the stripe
-abbrev pub IsHeldByQuorum : World → ℕ → ℕ → Group → Stamp → Type 0
-IsHeldByQuorum w g s group v = AtQuorum group (λ seat. w.held (brick_at group seat) g s v)
 
 -- Version v of the stripe is lost: a quorum of the group's members takes nothing below a stamp that is above v, and fewer than m of these have
 -- held v.

@@ -29,6 +29,8 @@ pub fn every_run_follows_the_layout()
 ///   base's content to the version's, and every other data block is the base's.
 /// - Before a version was sent to be stored, a quorum of its view took nothing below its stamp, and has so ever since.
 /// - A member says that it stored a version only where it was asked to, and has held it.
+/// - Members are told to drop what is below a version only after a quorum of its view has held it; and what a member dropped lies
+///   below a version that it keeps, and that a quorum has held. What a quorum "has held", each of its members has kept at some time.
 /// - A version's content is what its maker makes of its base's: a stripe write's bytes, what a recovery read back, or that with the
 ///   one block that is written. The content of the first version is zero.
 /// - A version that is made on a base, as a recovery's or a block write's is, is above it; and no quorum of its view has held a
