@@ -39,34 +39,26 @@ use Rattle.messages.specs.declared.requests.Want.{Want}
 use Rattle.protocol.specs.Calms.{IsCalm, IsReady, early, goes_among, is_one_of}
 use Rattle.protocol.specs.Coordinators.{Coordinator, block_written}
 use Rattle.protocol.specs.Nodes.{first_phase, group_at, has_block, has_length, phase_packets, replica_at, view_at}
-use Rattle.protocol.specs.Replicas.{Replica, below, is_held, newest_of, stamp_max, top_of}
+use Rattle.protocol.specs.Replicas.{Replica, below, is_held, newest_of, top_of}
 use Rattle.protocol.specs.Settings.{IsSound, Setting, are_bytes}
 use Rattle.protocol.specs.Worlds.{Operation, World}
 use Rattle.quorum.proofs.Counts.{count_full}
 use Rattle.quorum.specs.Quorums.{IsWithinLimits, count, quorum_of}
 use Rattle.quorum.specs.Tallies.{counted}
 
--- a part that came to low stamps alone
-top_low : (b : ℕ) (replica : Replica) → IsLow b replica.order
-    → ((k : ℕ) (version : Version) → slice_get replica.log k ≡ Some version → IsLow b version.stamp) → IsLow b (top_of replica)
+-- a part whose times are early has come to an early one
+top_early : (b : ℕ) (replica : Replica) → replica.order.time ≤ b
+    → ((k : ℕ) (version : Version) → slice_get replica.log k ≡ Some version → version.stamp.time ≤ b) → (top_of replica).time ≤ b
 unfolding top_of
-top_low b replica order versions = go (newest_of replica.log) refl
+top_early b replica order versions = go (newest_of replica.log) refl
   where
-    go : (z : Option Version) → newest_of replica.log ≡ z → IsLow b (top_of replica)
-    go None is = ap_low (top_none is)
-      where
-        top_none : newest_of replica.log ≡ None → top_of replica ≡ replica.order
-        top_none is = rw is refl
-        ap_low : top_of replica ≡ replica.order → IsLow b (top_of replica)
-        ap_low e = subst (λ (z : Stamp). IsLow b z) (sym e) order
+    go : (z : Option Version) → newest_of replica.log ≡ z → (top_of replica).time ≤ b
+    go None is = rw is order
     go (Some version) is =
         let at = newest_stands replica.log version is in
-        subst (λ (z : Stamp). IsLow b z) (sym (top_some is))
-        (cond_both (stamp_below replica.order version.stamp) version.stamp replica.order (λ (z : Stamp). IsLow b z)
+        rw is
+        (cond_both (stamp_below replica.order version.stamp) version.stamp replica.order (λ (z : Stamp). z.time ≤ b)
         (λ less. versions at.0 version at.1) (λ not_less. order))
-      where
-        top_some : newest_of replica.log ≡ Some version → top_of replica ≡ stamp_max replica.order version.stamp
-        top_some is = rw is refl
 
 -- fewer versions are below a bound than a log has
 below_short : (bound : Stamp) (log : List Version) → length (below bound log) ≤ length log
@@ -259,15 +251,12 @@ module _ (setting : Setting) (sound : IsSound setting) (lengths : EncodesBlocks 
       low : (x : Seated) → IsSeated stage x → IsLow early (top_of (parts x.brick.0).replica)
       low x seated =
           let times = (ready x.brick seated.1).times in
-          top_low early (replica_at (w.nodes x.brick.0) c.call)
-          (record {
-            view = known.logs.order_view x.brick.0;
-            time = le_of_lt (times.orders c.call.group.0 c.call.view.0 c.call.stripe.0);
-          })
-          (λ k version at. record {
-            view = known.logs.log_views x.brick.0 k version at;
-            time = le_of_lt (times.logs c.call.group.0 c.call.view.0 c.call.stripe.0 k version at);
-          })
+          record {
+            view = known.logs.top_view x.brick.0;
+            time = top_early early (replica_at (w.nodes x.brick.0) c.call)
+                (le_of_lt (times.orders c.call.group.0 c.call.view.0 c.call.stripe.0))
+                (λ k version at. le_of_lt (times.logs c.call.group.0 c.call.view.0 c.call.stripe.0 k version at));
+          }
 
   -- the operation's own stamp is in none of these logs
   unheld : IsUnheld logs c.stamp (take q all)

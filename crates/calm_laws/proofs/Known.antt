@@ -11,7 +11,7 @@ use Rattle.messages.specs.declared.requests.Version.{Version}
 use Rattle.protocol.specs.Calms.{operation_of}
 use Rattle.protocol.specs.Coordinators.{Coordinator}
 use Rattle.protocol.specs.Nodes.{first_phase, group_at, has_block, has_length, phase_packets, replica_at}
-use Rattle.protocol.specs.Replicas.{is_held}
+use Rattle.protocol.specs.Replicas.{is_held, top_of}
 use Rattle.protocol.specs.Settings.{Setting}
 use Rattle.protocol.specs.Worlds.{Operation, World, is_brick}
 use Rattle.quorum.specs.Quorums.{count, quorum_of}
@@ -49,7 +49,7 @@ pub record KnownMessages (setting : Setting) (w : World) (n : ℕ) (o : Operatio
   pub unsent : (k : ℕ) → length w.packets < k → w.reached k ≡ false
 
 -- The logs of its stripe, by brick. Each ascends, from the first stamp or from one that a quorum has held, and keeps what was held that is not below
--- that; stamps are of view 1, or the first; no log has the operation's own stamp; and blocks have the length of one.
+-- that; none has come to a stamp of a view past the first; no log has the operation's own stamp; and blocks have the length of one.
 pub record KnownLogs (setting : Setting) (w : World) (c : Coordinator) : Type 0 where
   pub ascends : (i : ℕ) → LogAscends (replica_at (w.nodes i) c.call).log
   pub lowest : ℕ → Stamp
@@ -58,8 +58,7 @@ pub record KnownLogs (setting : Setting) (w : World) (c : Coordinator) : Type 0 
   pub first_held : (i : ℕ) → w.held i c.call.group.0 c.call.stripe.0 first_stamp ≡ true
   pub logged : (i : ℕ) (t : Stamp) → w.held i c.call.group.0 c.call.stripe.0 t ≡ true
       → (is_held t (replica_at (w.nodes i) c.call).log ≡ true) ⊎ (stamp_below t (lowest i) ≡ true)
-  pub order_view : (i : ℕ) → (replica_at (w.nodes i) c.call).order.view.0 ≤ 1
-  pub log_views : (i k : ℕ) (version : Version) → slice_get (replica_at (w.nodes i) c.call).log k ≡ Some version → version.stamp.view.0 ≤ 1
+  pub top_view : (i : ℕ) → (top_of (replica_at (w.nodes i) c.call)).view.0 ≤ 1
   pub unheld : (i : ℕ) → is_held c.stamp (replica_at (w.nodes i) c.call).log ≡ false
   pub blocks : (i seat k : ℕ) (version : Version) → seat_in c.group.members i ≡ Some seat
       → slice_get (replica_at (w.nodes i) c.call).log k ≡ Some version → length version.block ≡ setting.layout.block

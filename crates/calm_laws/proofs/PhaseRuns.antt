@@ -14,7 +14,7 @@ use Rattle.quorum.specs.Quorums.{quorum_of}
 
 -- A phase begins at these seats, a quorum: nothing counts yet; what is asked can be stored; and of the part of each seat something holds that each
 -- request keeps, and that tells what is replied, which answers the phase.
-pub record IsBegun (stage : Stage) (s : Scene) (Inv : ℕ → Part → Type 0) (f : Seated → Reply) (xs : List Seated) : Type 0 where
+pub record HasBegun (stage : Stage) (s : Scene) (Inv : ℕ → Part → Type 0) (f : Seated → Reply) (xs : List Seated) : Type 0 where
   pub group : s.c.group ≡ stage.group
   pub counted : s.c.counted ≡ []
   pub early : s.c.call.phase < 2 ^ 32 - 1
@@ -44,7 +44,7 @@ Heard stage s Inv f xs stale others =
     → Carries stage (record s { known = known_then stage s f xs stale; parts = parts; queue = told_all stage s.c others before })
     (decides stage s.c (known_then stage s f xs stale) (map (counted_of f) xs))
 
-module _ (stage : Stage) (s : Scene) (Inv : ℕ → Part → Type 0) (f : Seated → Reply) (xs : List Seated) (begins : IsBegun stage s Inv f xs)
+module _ (stage : Stage) (s : Scene) (Inv : ℕ → Part → Type 0) (f : Seated → Reply) (xs : List Seated) (begins : HasBegun stage s Inv f xs)
     (stale : List Packet) (others : List Seated) (heard : Heard stage s Inv f xs stale others) where
   -- the parts once the quorum was asked, and once all were
   abbrev asked_parts : ℕ → Part
