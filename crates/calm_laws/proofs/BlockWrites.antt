@@ -4,11 +4,11 @@ use Rattle.std.proofs.lemmas.Bool.{and_parts, cases_Bool, cond_both, eq-eqb, eqb
 use Rattle.std.proofs.lemmas.Option.{same_Some}
 use Rattle.std.specs.Prelude.{nat_eq, slice_get, ◌-◌, ◌^◌}
 use Rattle.calm_laws.proofs.Asking.{Holds, each_then}
-use Rattle.calm_laws.proofs.Counts.{Carries, counted_of, told}
+use Rattle.calm_laws.proofs.Counts.{Carries, counted_of}
 use Rattle.calm_laws.proofs.Decided.{order_at_decides}
 use Rattle.calm_laws.proofs.Descending.{Lore, after_replies, having, told_fits}
 use Rattle.calm_laws.proofs.Finds.{finding, total_below}
-use Rattle.calm_laws.proofs.Logs.{LogAscends}
+use Rattle.protocol_laws.proofs.Logs.{LogAscends}
 use Rattle.calm_laws.proofs.OrderPhases.{lower_closes}
 use Rattle.calm_laws.proofs.OrderRuns.{IsOrdering, IsUnheld, held_below}
 use Rattle.calm_laws.proofs.Ordering.{TameWith, looking, orders_at_ask, read_fits, told_below, told_facts}
@@ -72,9 +72,12 @@ each_finds g v (x ∷ xs) all =
     one : (z : Option Version) → g x ≡ z → finds v (record { seat = x.seat; brick = x.brick; reply = OrderedRead (g x) }) ≡ true → FindsIt g v x
     one None is found =
         absurd (false≢true (ap (λ (z : Option Version). finds v (record { seat = x.seat; brick = x.brick; reply = OrderedRead z })) (sym is) ∙ found))
-    one (Some version) is found =
-        (version, is, stamp_same_true version.stamp v
-        (ap (λ (z : Option Version). finds v (record { seat = x.seat; brick = x.brick; reply = OrderedRead z })) (sym is) ∙ found))
+    one (Some version) is found = (
+      version,
+      is,
+      stamp_same_true version.stamp v
+          (ap (λ (z : Option Version). finds v (record { seat = x.seat; brick = x.brick; reply = OrderedRead z })) (sym is) ∙ found),
+    )
 
 module _ (stage : Stage) (cast : Cast stage) (logs : ℕ → List Version) (lore : Lore stage cast logs) (s : Scene) (j : ℕ) where
   abbrev look : Seated → Option Version
@@ -111,12 +114,18 @@ module _ (stage : Stage) (cast : Cast stage) (logs : ℕ → List Version) (lore
   newest_so v parts (y ∷ ys) found tame unheld ascends =
       let told = told_facts logs s.c.stamp (Want.Seat j) y found.0.0 found.0.1 in
       let whole : below s.c.stamp (logs y.brick.0) ≡ logs y.brick.0
-      = below_whole s.c.stamp (logs y.brick.0) (held_below stage s.c.stamp (logs y.brick.0) (parts y.brick.0) tame.0 ascends.0 unheld.0) in
-      ((tame.0.tame, tame.0.room,
-      (told.inner,
-      ap (λ (l : List Version). newest_of l) (tame.0.log_is ∙ sym whole) ∙ told.newest,
-      told.stamp_is ∙ found.0.2)),
-      newest_so v parts ys found.1 tame.1 unheld.1 ascends.1)
+      = below_whole s.c.stamp (logs y.brick.0) (held_below stage s.c.stamp (logs y.brick.0) (parts y.brick.0) tame.0 ascends.0 unheld.0) in (
+        (
+          tame.0.tame,
+          tame.0.room,
+          (
+            told.inner,
+            ap (λ (l : List Version). newest_of l) (tame.0.log_is ∙ sym whole) ∙ told.newest,
+            told.stamp_is ∙ found.0.2,
+          ),
+        ),
+        newest_so v parts ys found.1 tame.1 unheld.1 ascends.1,
+      )
 
   abbrev pub block_goes : List Counted → Next
   block_goes counted = modified_if stage.setting.code (having s.c counted) j (common_version_at j counted)
@@ -149,22 +158,24 @@ module _ (stage : Stage) (cast : Cast stage) (logs : ℕ → List Version) (lore
     where
       go : (z : Option Stamp) → common_version_at j looked ≡ z
           → Carries stage (after_replies stage s known parts others before) (modified_if stage.setting.code (having s.c looked) j z)
-      go None is =
-          (record { group = refl; boot = refl; seq = refl; of_group = refl; view = refl; stripe = refl },
-          lower_closes stage cast logs lore s group later early others before parts known looked s.c.stamp tame above (omega arith))
+      go None is = (
+        record { group = refl; boot = refl; seq = refl; of_group = refl; view = refl; stripe = refl },
+        lower_closes stage cast logs lore s group later early others before parts known looked s.c.stamp tame above (omega arith),
+      )
       go (Some v) is =
           let common = common_parts j looked v is in
-          let found = each_finds look v cast.xs (common_found looked v common.1) in
-          (record { group = refl; boot = refl; seq = refl; of_group = refl; view = refl; stripe = refl },
-          modify_phase stage cast (made stage (after_replies stage s known parts others before) (modifying stage.setting.code (having s.c looked) v j)) v j
-          (next_open stage cast s.c (modifying stage.setting.code (having s.c looked) v j) others before
-          (made stage (after_replies stage s known parts others before) (modifying stage.setting.code (having s.c looked) v j)) group
-          (record {
-            same = record { group = refl; boot = refl; seq = refl; of_group = refl; view = refl; stripe = refl };
-            later = refl;
-            counted = refl;
-          })
-          refl refl)
-          refl (omega (arith, early)) below_m
-          (deltas (bytes_at j looked) (block_written s.c.ask.op) (bytes_long v cast.xs found lore.blocks common.0) written)
-          (newest_so v parts cast.xs found tame unheld lore.ascends))
+          let found = each_finds look v cast.xs (common_found looked v common.1) in (
+            record { group = refl; boot = refl; seq = refl; of_group = refl; view = refl; stripe = refl },
+            modify_phase stage cast (made stage (after_replies stage s known parts others before) (modifying stage.setting.code (having s.c looked) v j)) v j
+                (next_open stage cast s.c (modifying stage.setting.code (having s.c looked) v j) others before
+                (made stage (after_replies stage s known parts others before) (modifying stage.setting.code (having s.c looked) v j)) group
+                (record {
+                  same = record { group = refl; boot = refl; seq = refl; of_group = refl; view = refl; stripe = refl };
+                  later = refl;
+                  counted = refl;
+                })
+                refl refl)
+                refl (omega (arith, early)) below_m
+                (deltas (bytes_at j looked) (block_written s.c.ask.op) (bytes_long v cast.xs found lore.blocks common.0) written)
+                (newest_so v parts cast.xs found tame unheld lore.ascends),
+          )

@@ -13,7 +13,7 @@ use Rattle.calm_laws.proofs.Finishing.{plays, runs_once}
 use Rattle.calm_laws.proofs.FirstRounds.{IsFirst, IsLow}
 use Rattle.calm_laws.proofs.Floors.{greatest_low, low_most, low_one, quorum_passes}
 use Rattle.calm_laws.proofs.Known.{Known, repeated}
-use Rattle.calm_laws.proofs.Logs.{LogAscends, newest_stands}
+use Rattle.protocol_laws.proofs.Logs.{LogAscends, newest_stands}
 use Rattle.calm_laws.proofs.Looking.{look_first, looks_at_looking, looks_looking}
 use Rattle.calm_laws.proofs.OrderRuns.{IsUnheld}
 use Rattle.calm_laws.proofs.PhaseRuns.{Cast, IsOpen}
@@ -44,7 +44,6 @@ use Rattle.protocol.specs.Settings.{IsSound, Setting, are_bytes}
 use Rattle.protocol.specs.Worlds.{Operation, World}
 use Rattle.quorum.proofs.Counts.{count_full}
 use Rattle.quorum.specs.Quorums.{IsWithinLimits, count, quorum_of}
-use Rattle.quorum.specs.Tallies.{counted}
 
 -- a part whose times are early has come to an early one
 top_early : (b : ℕ) (replica : Replica) → replica.order.time ≤ b
@@ -101,8 +100,11 @@ module _ (setting : Setting) (sound : IsSound setting) (lengths : EncodesBlocks 
   all_seated : Each (IsSeated stage) all
   all_seated =
       each_chosen (IsSeated stage) bricks 0 c.group.members
-      (λ k member at one. (seat_of_member c.group.members k member (sound.distinct c.ask.group.0 c.group known.call.group_is) at
-      ∙ ap (λ (j : ℕ). Some j) (sym (zero-add k)), one))
+      (λ k member at one. (
+        seat_of_member c.group.members k member (sound.distinct c.ask.group.0 c.group known.call.group_is) at
+            ∙ ap (λ (j : ℕ). Some j) (sym (zero-add k)),
+        one,
+      ))
 
   all_many : q ≤ length all
   all_many = le_trans calm.members (chosen_many bricks 0 c.group.members calm.distinct)
@@ -197,13 +199,14 @@ module _ (setting : Setting) (sound : IsSound setting) (lengths : EncodesBlocks 
       both : (ys : List Seated) → Each (IsSeated stage) ys → Each (λ x. stamp_below floor (known.logs.lowest x.brick.0) ≡ false) ys
           → Each (λ x. w.held (brick_at c.group x.seat) c.call.group.0 c.call.stripe.0 floor ≡ true → is_held floor (logs x.brick.0) ≡ true) ys
       both [] seated most = tt
-      both (y ∷ ys) seated most =
-          ((λ held. ⊎_elim
-          (λ (kept : is_held floor (logs y.brick.0) ≡ true). kept)
-          (λ (lower : stamp_below floor (known.logs.lowest y.brick.0) ≡ true). absurd (false≢true (sym most.0 ∙ lower)))
-          (known.logs.logged y.brick.0 floor
-          (subst (λ (i : ℕ). w.held i c.call.group.0 c.call.stripe.0 floor ≡ true) (brick_at_seat c.group y.brick.0 y.seat seated.0.0) held))),
-          both ys seated.1 most.1)
+      both (y ∷ ys) seated most = (
+        (λ held. ⊎_elim
+            (λ (kept : is_held floor (logs y.brick.0) ≡ true). kept)
+            (λ (lower : stamp_below floor (known.logs.lowest y.brick.0) ≡ true). absurd (false≢true (sym most.0 ∙ lower)))
+            (known.logs.logged y.brick.0 floor
+            (subst (λ (i : ℕ). w.held i c.call.group.0 c.call.stripe.0 floor ≡ true) (brick_at_seat c.group y.brick.0 y.seat seated.0.0) held))),
+        both ys seated.1 most.1,
+      )
 
   -- what is known of the quorum's logs
   abbrev lore : Lore stage cast logs

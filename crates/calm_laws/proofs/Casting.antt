@@ -46,8 +46,11 @@ apart_chosen bricks seat [] = tt
 apart_chosen bricks seat (member ∷ members) =
     cond_both (is_one_of bricks member) (record { seat = seat; brick = member } ∷ chosen bricks (suc seat) members)
     (chosen bricks (suc seat) members) AreApart
-    (λ one. (each_chosen (λ y. nat_eq seat y.seat ≡ false) bricks (suc seat) members
-    (λ k one at is. ne_eqb seat (suc seat + k) (λ e. omega (arith, e))), apart_chosen bricks (suc seat) members))
+    (λ one. (
+      each_chosen (λ y. nat_eq seat y.seat ≡ false) bricks (suc seat) members
+          (λ k one at is. ne_eqb seat (suc seat + k) (λ e. omega (arith, e))),
+      apart_chosen bricks (suc seat) members,
+    ))
     (λ other. apart_chosen bricks (suc seat) members)
 
 -- some of these first, and the others after them

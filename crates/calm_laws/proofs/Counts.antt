@@ -170,14 +170,15 @@ replies_pass stage f (x ∷ (y ∷ ys)) s rest is early group seated answers new
     hears stage s x.brick s.c.call (f x) (told stage s.c.call f (y ∷ ys) ++ rest) (record { queue = is; seq = (refl, refl) })
     (subst (λ (z : Next). Outcome stage (heard s (f x) (told stage s.c.call f (y ∷ ys) ++ rest)) z)
     (sym (counts_so stage s f x early group seated.0 answers.0 new.0
-    ∙ waits_for stage.setting.layout.block stage.setting.code (fresh_at stage s.c (known_after s.known (f x))) now few))
-    (record { group = refl; boot = refl; seq = refl; of_group = refl; view = refl; stripe = refl },
-    replies_pass stage f (y ∷ ys) (waits (heard s (f x) (told stage s.c.call f (y ∷ ys) ++ rest)) now) rest refl early group seated.1 answers.1 new.1
-    (omega arith) (omega (arith, long, many))
-    (carries_counted stage
-    (record s { known = known_through (told stage s.c.call f (x ∷ (y ∷ ys))) s.known; queue = rest })
-    now.counted
-    (decides stage now (known_through (told stage s.c.call f (x ∷ (y ∷ ys))) s.known) (now.counted ++ map (counted_of f) (y ∷ ys)))
-    (subst (λ (l : List Counted). Carries stage (record s { known = known_through (told stage s.c.call f (x ∷ (y ∷ ys))) s.known; queue = rest })
-    (decides stage s.c (known_through (told stage s.c.call f (x ∷ (y ∷ ys))) s.known) l))
-    (sym (append_assoc s.c.counted (counted_of f x ∷ []) (map (counted_of f) (y ∷ ys)))) then))))
+    ∙ waits_for stage.setting.layout.block stage.setting.code (fresh_at stage s.c (known_after s.known (f x))) now few)) (
+      record { group = refl; boot = refl; seq = refl; of_group = refl; view = refl; stripe = refl },
+      replies_pass stage f (y ∷ ys) (waits (heard s (f x) (told stage s.c.call f (y ∷ ys) ++ rest)) now) rest refl early group seated.1 answers.1 new.1
+          (omega arith) (omega (arith, long, many))
+          (carries_counted stage
+          (record s { known = known_through (told stage s.c.call f (x ∷ (y ∷ ys))) s.known; queue = rest })
+          now.counted
+          (decides stage now (known_through (told stage s.c.call f (x ∷ (y ∷ ys))) s.known) (now.counted ++ map (counted_of f) (y ∷ ys)))
+          (subst (λ (l : List Counted). Carries stage (record s { known = known_through (told stage s.c.call f (x ∷ (y ∷ ys))) s.known; queue = rest })
+          (decides stage s.c (known_through (told stage s.c.call f (x ∷ (y ∷ ys))) s.known) l))
+          (sym (append_assoc s.c.counted (counted_of f x ∷ []) (map (counted_of f) (y ∷ ys)))) then)),
+    ))

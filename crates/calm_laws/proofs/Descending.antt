@@ -3,10 +3,10 @@ use Rattle.std.proofs.Common.{Bool, List, None, Option, Some, [], ap, arith, con
 use Rattle.std.proofs.lemmas.Bool.{and_from, cases_Bool, cond_both, eq-eqb, ltb-true}
 use Rattle.std.specs.Prelude.{filter, nat_eq, nat_lt, slice_get, ◌-◌, ◌^◌}
 use Rattle.calm_laws.proofs.Asking.{Holds, each_then, told_all}
-use Rattle.calm_laws.proofs.Counts.{Carries, counted_of, fresh_at, told}
+use Rattle.calm_laws.proofs.Counts.{Carries, counted_of, fresh_at}
 use Rattle.calm_laws.proofs.Decided.{descend_decides, none_full, none_refuses}
 use Rattle.calm_laws.proofs.Finds.{Has, IsMost, filter_more, finding, greatest_has, greatest_most, has_each, pieces_length, some_of, total_below, total_falls}
-use Rattle.calm_laws.proofs.Logs.{IsWithin, LogAscends, newest_among}
+use Rattle.protocol_laws.proofs.Logs.{IsWithin, LogAscends, newest_among}
 use Rattle.calm_laws.proofs.Ordering.{TameWith, descends_ask, looking, orders_keep, orders_reply, read_fits, reads_so, told_below, told_facts, told_then}
 use Rattle.calm_laws.proofs.PhaseRuns.{Cast, IsOpen, known_then, next_open, open_run}
 use Rattle.calm_laws.proofs.Rooms.{Room}
@@ -223,28 +223,29 @@ module _ (stage : Stage) (cast : Cast stage) (logs : ℕ → List Version) (lore
           let less : length (pieces_at v counted) < s.c.group.m = ltb-true (length (pieces_at v counted)) s.c.group.m few in
           let falls = found_falls v is (omega (arith, less, same)) in
           (record { group = refl; boot = refl; seq = refl; of_group = refl; view = refl; stripe = refl }, lower v falls.0 falls.1))
-          (λ enough.
-          (record { group = refl; boot = refl; seq = refl; of_group = refl; view = refl; stripe = refl },
-          store_phase stage cast
-          (made stage (after_replies stage s known parts others before)
-          (restoring stage.setting.layout.block (having s.c counted) v (stage.setting.code.decode s.c.group.m (pieces_at v counted))))
-          (next_open stage cast s.c
-          (restoring stage.setting.layout.block (having s.c counted) v (stage.setting.code.decode s.c.group.m (pieces_at v counted)))
-          others before
-          (made stage (after_replies stage s known parts others before)
-          (restoring stage.setting.layout.block (having s.c counted) v (stage.setting.code.decode s.c.group.m (pieces_at v counted))))
-          group
-          (record {
-            same = record { group = refl; boot = refl; seq = refl; of_group = refl; view = refl; stripe = refl };
-            later = refl;
-            counted = refl;
-          })
-          refl refl)
-          refl early (λ x seated. lore.encodes s.c.group.m
-          (after_op stage.setting.layout.block s.c.ask.op (stage.setting.code.decode s.c.group.m (pieces_at v counted))) x.seat)
-          (each_then (λ (x : Seated). TameWith stage s.c.stamp logs x.brick.0 (parts x.brick.0))
-          (λ (x : Seated). (stamp_below s.c.stamp (top_of (parts x.brick.0).replica) ≡ false) × Room stage (parts x.brick.0)) cast.xs
-          (λ x h. (h.tame, h.room)) tame)))
+          (λ enough. (
+            record { group = refl; boot = refl; seq = refl; of_group = refl; view = refl; stripe = refl },
+            store_phase stage cast
+                (made stage (after_replies stage s known parts others before)
+                (restoring stage.setting.layout.block (having s.c counted) v (stage.setting.code.decode s.c.group.m (pieces_at v counted))))
+                (next_open stage cast s.c
+                (restoring stage.setting.layout.block (having s.c counted) v (stage.setting.code.decode s.c.group.m (pieces_at v counted)))
+                others before
+                (made stage (after_replies stage s known parts others before)
+                (restoring stage.setting.layout.block (having s.c counted) v (stage.setting.code.decode s.c.group.m (pieces_at v counted))))
+                group
+                (record {
+                  same = record { group = refl; boot = refl; seq = refl; of_group = refl; view = refl; stripe = refl };
+                  later = refl;
+                  counted = refl;
+                })
+                refl refl)
+                refl early (λ x seated. lore.encodes s.c.group.m
+                (after_op stage.setting.layout.block s.c.ask.op (stage.setting.code.decode s.c.group.m (pieces_at v counted))) x.seat)
+                (each_then (λ (x : Seated). TameWith stage s.c.stamp logs x.brick.0 (parts x.brick.0))
+                (λ (x : Seated). (stamp_below s.c.stamp (top_of (parts x.brick.0).replica) ≡ false) × Room stage (parts x.brick.0)) cast.xs
+                (λ x h. (h.tame, h.room)) tame),
+          ))
 
 -- a phase that looks below this bound closes, whose versions below are this many at most
 abbrev pub DownCloses : (stage : Stage) (cast : Cast stage) (logs : ℕ → List Version) → Lore stage cast logs → ℕ → Type 0

@@ -3,16 +3,15 @@ use Rattle.protocol.specs.declared.phases.Phase.{Phase}
 use Rattle.fab_base.specs.declared.asks.Op.{Op}
 use Rattle.calm_laws.proofs.Calmness.{ends_alone}
 use Rattle.protocol.specs.Views.{view_of}
-use Rattle.std.proofs.Common.{◌≡◌, ◌≢◌, ℕ, zero, suc, ◌+◌, ◌≤◌, ◌<◌, ◌⊎◌, inl, inr, Bool, true, false, List, [], ◌∷◌, length, Option, Some, None, refl, sym, ap, ◌∙◌, subst, ⊎_elim, arith}
-use Rattle.std.specs.Prelude.{slice_get, nat_lt}
-use Rattle.std.proofs.lemmas.Bool.{cases_Bool, false≢true, and_parts, cases_eq}
+use Rattle.std.proofs.Common.{◌≡◌, ◌≢◌, ℕ, suc, ◌+◌, ◌≤◌, ◌<◌, ◌⊎◌, inl, inr, true, false, List, [], ◌∷◌, length, Some, refl, sym, ap, ◌∙◌, subst, ⊎_elim, arith}
+use Rattle.std.specs.Prelude.{slice_get}
+use Rattle.std.proofs.lemmas.Bool.{cases_Bool, cases_eq}
 use Rattle.std.proofs.lemmas.Option.{same_Some}
 use Rattle.fab_base.specs.declared.identities.BrickId.{BrickId}
 use Rattle.fab_base.specs.declared.asks.Ask.{Ask}
 use Rattle.fab_base.specs.declared.stamps.Stamp.{Stamp}
 use Rattle.fab_base.specs.Stamps.{stamp_below, first_stamp}
-use Rattle.fab_base.specs.Layouts.{Group, group_of, brick_at, seat_in}
-use Rattle.messages.specs.declared.calls.Call.{Call}
+use Rattle.fab_base.specs.Layouts.{Group, group_of, brick_at}
 use Rattle.messages.specs.declared.requests.Version.{Version}
 use Rattle.messages.specs.declared.packets.Message.TheVariants as Message
 use Rattle.messages.specs.declared.requests.Request.TheVariants as Request
@@ -21,19 +20,18 @@ use Rattle.quorum.specs.Quorums.{count, quorum_of}
 use Rattle.protocol.specs.Settings.{Setting, IsSound}
 use Rattle.protocol.specs.Replicas.{Replica, is_held, top_of}
 use Rattle.protocol.specs.Coordinators.{Coordinator}
-use Rattle.protocol.specs.Nodes.{group_at, has_block, has_length, replica_at, phase_packets, first_phase}
-use Rattle.protocol.specs.Worlds.{World, Operation, Event, first_world, number_of, run, is_brick}
-use Rattle.protocol.specs.Calms.{open_call, IsCalm}
+use Rattle.protocol.specs.Nodes.{has_block, has_length, replica_at, phase_packets, first_phase}
+use Rattle.protocol.specs.Worlds.{World, Operation, first_world, number_of, run, is_brick}
 use Rattle.protocol_laws.proofs.Books.{Books, CallBooks, OperationBooks, IsOperation, MadeInPhase}
-use Rattle.protocol_laws.proofs.BooksEvents.{books, brick_of}
+use Rattle.protocol_laws.proofs.BooksEvents.{books}
 use Rattle.protocol_laws.proofs.Blocking.{was_kept}
 use Rattle.protocol_laws.proofs.FirstViews.{group_first, others_empty}
 use Rattle.protocol_laws.proofs.Logs.{IsKept, IsUnder, held_stands, nothing_kept, LogAscends}
-use Rattle.protocol_laws.proofs.Said.{Stamping, Said, Stands, WasCollected, CallSays, IsMadeOrFirst, IsKnown, IsStamped}
+use Rattle.protocol_laws.proofs.Said.{Stamping, Said, Stands, WasCollected, IsMadeOrFirst, IsKnown, IsStamped}
 use Rattle.protocol_laws.proofs.SaidAlways.{always_said}
-use Rattle.protocol_laws.proofs.OwnStamps.{made_view, made_later, not_made_yet}
+use Rattle.protocol_laws.proofs.OwnStamps.{not_made_yet}
 use Rattle.protocol_laws.proofs.Parts.{part_of}
-use Rattle.calm_laws.specs.Laws.{EncodesBlocks, EndsAlone, CalmOperationsEnd, most_records}
+use Rattle.calm_laws.specs.Laws.{EncodesBlocks, CalmOperationsEnd, most_records}
 use Rattle.calm_laws.proofs.Known.{Known, KnownCall, KnownMessages, KnownLogs, repeated}
 use Rattle.calm_laws.proofs.Fresh.{IsFresh, IsNumbered, IsOpenAt, opens_at, always_fresh}
 use Rattle.calm_laws.proofs.Lives.{CountsLives, always_count, log_within}

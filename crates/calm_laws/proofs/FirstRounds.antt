@@ -7,7 +7,7 @@ use Rattle.calm_laws.proofs.Asking.{Holds, each_then}
 use Rattle.calm_laws.proofs.Counts.{Carries, counted_of, fresh_at, told}
 use Rattle.calm_laws.proofs.Descending.{IsSet, after_replies, having}
 use Rattle.calm_laws.proofs.Hearing.{known_through}
-use Rattle.calm_laws.proofs.Logs.{LogAscends}
+use Rattle.protocol_laws.proofs.Logs.{LogAscends}
 use Rattle.calm_laws.proofs.OrderRuns.{IsOrdering, IsUnheld, at_most_below, ordering_run, unheld_above}
 use Rattle.calm_laws.proofs.Ordering.{TameWith}
 use Rattle.calm_laws.proofs.PhaseRuns.{Cast, IsOpen, known_then, next_open}
@@ -129,17 +129,22 @@ module _ (stage : Stage) (cast : Cast stage) (logs : ℕ → List Version) (s : 
   second_set parts (y ∷ ys) mixed starts ascends told =
       let above : stamp_below (top_of (parts y.brick.0).replica) (second_stamp stage s.c known) ≡ true
       = second_above y (parts y.brick.0) mixed.0 starts.0.2 told.0 in
-      let rest = second_set parts ys mixed.1 starts.1 ascends.1 told.1 in
-      ((record {
-        log_is = mixed.0.log_is;
-        tame = stamp_below_asym (top_of (parts y.brick.0).replica) (second_stamp stage s.c known) above;
-        room = mixed.0.room;
-      },
-      rest.0),
-      (subst (λ (l : List Version). is_held (second_stamp stage s.c known) l ≡ false) mixed.0.log_is
-      (unheld_above (parts y.brick.0).replica (second_stamp stage s.c known)
-      (subst (λ (l : List Version). LogAscends l) (sym mixed.0.log_is) ascends.0) above),
-      rest.1))
+      let rest = second_set parts ys mixed.1 starts.1 ascends.1 told.1 in (
+        (
+          record {
+            log_is = mixed.0.log_is;
+            tame = stamp_below_asym (top_of (parts y.brick.0).replica) (second_stamp stage s.c known) above;
+            room = mixed.0.room;
+          },
+          rest.0,
+        ),
+        (
+          subst (λ (l : List Version). is_held (second_stamp stage s.c known) l ≡ false) mixed.0.log_is
+              (unheld_above (parts y.brick.0).replica (second_stamp stage s.c known)
+              (subst (λ (l : List Version). LogAscends l) (sym mixed.0.log_is) ascends.0) above),
+          rest.1,
+        ),
+      )
 
   -- a first round closes, where it goes on well, and the second round does
   pub ordering_first : ((y : Seated) (log : List Version) → told_time (answer y log) ≡ 0)
@@ -154,10 +159,11 @@ module _ (stage : Stage) (cast : Cast stage) (logs : ℕ → List Version) (s : 
       (λ x start. record { log_is = start.0; room = start.1; same = refl; kept = λ above. refl }) first.starts)
       accepted
       (λ before parts r mixed is.
-      subst (λ (z : Next). Carries stage (after_replies stage s known parts first.open_is.others before) z) (sym (tried r))
-      (record { group = refl; boot = refl; seq = refl; of_group = refl; view = refl; stripe = refl },
-      second before parts (second_set parts cast.xs mixed first.starts first.ascends
-      (through_told stage s.c.call f cast.xs (known_through first.open_is.stale s.known)))))
+      subst (λ (z : Next). Carries stage (after_replies stage s known parts first.open_is.others before) z) (sym (tried r)) (
+        record { group = refl; boot = refl; seq = refl; of_group = refl; view = refl; stripe = refl },
+        second before parts (second_set parts cast.xs mixed first.starts first.ascends
+            (through_told stage s.c.call f cast.xs (known_through first.open_is.stale s.known))),
+      ))
     where
       counted : List Counted
       counted = map (counted_of f) cast.xs

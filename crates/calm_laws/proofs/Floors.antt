@@ -23,12 +23,13 @@ greatest_low low (x ∷ xs) = stamp_max (low x.brick.0) (greatest_low low xs)
 -- none is above it
 pub low_most : (low : ℕ → Stamp) (xs : List Seated) → Each (λ x. stamp_below (greatest_low low xs) (low x.brick.0) ≡ false) xs
 low_most low [] = tt
-low_most low (x ∷ xs) =
-    (max_left (low x.brick.0) (greatest_low low xs),
-    each_then (λ (y : Seated). stamp_below (greatest_low low xs) (low y.brick.0) ≡ false)
-    (λ (y : Seated). stamp_below (greatest_low low (x ∷ xs)) (low y.brick.0) ≡ false) xs
-    (λ y most. stamp_not_below_trans (low y.brick.0) (greatest_low low xs) (greatest_low low (x ∷ xs)) most
-    (max_right (low x.brick.0) (greatest_low low xs))) (low_most low xs))
+low_most low (x ∷ xs) = (
+  max_left (low x.brick.0) (greatest_low low xs),
+  each_then (λ (y : Seated). stamp_below (greatest_low low xs) (low y.brick.0) ≡ false)
+      (λ (y : Seated). stamp_below (greatest_low low (x ∷ xs)) (low y.brick.0) ≡ false) xs
+      (λ y most. stamp_not_below_trans (low y.brick.0) (greatest_low low xs) (greatest_low low (x ∷ xs)) most
+      (max_right (low x.brick.0) (greatest_low low xs))) (low_most low xs),
+)
 
 -- and it is one of them, or the first stamp: so what holds of these holds of it
 pub low_one : (P : Stamp → Type 0) (low : ℕ → Stamp) (xs : List Seated) → P first_stamp → ((i : ℕ) → P (low i)) → P (greatest_low low xs)

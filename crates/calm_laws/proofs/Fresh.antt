@@ -1,10 +1,10 @@
 -- An operation of which no message was delivered is as it began: its coordinator is in its first phase, with no reply that counts, and its packets are
 -- that phase's, once for its beginning and once more for each tick since.
 use Rattle.protocol_laws.proofs.FirstViews.{group_first}
-use Rattle.protocol_laws.proofs.BooksEvents.{brick_of, BeginFits, books, begin_fits, begin_up}
+use Rattle.protocol_laws.proofs.BooksEvents.{brick_of, BeginFits, books, begin_fits}
 use Rattle.protocol_laws.proofs.Left.{answered_same, told_same}
 use Rattle.std.proofs.lemmas.Option.{slice_get_within, same_Some}
-use Rattle.std.proofs.Common.{◌≡◌, ◌≢◌, ℕ, zero, suc, ◌+◌, ◌≤◌, ◌<◌, ◌⊎◌, inl, inr, Bool, true, false, not, ◌&&◌, cond, List, [], ◌∷◌, ◌++◌, length, Option, Some, None, refl, sym, ap, ◌∙◌, subst, ⊎_elim, arith, length-append, nat_lt, lt-ltb, le-ltb, ltb-true, ltb-false, is_some}
+use Rattle.std.proofs.Common.{◌≡◌, ◌≢◌, ℕ, zero, suc, ◌+◌, ◌≤◌, ◌<◌, Bool, true, false, not, ◌&&◌, List, [], ◌∷◌, ◌++◌, length, Option, Some, None, refl, sym, ap, ◌∙◌, subst, ⊎_elim, arith, length-append, nat_lt, lt-ltb, le-ltb, ltb-true, ltb-false, is_some}
 use Rattle.std.specs.Prelude.{slice_get, nat_eq, filter, if◌then◌else◌}
 use Rattle.std.proofs.lemmas.Bool.{cond_both, cond-true, cond-false, cases_Bool, cases_eq, eq-eqb, eqb-true, ne_eqb, and_parts, false≢true, and_from, cases_lt}
 use Rattle.std.proofs.lemmas.List.{append_assoc, append-nil}
@@ -25,11 +25,12 @@ use Rattle.protocol.specs.declared.tellings.Told.TheVariants.{Made, Seen}
 use Rattle.protocol.specs.declared.tellings.Answered.{Answered}
 use Rattle.protocol.specs.Worlds.{World, Operation, Event, Invokes, Delivers, Sets, Ticks, Stops, Starts, Found, Before, After, first_world, number_of, may_begin, world_began, world_stepped, world_ticked, world_stopped, world_found, world_started, may_start, reached_during, reached_at, is_brick, is_up, packet_of, delivered, happens, run, replies_with, world_tells, world_answers, world_told, world_answered, with_answer, is_answer, with_made, with_seen}
 use Rattle.protocol.specs.Calms.{operation_of, open_at, open_call, IsUntouched}
-use Rattle.protocol_laws.proofs.Books.{Books, CallBooks, OperationBooks, IsOperation}
+use Rattle.protocol_laws.proofs.Books.{Books, CallBooks, IsOperation}
 use Rattle.protocol_laws.proofs.Tables.{put_each, put_same, get_kept, get_grown}
 use Rattle.protocol_laws.proofs.Puts.{put_other}
 use Rattle.calm_laws.proofs.Known.{repeated}
-use Rattle.calm_laws.proofs.StepsOf.{operation_same, StepIsOf, message_is_of, members_are_of}
+use Rattle.calm_laws.proofs.Queues.{operation_same}
+use Rattle.calm_laws.proofs.StepsOf.{StepIsOf, message_is_of, members_are_of}
 
 -- the packets of operation n
 abbrev pub packets_of : World → ℕ → List Packet
@@ -291,7 +292,7 @@ module _ (setting : Setting) (w : World) (books : Books setting w) (numbered : I
         (ups_told setting packet.to) (λ v answered. refl)
 
     belongs : (x : Packet) → operation_of next x ≡ operation_of w x
-    belongs x = operation_same next w x.from x.to x.message numbers_same
+    belongs x = operation_same w next x numbers_same
 
     place : (k : ℕ) × (number ≡ suc k) × (slice_get w.packets k ≡ Some packet)
     place = packet_stands w.packets number packet sent
@@ -341,11 +342,6 @@ module _ (setting : Setting) (w : World) (books : Books setting w) (numbered : I
         (λ k is_false. put_before w.reached number k (sym (ap (λ f. f k) reached_same) ∙ is_false)) n c untouched
         (opens_in w n o c is (sym (ap (λ f. f o.brick.0) ups_same) ∙ at.up) boot call)
         (λ j x at' same. other (sym same ∙ belongs x ∙ step_is.packets j x at'))
-
-  -- the same packets, of the same operations
-  same_packets : (v : World) → v.numbers ≡ w.numbers → (j : ℕ) (packet : Packet) → slice_get w.packets j ≡ Some packet
-      → operation_of v packet ≡ operation_of w packet
-  same_packets v numbers j packet at = operation_same v w packet.from packet.to packet.message numbers
 
   -- a brick's clock ticks: each of its open operations sends its present phase again
   module _ (brick : BrickId) where
@@ -785,7 +781,7 @@ module _ (setting : Setting) (w : World) (books : Books setting w) (numbered : I
       = λ same. absurd (let never : None ≡ Some c = sym (none o.seq) ∙ ap (λ (j : ℕ). (next.nodes j).calls o.seq) (sym same) ∙ at.call in cc) in
       let node : next.nodes o.brick.0 ≡ w.nodes o.brick.0 = others o.brick.0 other in
       fresh_kept setting w next [] fresh (packets ∙ sym (append-nil w.packets))
-      (λ j packet at'. operation_same next w packet.from packet.to packet.message numbers)
+      (λ j packet at'. operation_same w next packet numbers)
       (λ k is. ap (λ f. f k) (sym reached) ∙ is) n c untouched
       (opens_in w n o c (ap (λ f. f n) (sym operations) ∙ at.operation_is)
       (sym (put_other w.up brick.0 true o.brick.0 other) ∙ ap (λ f. f o.brick.0) (sym up) ∙ at.up)
@@ -821,9 +817,10 @@ kept setting w (Invokes brick ask) books numbered fresh =
     let fits : BeginFits setting ask = begin_fits setting w brick ask may in
     subst (λ (found : Option Group). IsNumbered (world_began w brick ask (began setting brick (w.clocks brick.0) (w.nodes brick.0) ask found))
     × AreFresh setting (world_began w brick ask (began setting brick (w.clocks brick.0) (w.nodes brick.0) ask found)))
-    (sym (group_first setting.layout (w.nodes brick.0) ask.group.0 (books.first brick.0) ∙ fits.group_is))
-    (began_numbered setting w books numbered fresh brick ask fits.group (and_parts (is_up setting.layout w brick) (not (is_some (refusal_of setting.layout (w.nodes brick.0) ask))) may).0,
-    began_fresh setting w books numbered fresh brick ask fits.group (and_parts (is_up setting.layout w brick) (not (is_some (refusal_of setting.layout (w.nodes brick.0) ask))) may).0))
+    (sym (group_first setting.layout (w.nodes brick.0) ask.group.0 (books.first brick.0) ∙ fits.group_is)) (
+      began_numbered setting w books numbered fresh brick ask fits.group (and_parts (is_up setting.layout w brick) (not (is_some (refusal_of setting.layout (w.nodes brick.0) ask))) may).0,
+      began_fresh setting w books numbered fresh brick ask fits.group (and_parts (is_up setting.layout w brick) (not (is_some (refusal_of setting.layout (w.nodes brick.0) ask))) may).0,
+    ))
     (λ isnt. (numbered, fresh))
 kept setting w (Delivers number) books numbered fresh = at (packet_of w.packets number) refl
   where
@@ -832,14 +829,18 @@ kept setting w (Delivers number) books numbered fresh = at (packet_of w.packets 
     at None is = (numbered, fresh)
     at (Some packet) is =
         cond_both (is_up setting.layout w packet.to) _ w (λ (next : World). IsNumbered next × AreFresh setting next)
-        (λ up. (delivered_numbered setting w books numbered fresh number packet is (replies_with setting w packet),
-        delivered_fresh setting w books numbered fresh number packet is (replies_with setting w packet)))
+        (λ up. (
+          delivered_numbered setting w books numbered fresh number packet is (replies_with setting w packet),
+          delivered_fresh setting w books numbered fresh number packet is (replies_with setting w packet),
+        ))
         (λ isnt. (numbered, fresh))
 kept setting w (Sets brick time) books numbered fresh =
     cond_both (is_brick setting.layout brick) (record w { clocks = put w.clocks brick.0 time }) w
     (λ (next : World). IsNumbered next × AreFresh setting next)
-    (λ is. (record { numbers = numbered.numbers; packets = numbered.packets; reached = numbered.reached },
-    (λ n c opens untouched. fresh_on setting w (record w { clocks = put w.clocks brick.0 time }) n c refl (fresh n c opens untouched))))
+    (λ is. (
+      record { numbers = numbered.numbers; packets = numbered.packets; reached = numbered.reached },
+      (λ n c opens untouched. fresh_on setting w (record w { clocks = put w.clocks brick.0 time }) n c refl (fresh n c opens untouched)),
+    ))
     (λ isnt. (numbered, fresh))
 kept setting w (Ticks brick) books numbered fresh =
     cond_both (is_up setting.layout w brick) (world_ticked setting w brick) w (λ (next : World). IsNumbered next × AreFresh setting next)

@@ -6,7 +6,8 @@ use Rattle.std.specs.Prelude.{filter, max, nat_lt, ◌-◌}
 use Rattle.calm_laws.proofs.Plays.{Finishes, finishes_by}
 use Rattle.calm_laws.proofs.Queues.{IsDelivered, IsHead}
 use Rattle.calm_laws.proofs.Scenes.{Each, IsNext, SameCall, Scene, Stage, decision, heard, made, replying, sent, waits}
-use Rattle.calm_laws.proofs.Shows.{IsMove, Shows, open_at_is, put_field, put_same, shows_next, world_by}
+use Rattle.calm_laws.proofs.Shows.{IsMove, Shows, open_at_is, put_field, shows_next, world_by}
+use Rattle.protocol_laws.proofs.Tables.{put_same}
 use Rattle.fab_base.specs.declared.answers.Answer.{Answer}
 use Rattle.fab_base.specs.declared.identities.BrickId.{BrickId}
 use Rattle.fab_base.specs.declared.stamps.Stamp.{Stamp}

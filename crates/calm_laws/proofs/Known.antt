@@ -1,8 +1,7 @@
 -- What is taken of the world in which an operation begins to run alone: its call and its messages, and the logs of its stripe.
 use Rattle.std.proofs.Common.{List, Some, [], false, length, suc, true, zero, ℕ, ◌++◌, ◌+◌, ◌<◌, ◌≡◌, ◌≤◌, ◌⊎◌}
 use Rattle.std.specs.Prelude.{filter, nat_eq, slice_get}
-use Rattle.calm_laws.proofs.Logs.{LogAscends}
-use Rattle.calm_laws.proofs.Scenes.{sent}
+use Rattle.protocol_laws.proofs.Logs.{LogAscends}
 use Rattle.calm_laws.specs.Laws.{most_records}
 use Rattle.fab_base.specs.Layouts.{brick_at, group_of, seat_in}
 use Rattle.fab_base.specs.Stamps.{first_stamp, stamp_below}

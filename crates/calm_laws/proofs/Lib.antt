@@ -17,7 +17,6 @@ pub mod Floors
 pub mod Hearing
 pub mod Hears
 pub mod Known
-pub mod Logs
 pub mod Looking
 pub mod OrderPhases
 pub mod OrderRuns

@@ -1,14 +1,14 @@
 -- A brick counts its live records: each order stamp above the first one, and each version but the one from the start. So no log is longer than that
 -- count by more than one.
 use Rattle.std.proofs.lemmas.Option.{same_Some}
-use Rattle.std.proofs.Common.{◌≡◌, ◌≢◌, ℕ, zero, suc, ◌+◌, ◌-◌, ◌≤◌, ◌<◌, ◌⊎◌, inl, inr, Bool, true, false, not, ◌&&◌, cond, List, [], ◌∷◌, ◌++◌, length, Option, Some, None, refl, sym, ap, ◌∙◌, subst, ⊎_elim, arith, length-append, replicate, ltb-false}
-use Rattle.std.specs.Prelude.{slice_get, nat_eq, nat_lt, filter, if◌then◌else◌}
-use Rattle.std.proofs.lemmas.Bool.{cond_both, cond-true, cond-false, cases_Bool, cases_eq, false≢true, and_parts, ltb-true, cases_lt, eqb-false}
+use Rattle.std.proofs.Common.{◌≡◌, ◌≢◌, ℕ, zero, suc, ◌+◌, ◌-◌, ◌≤◌, ◌<◌, Bool, true, false, not, ◌&&◌, cond, List, [], ◌∷◌, ◌++◌, length, Option, Some, None, refl, sym, ap, ◌∙◌, subst, ⊎_elim, arith, length-append, replicate, ltb-false}
+use Rattle.std.specs.Prelude.{slice_get, nat_eq, nat_lt, if◌then◌else◌}
+use Rattle.std.proofs.lemmas.Bool.{cond_both, cond-true, cases_Bool, cases_eq, false≢true, and_parts, ltb-true, cases_lt, eqb-false}
 use Rattle.std.proofs.lemmas.List.Filters.{length-filter_both}
 use Rattle.fab_base.specs.declared.identities.BrickId.{BrickId}
 use Rattle.fab_base.specs.declared.stamps.Stamp.{Stamp}
 use Rattle.fab_base.specs.Stamps.{stamp_below, stamp_same, first_stamp}
-use Rattle.fab_base.proofs.StampOrder.{stamp_below_irrefl, stamp_below_first, stamp_not_below_trans, stamp_neither_below, stamp_same_true, stamp_same_refl}
+use Rattle.fab_base.proofs.StampOrder.{stamp_below_first, stamp_not_below_trans, stamp_neither_below, stamp_same_true, stamp_same_refl}
 use Rattle.fab_base.specs.Layouts.{Layout, Group, group_of}
 use Rattle.messages.specs.declared.requests.Version.{Version}
 use Rattle.messages.specs.declared.requests.Request.{Request}
@@ -16,7 +16,7 @@ use Rattle.messages.specs.declared.requests.Request.TheVariants.{Read, Order, Or
 use Rattle.messages.specs.declared.replies.Reply.{Reply}
 use Rattle.messages.specs.declared.replies.Reply.TheVariants.{Later, Stored, Ordered, OrderedRead}
 use Rattle.protocol.specs.Settings.{Code}
-use Rattle.protocol.specs.Replicas.{Replica, Reaction, top_of, is_held, is_wanted, told_version, looked_up, stays, unless_full, promised, stored, ordered, written, order_read, below, not_below, drops_start, collected, ignored, handle, modified_block, first_replica, modified_on, newest_of}
+use Rattle.protocol.specs.Replicas.{Replica, Reaction, top_of, is_held, is_wanted, told_version, looked_up, stays, unless_full, promised, stored, below, not_below, drops_start, collected, ignored, handle, modified_block, first_replica, modified_on, newest_of}
 use Rattle.messages.specs.declared.calls.Call.{Call}
 use Rattle.messages.specs.declared.packets.Message.{Message}
 use Rattle.messages.specs.declared.packets.Packet.{Packet}

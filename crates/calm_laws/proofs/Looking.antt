@@ -8,12 +8,11 @@ use Rattle.calm_laws.proofs.Decided.{asked_in_phase, look_at_decides, look_decid
 use Rattle.calm_laws.proofs.Descending.{Lore, after_replies, having}
 use Rattle.calm_laws.proofs.FirstRounds.{IsFirst, IsLow}
 use Rattle.calm_laws.proofs.Hearing.{known_through}
-use Rattle.calm_laws.proofs.Logs.{newest_stands}
+use Rattle.protocol_laws.proofs.Logs.{newest_stands}
 use Rattle.calm_laws.proofs.OrderPhases.{after_in_phase}
 use Rattle.calm_laws.proofs.OrderRuns.{IsUnheld}
 use Rattle.calm_laws.proofs.Ordering.{told_from}
 use Rattle.calm_laws.proofs.PhaseRuns.{Cast, known_then, open_run, stale_then}
-use Rattle.calm_laws.proofs.Queues.{waiting}
 use Rattle.calm_laws.proofs.Rooms.{Room}
 use Rattle.calm_laws.proofs.Rounds.{stays_room}
 use Rattle.calm_laws.proofs.Scenes.{Closes, Each, Fits, Part, Scene, Seated, Stage, asked_of, part_after, reaction, sent}
@@ -208,10 +207,14 @@ module _ (stage : Stage) (cast : Cast stage) (logs : ℕ → List Version) (lore
           → Each (λ x. ((parts x.brick.0).replica.log ≡ logs x.brick.0) × Room stage (parts x.brick.0)
           × IsLow early (top_of (parts x.brick.0).replica)) ys
       both [] still starts = tt
-      both (y ∷ ys) still starts =
-          ((ap (λ (r : Replica). r.log) still.0.0 ∙ starts.0.0, still.0.1,
-          subst (λ (r : Replica). IsLow early (top_of r)) (sym still.0.0) starts.0.2),
-          both ys still.1 starts.1)
+      both (y ∷ ys) still starts = (
+        (
+          ap (λ (r : Replica). r.log) still.0.0 ∙ starts.0.0,
+          still.0.1,
+          subst (λ (r : Replica). IsLow early (top_of r)) (sym still.0.0) starts.0.2,
+        ),
+        both ys still.1 starts.1,
+      )
 
   -- the read closes
   pub look_first : s.c.call.phase ≤ 2 → IsUnheld logs s.c.stamp cast.xs → Closes stage s
@@ -242,10 +245,11 @@ module _ (stage : Stage) (cast : Cast stage) (logs : ℕ → List Version) (lore
           ⊎ ((bytes : List ℕ) × (seen : Option Stamp) × (decides stage s.c known counted ≡ Ends (Data bytes) seen None))
           → Carries stage (after_replies stage s known parts first.open_is.others before) (decides stage s.c known counted)
       go before parts still (inl is) =
-          subst (λ (z : Next). Carries stage (after_replies stage s known parts first.open_is.others before) z) (sym is)
-          (record { group = refl; boot = refl; seq = refl; of_group = refl; view = refl; stripe = refl },
-          recover_first stage cast logs lore few
-          (sent stage (after_replies stage s known parts first.open_is.others before) (in_phase (having s.c counted) Recovers))
-          (recovery_first counted before parts known known_is still) refl (omega (arith, early)) unheld)
+          subst (λ (z : Next). Carries stage (after_replies stage s known parts first.open_is.others before) z) (sym is) (
+            record { group = refl; boot = refl; seq = refl; of_group = refl; view = refl; stripe = refl },
+            recover_first stage cast logs lore few
+                (sent stage (after_replies stage s known parts first.open_is.others before) (in_phase (having s.c counted) Recovers))
+                (recovery_first counted before parts known known_is still) refl (omega (arith, early)) unheld,
+          )
       go before parts still (inr is) =
           subst (λ (z : Next). Carries stage (after_replies stage s known parts first.open_is.others before) z) (sym is.2) refl

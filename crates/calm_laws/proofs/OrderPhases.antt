@@ -6,7 +6,7 @@ use Rattle.calm_laws.proofs.Counts.{Carries, counted_of}
 use Rattle.calm_laws.proofs.Decided.{order_decides, recover_decides}
 use Rattle.calm_laws.proofs.Descending.{IsSet, Lore, after_replies, down_phase, having, read_back_goes, told_fits}
 use Rattle.calm_laws.proofs.Finds.{Has, finding, some_of, total_below}
-use Rattle.calm_laws.proofs.Logs.{LogAscends}
+use Rattle.protocol_laws.proofs.Logs.{LogAscends}
 use Rattle.calm_laws.proofs.OrderRuns.{IsOrdering, IsUnheld, held_below}
 use Rattle.calm_laws.proofs.Ordering.{TameWith, looking, order_fits, orders_ask, read_fits, recovers_ask, told_below}
 use Rattle.calm_laws.proofs.PhaseRuns.{Cast, IsAfter, next_open}
@@ -75,17 +75,18 @@ module _ (stage : Stage) (cast : Cast stage) (logs : ℕ → List Version) (lore
   pub write_accepted : s.c.group ≡ stage.group → s.c.call.phase + 1 < 2 ^ 32 - 1 → (others : List Seated) (before parts : ℕ → Part) (known : ℕ)
       → Holds (TameWith stage s.c.stamp logs) parts cast.xs
       → Carries stage (after_replies stage s known parts others before) (write_goes (map (counted_of (λ x. Ordered)) cast.xs))
-  write_accepted group early others before parts known tame =
-      (record { group = refl; boot = refl; seq = refl; of_group = refl; view = refl; stripe = refl },
-      store_phase stage cast
-      (made stage (after_replies stage s known parts others before) (in_phase (having s.c (map (counted_of (λ x. Ordered)) cast.xs)) Stores))
-      (next_open stage cast s.c (in_phase (having s.c (map (counted_of (λ x. Ordered)) cast.xs)) Stores) others before
-      (made stage (after_replies stage s known parts others before) (in_phase (having s.c (map (counted_of (λ x. Ordered)) cast.xs)) Stores)) group
-      (after_in_phase s.c (map (counted_of (λ x. Ordered)) cast.xs) Stores) refl refl)
-      refl early (λ x seated. lore.encodes s.c.group.m s.c.content x.seat)
-      (each_then (λ (x : Seated). TameWith stage s.c.stamp logs x.brick.0 (parts x.brick.0))
-      (λ (x : Seated). (stamp_below s.c.stamp (top_of (parts x.brick.0).replica) ≡ false) × Room stage (parts x.brick.0)) cast.xs
-      (λ x h. (h.tame, h.room)) tame))
+  write_accepted group early others before parts known tame = (
+    record { group = refl; boot = refl; seq = refl; of_group = refl; view = refl; stripe = refl },
+    store_phase stage cast
+        (made stage (after_replies stage s known parts others before) (in_phase (having s.c (map (counted_of (λ x. Ordered)) cast.xs)) Stores))
+        (next_open stage cast s.c (in_phase (having s.c (map (counted_of (λ x. Ordered)) cast.xs)) Stores) others before
+        (made stage (after_replies stage s known parts others before) (in_phase (having s.c (map (counted_of (λ x. Ordered)) cast.xs)) Stores)) group
+        (after_in_phase s.c (map (counted_of (λ x. Ordered)) cast.xs) Stores) refl refl)
+        refl early (λ x seated. lore.encodes s.c.group.m s.c.content x.seat)
+        (each_then (λ (x : Seated). TameWith stage s.c.stamp logs x.brick.0 (parts x.brick.0))
+        (λ (x : Seated). (stamp_below s.c.stamp (top_of (parts x.brick.0).replica) ≡ false) × Room stage (parts x.brick.0)) cast.xs
+        (λ x h. (h.tame, h.room)) tame),
+  )
 
   -- a recovery reads back what it finds
   abbrev pub recover_goes : List Counted → Next

@@ -6,7 +6,7 @@ use Rattle.calm_laws.proofs.Asking.{Holds, each_then}
 use Rattle.calm_laws.proofs.Counts.{Carries, counted_of, fresh_at}
 use Rattle.calm_laws.proofs.Decided.{none_full, none_refuses}
 use Rattle.calm_laws.proofs.Descending.{after_replies, having}
-use Rattle.calm_laws.proofs.Logs.{IsWithin, LogAscends, newest_greatest}
+use Rattle.protocol_laws.proofs.Logs.{IsWithin, LogAscends, newest_greatest}
 use Rattle.calm_laws.proofs.Ordering.{TameWith}
 use Rattle.calm_laws.proofs.PhaseRuns.{Cast, IsOpen, known_then, open_run}
 use Rattle.calm_laws.proofs.Rooms.{IsTame, newest_within}

@@ -5,7 +5,7 @@ use Rattle.std.proofs.lemmas.Option.{same_Some}
 use Rattle.std.specs.Prelude.{slice_get}
 use Rattle.calm_laws.proofs.Asking.{Keeps, Replies}
 use Rattle.calm_laws.proofs.Decided.{asked_in_phase}
-use Rattle.calm_laws.proofs.Logs.{among, newest_held, newest_stands_among, place_held}
+use Rattle.protocol_laws.proofs.Logs.{among, newest_held, newest_stands_among, place_held}
 use Rattle.calm_laws.proofs.Rooms.{IsTame, Room, not_full, order_accepts, order_read_accepts, promised_tame}
 use Rattle.calm_laws.proofs.Scenes.{Fits, Part, Seated, Stage, asked_of, reaction}
 use Rattle.calm_laws.proofs.Storing.{with_reaction}

@@ -23,10 +23,10 @@ Room stage part =
 pub not_full : (stage : Stage) (part : Part) → Room stage part → full_at stage.setting.layout.records part.live ≡ None
 not_full stage part room =
     let other : nat_eq part.live stage.setting.layout.records ≡ false = ⊎_elim
-        (λ (two : part.live + 2 ≤ stage.setting.layout.records). ne_eqb part.live stage.setting.layout.records (omega arith))
-        (λ (one : (part.live + 1 ≤ stage.setting.layout.records) × (stamp_same part.replica.order first_stamp ≡ false)).
-        ne_eqb part.live stage.setting.layout.records (omega (arith, one.0)))
-        room in
+    (λ (two : part.live + 2 ≤ stage.setting.layout.records). ne_eqb part.live stage.setting.layout.records (omega arith))
+    (λ (one : (part.live + 1 ≤ stage.setting.layout.records) × (stamp_same part.replica.order first_stamp ≡ false)).
+    ne_eqb part.live stage.setting.layout.records (omega (arith, one.0)))
+    room in
     ap (λ (b : Bool). cond b (Some part.live) None) other
 
 -- a part with this log, that has come to nothing above t

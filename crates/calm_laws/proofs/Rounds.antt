@@ -51,9 +51,10 @@ through_least stage call f (x ∷ xs) known =
 pub through_told : (stage : Stage) (call : Call) (f : Seated → Reply) (xs : List Seated) (known : ℕ)
     → Each (λ x. told_time (f x) ≤ known_through (told stage call f xs) known) xs
 through_told stage call f [] known = tt
-through_told stage call f (x ∷ xs) known =
-    (le_trans (after_told known (f x)) (through_least stage call f xs (known_after known (f x))),
-    through_told stage call f xs (known_after known (f x)))
+through_told stage call f (x ∷ xs) known = (
+  le_trans (after_told known (f x)) (through_least stage call f xs (known_after known (f x))),
+  through_told stage call f xs (known_after known (f x)),
+)
 
 pub through_most : (stage : Stage) (call : Call) (f : Seated → Reply) (b : ℕ) (xs : List Seated) (known : ℕ) → known ≤ b
     → Each (λ x. told_time (f x) ≤ b) xs → known_through (told stage call f xs) known ≤ b
@@ -167,16 +168,17 @@ pub unrefused_tame : (t : Stamp) (tops : ℕ → Stamp) (logs : ℕ → List Ver
 unrefused_tame t tops logs answer [] none = tt
 unrefused_tame t tops logs answer (x ∷ xs) none =
     let parts = refuser_none (refuser_of (counted_of (mixed_reply t tops logs answer) x))
-    (greatest_refuser (map (counted_of (mixed_reply t tops logs answer)) xs)) none in
-    (⊎_elim
-    (λ (above : stamp_below t (tops x.brick.0) ≡ true).
-    let e : refuser_of (record { seat = x.seat; brick = x.brick; reply = Later (tops x.brick.0) }) ≡ None
-    = sym (ap (λ (b : Bool). refuser_of (record { seat = x.seat; brick = x.brick; reply = cond b (Later (tops x.brick.0)) (answer x (logs x.brick.0)) })) above)
-    ∙ parts.0 in
-    cc)
-    (λ (tame : stamp_below t (tops x.brick.0) ≡ false). tame)
-    (cases_Bool (stamp_below t (tops x.brick.0))),
-    unrefused_tame t tops logs answer xs parts.1)
+    (greatest_refuser (map (counted_of (mixed_reply t tops logs answer)) xs)) none in (
+      ⊎_elim
+          (λ (above : stamp_below t (tops x.brick.0) ≡ true).
+          let e : refuser_of (record { seat = x.seat; brick = x.brick; reply = Later (tops x.brick.0) }) ≡ None
+          = sym (ap (λ (b : Bool). refuser_of (record { seat = x.seat; brick = x.brick; reply = cond b (Later (tops x.brick.0)) (answer x (logs x.brick.0)) })) above)
+          ∙ parts.0 in
+          cc)
+          (λ (tame : stamp_below t (tops x.brick.0) ≡ false). tame)
+          (cases_Bool (stamp_below t (tops x.brick.0))),
+      unrefused_tame t tops logs answer xs parts.1,
+    )
 
 -- then what counts is what they promised with
 pub tame_counted : (t : Stamp) (tops : ℕ → Stamp) (logs : ℕ → List Version) (answer : Seated → List Version → Reply) (xs : List Seated)

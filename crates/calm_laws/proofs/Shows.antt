@@ -1,6 +1,6 @@
 -- A world shows a scene: its coordinator, what its brick knows, the members' parts, and the messages that wait. A delivery of the first of these
 -- leads to a world that shows the next scene.
-use Rattle.std.proofs.Common.{Bool, List, None, Option, Some, ap, arith, cond, length, not, refl, subst, suc, sym, true, ℕ, ⊎_elim, ◌&&◌, ◌++◌, ◌+◌, ◌<◌, ◌∙◌, ◌≡◌, ◌≢◌}
+use Rattle.std.proofs.Common.{Bool, List, None, Option, Some, ap, arith, cond, length, not, subst, suc, sym, true, ℕ, ⊎_elim, ◌&&◌, ◌++◌, ◌+◌, ◌<◌, ◌∙◌, ◌≡◌}
 use Rattle.std.proofs.lemmas.Bool.{eq-eqb, ne_eqb}
 use Rattle.std.proofs.lemmas.List.{length-append}
 use Rattle.std.proofs.lemmas.Option.{slice_get_within}
@@ -16,13 +16,6 @@ use Rattle.protocol.specs.Coordinators.{Coordinator}
 use Rattle.protocol.specs.Nodes.{Node, NodeStep, group_at, is_served, put, received, replica_at, view_at}
 use Rattle.protocol.specs.Views.{Learnt, group_kept}
 use Rattle.protocol.specs.Worlds.{Delivers, Operation, World, delivered, happens, is_up, packet_of, replies_with, world_stepped}
-
--- a function with one value changed, at that value
-pub put_same : {A : Type 0} (f : ℕ → A) (k : ℕ) (v : A) → put f k v k ≡ v
-put_same f k v = ap (λ (b : Bool). cond b v (f k)) (eq-eqb k k refl)
-
-pub put_other : {A : Type 0} (f : ℕ → A) (k : ℕ) (v : A) (i : ℕ) → i ≢ k → put f k v i ≡ f i
-put_other f k v i other = ap (λ (b : Bool). cond b v (f i)) (ne_eqb i k other)
 
 -- what the changed value has in common with the old one
 pub put_field : {A B : Type 0} (g : A → B) (f : ℕ → A) (k : ℕ) (v : A) → g v ≡ g (f k) → (i : ℕ) → g (put f k v i) ≡ g (f i)

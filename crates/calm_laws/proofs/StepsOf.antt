@@ -1,6 +1,6 @@
 -- A brick's step on a message concerns the operation of that message alone: its packets, its coordinator, and what is told of it.
-use Rattle.std.proofs.Common.{◌≡◌, ◌≢◌, ℕ, zero, suc, ◌+◌, ◌-◌, true, false, List, [], ◌∷◌, Option, Some, None, refl, sym, ap, ◌∙◌, subst, Bool}
-use Rattle.std.specs.Prelude.{slice_get, max}
+use Rattle.std.proofs.Common.{◌≡◌, ◌≢◌, ℕ, zero, suc, ◌+◌, List, [], ◌∷◌, Option, Some, None, refl, sym, ap, ◌∙◌, subst, Bool}
+use Rattle.std.specs.Prelude.{slice_get}
 use Rattle.fab_base.specs.declared.identities.BrickId.{BrickId}
 use Rattle.fab_base.specs.declared.stamps.Stamp.{Stamp}
 use Rattle.messages.specs.declared.calls.Call.{Call}
@@ -12,22 +12,15 @@ use Rattle.protocol.specs.Settings.{Setting}
 use Rattle.protocol.specs.Replicas.{handle}
 use Rattle.protocol.specs.declared.phases.Counted.{Counted}
 use Rattle.protocol.specs.Coordinators.{Coordinator, Next, Ignores, Waits, Sends, Makes, Ends, counts_at, counted_at, once_full, with_reply, request_of, on_reply}
-use Rattle.protocol.specs.Nodes.{Node, NodeStep, put, no_step, with_known, with_call, with_replica, replica_at, full_at, known_after, fresh_stamp, reacted, reply_packets, requested, replied, replied_at, carried_out, received, phase_packets, collect_packets, to_members}
+use Rattle.protocol.specs.Nodes.{Node, NodeStep, put, no_step, with_known, replica_at, full_at, known_after, fresh_stamp, reply_packets, requested, replied, replied_at, carried_out, received, collect_packets, to_members}
 use Rattle.protocol.specs.Worlds.{World, Operation, number_of, with_made, with_seen, with_answer, world_stepped}
 use Rattle.protocol.specs.Calms.{operation_of}
 use Rattle.protocol.proofs.CountsAt.{CountsAt, counts_facts}
 use Rattle.protocol_laws.proofs.Books.{Books, CallBooks, IsCall}
-use Rattle.protocol_laws.proofs.Outcomes.{NextFits, SameOperation, once_full_fits}
+use Rattle.protocol_laws.proofs.Outcomes.{NextFits, once_full_fits}
 use Rattle.protocol_laws.proofs.Puts.{put_other}
 use Rattle.protocol_laws.proofs.Served.{request_each}
 use Rattle.protocol_laws.proofs.Tables.{get_one}
-
--- a packet is of the same operation where calls have the same numbers
-pub operation_same : (v w : World) (from to : BrickId) (message : Message) → v.numbers ≡ w.numbers
-    → operation_of v (record { from = from; to = to; message = message }) ≡ operation_of w (record { from = from; to = to; message = message })
-operation_same v w from to (Message.Request call request) same = ap (λ (f : ℕ → ℕ → ℕ → ℕ). f from.0 call.boot call.seq) same
-operation_same v w from to (Message.Reply call reply) same = ap (λ (f : ℕ → ℕ → ℕ → ℕ). f to.0 call.boot call.seq) same
-operation_same v w from to message same = refl
 
 -- The step of a brick is of operation m.
 pub record StepIsOf (setting : Setting) (w : World) (me : BrickId) (step : NodeStep) (m : ℕ) : Type 0 where

@@ -25,7 +25,7 @@ use Rattle.protocol.specs.Replicas.{below, handle, is_changed, modified_block, m
 use Rattle.protocol.specs.Worlds.{is_answer}
 use Rattle.protocol.specs.declared.phases.Phase.{Phase}
 use Rattle.protocol.specs.declared.phases.Phase.TheVariants.{Bases, Modifies, Stores}
-use Rattle.quorum.specs.Tallies.{counted, fits}
+use Rattle.quorum.specs.Tallies.{fits}
 use Rattle.reg_model.specs.Registers.{read_of}
 
 -- none of these says that it is behind
@@ -69,15 +69,15 @@ write_so stage c phase = record {
   takes = λ y part unheld tame room any. (
     stage.setting.code.encode c.group.m c.content y.seat,
     reaction_in_phase stage c Stores part y phase
-    ∙ ap (λ (b : Bool). cond b (stays part.replica Stored)
-    (cond (stamp_below c.stamp (top_of part.replica)) (stays part.replica (Later (top_of part.replica)))
-    (unless_full (full_at stage.setting.layout.records part.live) part.replica
-    (stored part.replica c.stamp (stage.setting.code.encode c.group.m c.content y.seat))))) unheld
-    ∙ ap (λ (b : Bool). cond b (stays part.replica (Later (top_of part.replica)))
-    (unless_full (full_at stage.setting.layout.records part.live) part.replica
-    (stored part.replica c.stamp (stage.setting.code.encode c.group.m c.content y.seat)))) tame
-    ∙ ap (λ (z : Option ℕ). unless_full z part.replica (stored part.replica c.stamp (stage.setting.code.encode c.group.m c.content y.seat)))
-    (not_full stage part room),
+        ∙ ap (λ (b : Bool). cond b (stays part.replica Stored)
+        (cond (stamp_below c.stamp (top_of part.replica)) (stays part.replica (Later (top_of part.replica)))
+        (unless_full (full_at stage.setting.layout.records part.live) part.replica
+        (stored part.replica c.stamp (stage.setting.code.encode c.group.m c.content y.seat))))) unheld
+        ∙ ap (λ (b : Bool). cond b (stays part.replica (Later (top_of part.replica)))
+        (unless_full (full_at stage.setting.layout.records part.live) part.replica
+        (stored part.replica c.stamp (stage.setting.code.encode c.group.m c.content y.seat)))) tame
+        ∙ ap (λ (z : Option ℕ). unless_full z part.replica (stored part.replica c.stamp (stage.setting.code.encode c.group.m c.content y.seat)))
+        (not_full stage part room),
   );
 }
 
@@ -111,7 +111,7 @@ store_phase stage cast s open_is phase early blocks taking =
       answer_with (read_of stage.setting.layout.block s.c.ask.op s.c.content),
       answers_well (read_of stage.setting.layout.block s.c.ask.op s.c.content),
       store_decides stage.setting.layout.block stage.setting.code fresh (record s.c { counted = map (counted_of (λ x. Stored)) cast.xs })
-      (none_full (λ x. Stored) (λ x. refl) cast.xs) phase (none_refuses (λ x. Stored) (λ x. refl) cast.xs),
+          (none_full (λ x. Stored) (λ x. refl) cast.xs) phase (none_refuses (λ x. Stored) (λ x. refl) cast.xs),
     ))
 
 -- the newest version of a log is of this stamp
@@ -131,22 +131,22 @@ modify_so stage c base j phase = record {
   takes = λ y part unheld tame room newest. (
     modified_block stage.setting.code stage.group.m j y.seat (delta_at c.group.m j y.seat c.content) newest.0.block,
     reaction_in_phase stage c (Modifies base j) part y phase
-    ∙ ap (λ (b : Bool). cond b (stays part.replica Stored)
-    (cond (stamp_below c.stamp (top_of part.replica)) (stays part.replica (Later (top_of part.replica)))
-    (modified_on stage.setting.code stage.group.m (full_at stage.setting.layout.records part.live) y.seat part.replica c.stamp base j
-    (delta_at c.group.m j y.seat c.content) (newest_of part.replica.log)))) unheld
-    ∙ ap (λ (b : Bool). cond b (stays part.replica (Later (top_of part.replica)))
-    (modified_on stage.setting.code stage.group.m (full_at stage.setting.layout.records part.live) y.seat part.replica c.stamp base j
-    (delta_at c.group.m j y.seat c.content) (newest_of part.replica.log))) tame
-    ∙ ap (λ (z : Option Version). modified_on stage.setting.code stage.group.m (full_at stage.setting.layout.records part.live) y.seat part.replica
-    c.stamp base j (delta_at c.group.m j y.seat c.content) z) newest.1
-    ∙ ap (λ (b : Bool). cond b (unless_full (full_at stage.setting.layout.records part.live) part.replica
-    (stored part.replica c.stamp (modified_block stage.setting.code stage.group.m j y.seat (delta_at c.group.m j y.seat c.content) newest.0.block)))
-    (stays part.replica (Behind (Some newest.0.stamp))))
-    (subst (λ (z : Stamp). stamp_same newest.0.stamp z ≡ true) newest.2 (stamp_same_refl newest.0.stamp))
-    ∙ ap (λ (z : Option ℕ). unless_full z part.replica
-    (stored part.replica c.stamp (modified_block stage.setting.code stage.group.m j y.seat (delta_at c.group.m j y.seat c.content) newest.0.block)))
-    (not_full stage part room),
+        ∙ ap (λ (b : Bool). cond b (stays part.replica Stored)
+        (cond (stamp_below c.stamp (top_of part.replica)) (stays part.replica (Later (top_of part.replica)))
+        (modified_on stage.setting.code stage.group.m (full_at stage.setting.layout.records part.live) y.seat part.replica c.stamp base j
+        (delta_at c.group.m j y.seat c.content) (newest_of part.replica.log)))) unheld
+        ∙ ap (λ (b : Bool). cond b (stays part.replica (Later (top_of part.replica)))
+        (modified_on stage.setting.code stage.group.m (full_at stage.setting.layout.records part.live) y.seat part.replica c.stamp base j
+        (delta_at c.group.m j y.seat c.content) (newest_of part.replica.log))) tame
+        ∙ ap (λ (z : Option Version). modified_on stage.setting.code stage.group.m (full_at stage.setting.layout.records part.live) y.seat part.replica
+        c.stamp base j (delta_at c.group.m j y.seat c.content) z) newest.1
+        ∙ ap (λ (b : Bool). cond b (unless_full (full_at stage.setting.layout.records part.live) part.replica
+        (stored part.replica c.stamp (modified_block stage.setting.code stage.group.m j y.seat (delta_at c.group.m j y.seat c.content) newest.0.block)))
+        (stays part.replica (Behind (Some newest.0.stamp))))
+        (subst (λ (z : Stamp). stamp_same newest.0.stamp z ≡ true) newest.2 (stamp_same_refl newest.0.stamp))
+        ∙ ap (λ (z : Option ℕ). unless_full z part.replica
+        (stored part.replica c.stamp (modified_block stage.setting.code stage.group.m j y.seat (delta_at c.group.m j y.seat c.content) newest.0.block)))
+        (not_full stage part room),
   );
 }
 
@@ -191,7 +191,7 @@ modify_phase stage cast s base j open_is phase early below long on =
       Done,
       refl,
       modify_decides stage.setting.layout.block stage.setting.code fresh (record s.c { counted = map (counted_of (λ x. Stored)) cast.xs })
-      (none_full (λ x. Stored) (λ x. refl) cast.xs) base j phase (none_refuses (λ x. Stored) (λ x. refl) cast.xs)
-      ∙ ap (λ (b : Bool). cond b (Sends (in_phase (record s.c { counted = map (counted_of (λ x. Stored)) cast.xs }) (Bases base)))
-      (Ends Done None (Some s.c.stamp))) (none_behind cast.xs),
+          (none_full (λ x. Stored) (λ x. refl) cast.xs) base j phase (none_refuses (λ x. Stored) (λ x. refl) cast.xs)
+          ∙ ap (λ (b : Bool). cond b (Sends (in_phase (record s.c { counted = map (counted_of (λ x. Stored)) cast.xs }) (Bases base)))
+          (Ends Done None (Some s.c.stamp))) (none_behind cast.xs),
     ))

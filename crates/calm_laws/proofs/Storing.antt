@@ -16,7 +16,7 @@ use Rattle.protocol.specs.Calms.{early}
 use Rattle.protocol.specs.Coordinators.{Coordinator, Ends, Next, answers_phase, decided}
 use Rattle.protocol.specs.Replicas.{Reaction, is_held, stays, stored, top_of}
 use Rattle.protocol.specs.Worlds.{is_answer}
-use Rattle.quorum.specs.Tallies.{counted, fits}
+use Rattle.quorum.specs.Tallies.{fits}
 
 -- a part after a reaction
 abbrev pub with_reaction : Part → Reaction → Part
@@ -47,9 +47,10 @@ module _ (stage : Stage) (c : Coordinator) (P : List Version → Type 0) (so : S
       new : is_held c.stamp part.replica.log ≡ false → IsStorable stage c.stamp P part
           → (is_held c.stamp (part_after stage c part y).replica.log ≡ true) × ((reaction stage c part y).reply ≡ Some Stored)
       new unheld (inl can) =
-          let e = so.takes y part unheld can.0 can.1 can.2 in
-          (subst (λ (r : Reaction). is_held c.stamp r.replica.log ≡ true) (sym e.1) (added_held c.stamp e.0 part.replica.log),
-          ap (λ (r : Reaction). r.reply) e.1)
+          let e = so.takes y part unheld can.0 can.1 can.2 in (
+            subst (λ (r : Reaction). is_held c.stamp r.replica.log ≡ true) (sym e.1) (added_held c.stamp e.0 part.replica.log),
+            ap (λ (r : Reaction). r.reply) e.1,
+          )
       new unheld (inr held) = absurd (false≢true (sym unheld ∙ held))
 
   pub stores_keep : Keeps stage c (λ i part. IsStorable stage c.stamp P part)
