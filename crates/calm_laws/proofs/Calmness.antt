@@ -1,0 +1,342 @@
+-- A calm operation, of whose world this is known, is answered alone.
+use Rattle.std.proofs.Common.{Bool, List, None, Option, Some, [], ap, ap₂, arith, drop, false, inl, le_of_lt, le_trans, length, map, not, refl, subst, suc, sym, take, true, zero-add, ℕ, ⊎_elim, ◌&&◌, ◌++◌, ◌+◌, ◌<◌, ◌∙◌, ◌∷◌, ◌≡◌, ◌≤◌}
+use Rattle.std.proofs.lemmas.Bool.{and_from, and_parts, cond_both, eq-eqb, eqb-true, false≢true, ltb-true}
+use Rattle.std.proofs.lemmas.Bool.Decides.{nat_tests}
+use Rattle.std.proofs.lemmas.List.{append_assoc, length-take-le, take-append-drop}
+use Rattle.std.specs.Prelude.{filter, nat_eq, nat_lt, slice_get, ◌*◌}
+use Rattle.calm_laws.proofs.Asking.{each_append, each_then}
+use Rattle.calm_laws.proofs.Beginnings.{OpenFacts, each_repeated, map_append, one_stands, open_facts, repeated_sends, waiting_untouched}
+use Rattle.calm_laws.proofs.Casting.{apart_chosen, apart_take, chosen, chosen_many, each_chosen, each_drop, each_take, sends_chosen}
+use Rattle.calm_laws.proofs.Descending.{Lore}
+use Rattle.calm_laws.proofs.Finds.{total_below}
+use Rattle.calm_laws.proofs.Finishing.{plays, runs_once}
+use Rattle.calm_laws.proofs.FirstRounds.{IsFirst, IsLow}
+use Rattle.calm_laws.proofs.Floors.{greatest_low, low_most, low_one, quorum_passes}
+use Rattle.calm_laws.proofs.Known.{Known, repeated}
+use Rattle.protocol_laws.proofs.Logs.{LogAscends, newest_stands}
+use Rattle.calm_laws.proofs.Looking.{look_first, looks_at_looking, looks_looking}
+use Rattle.calm_laws.proofs.OrderRuns.{IsUnheld}
+use Rattle.calm_laws.proofs.PhaseRuns.{Cast, IsOpen}
+use Rattle.calm_laws.proofs.Queues.{waiting}
+use Rattle.calm_laws.proofs.Rooms.{Room}
+use Rattle.calm_laws.proofs.Scenes.{Closes, Each, IsSeated, Part, Scene, Seated, Stage, asking, sends}
+use Rattle.calm_laws.proofs.Shows.{IsMember, Shows}
+use Rattle.calm_laws.proofs.Starts.{AreFew, block_first, write_first}
+use Rattle.calm_laws.proofs.StorePhases.{each_so}
+use Rattle.calm_laws.specs.Laws.{EncodesBlocks, EndsAlone, IsOver, most_records}
+use Rattle.fab_base.proofs.Seats.{brick_at_seat, seat_of_member, seat_within}
+use Rattle.fab_base.specs.Layouts.{Group, brick_at}
+use Rattle.fab_base.specs.Stamps.{first_stamp, stamp_below}
+use Rattle.fab_base.specs.declared.asks.Op.{Op}
+use Rattle.fab_base.specs.declared.asks.Op.TheVariants.{ReadBlock, ReadStripe, WriteBlock, WriteStripe}
+use Rattle.fab_base.specs.declared.identities.BrickId.{BrickId}
+use Rattle.fab_base.specs.declared.identities.GroupId.{GroupId}
+use Rattle.fab_base.specs.declared.identities.StripeNo.{StripeNo}
+use Rattle.fab_base.specs.declared.stamps.Stamp.{Stamp}
+use Rattle.messages.specs.declared.packets.Packet.{Packet}
+use Rattle.messages.specs.declared.requests.Version.{Version}
+use Rattle.messages.specs.declared.requests.Want.{Want}
+use Rattle.protocol.specs.Calms.{IsCalm, IsReady, early, goes_among, is_one_of}
+use Rattle.protocol.specs.Coordinators.{Coordinator, block_written}
+use Rattle.protocol.specs.Nodes.{first_phase, group_at, has_block, has_length, phase_packets, replica_at, view_at}
+use Rattle.protocol.specs.Replicas.{Replica, below, is_held, newest_of, top_of}
+use Rattle.protocol.specs.Settings.{IsSound, Setting, are_bytes}
+use Rattle.protocol.specs.Worlds.{Operation, World}
+use Rattle.quorum.proofs.Counts.{count_full}
+use Rattle.quorum.specs.Quorums.{IsWithinLimits, count, quorum_of}
+
+-- a part whose times are early has come to an early one
+top_early : (b : ℕ) (replica : Replica) → replica.order.time ≤ b
+    → ((k : ℕ) (version : Version) → slice_get replica.log k ≡ Some version → version.stamp.time ≤ b) → (top_of replica).time ≤ b
+unfolding top_of
+top_early b replica order versions = go (newest_of replica.log) refl
+  where
+    go : (z : Option Version) → newest_of replica.log ≡ z → (top_of replica).time ≤ b
+    go None is = rw is order
+    go (Some version) is =
+        let at = newest_stands replica.log version is in
+        rw is
+        (cond_both (stamp_below replica.order version.stamp) version.stamp replica.order (λ (z : Stamp). z.time ≤ b)
+        (λ less. versions at.0 version at.1) (λ not_less. order))
+
+-- fewer versions are below a bound than a log has
+below_short : (bound : Stamp) (log : List Version) → length (below bound log) ≤ length log
+below_short bound [] = omega arith
+below_short bound (version ∷ log) =
+    let rest = below_short bound log in
+    cond_both (stamp_below version.stamp bound) (version ∷ below bound log) (below bound log)
+    (λ (l : List Version). length l ≤ suc (length log)) (λ is. omega arith) (λ isnt. omega arith)
+
+total_short : (logs : ℕ → List Version) (bound : Stamp) (xs : List Seated) → ((i : ℕ) → length (logs i) ≤ most_records + 1)
+    → total_below logs bound xs ≤ length xs * (most_records + 1)
+total_short logs bound [] short = omega arith
+total_short logs bound (x ∷ xs) short =
+    let here = below_short bound (logs x.brick.0) in
+    let low = short x.brick.0 in
+    let rest = total_short logs bound xs short in
+    omega (arith, here, low, rest)
+
+module _ (setting : Setting) (sound : IsSound setting) (lengths : EncodesBlocks setting) (w : World) (n : ℕ) (bricks : List BrickId)
+    (calm : IsCalm setting w n bricks) (known : Known setting w n calm.operation calm.coordinator) where
+  abbrev o : Operation
+  o = calm.operation
+
+  abbrev c : Coordinator
+  c = calm.coordinator
+
+  abbrev stage : Stage
+  stage = record { setting = setting; bricks = bricks; me = o.brick; now = w.clocks o.brick.0; group = c.group }
+
+  limits : IsWithinLimits c.group.m (length c.group.members)
+  limits = sound.limits c.ask.group.0 c.group known.call.group_is
+
+  -- the members among the bricks
+  abbrev all : List Seated
+  all = chosen bricks 0 c.group.members
+
+  abbrev q : ℕ
+  q = quorum_of c.group
+
+  all_seated : Each (IsSeated stage) all
+  all_seated =
+      each_chosen (IsSeated stage) bricks 0 c.group.members
+      (λ k member at one. (
+        seat_of_member c.group.members k member (sound.distinct c.ask.group.0 c.group known.call.group_is) at
+            ∙ ap (λ (j : ℕ). Some j) (sym (zero-add k)),
+        one,
+      ))
+
+  all_many : q ≤ length all
+  all_many = le_trans calm.members (chosen_many bricks 0 c.group.members calm.distinct)
+
+  sends_all : (d : Coordinator) → d.group ≡ c.group → sends stage d ≡ map (asking stage d) all
+  sends_all d group =
+      sends_chosen stage d 0 d.group.members
+      ∙ ap (λ (g : Group). map (asking stage d) (chosen bricks 0 g.members)) group
+
+  abbrev cast : Cast stage
+  cast = record {
+    xs = take q all;
+    rest = drop q all;
+    seated = each_take (IsSeated stage) q all all_seated;
+    rest_seated = each_drop (IsSeated stage) q all all_seated;
+    apart = apart_take q all (apart_chosen bricks 0 c.group.members);
+    some = let long : length (take q all) ≡ q = length-take-le q all all_many in
+        let low = limits.some_block in let enough = limits.enough_seats in omega (arith, long, low, enough);
+    quorum = length-take-le q all all_many;
+    sends = λ d group.
+        sends_all d group ∙ ap (map (asking stage d)) (sym (take-append-drop q all))
+        ∙ map_append (asking stage d) (take q all) (drop q all);
+  }
+
+  -- parts and logs of the stripe
+  abbrev logs : ℕ → List Version
+  logs i = (replica_at (w.nodes i) c.call).log
+
+  abbrev parts : ℕ → Part
+  parts i = record { replica = replica_at (w.nodes i) c.call; live = (w.nodes i).live }
+
+  abbrev scene : Scene
+  scene = record { c = c; known = (w.nodes o.brick.0).known; parts = parts; queue = waiting w n bricks }
+
+  -- each brick is ready
+  ready : (brick : BrickId) → is_one_of bricks brick ≡ true → IsReady setting w c brick
+  ready brick one = let at = one_stands bricks brick one in calm.ready at.0 brick at.1
+
+  opened : OpenFacts w o c
+  opened = open_facts w n o c calm.is calm.open_is
+
+  -- what waits are the requests of the first phase
+  queue_is : waiting w n bricks ≡ map (asking stage c) (take q all) ++ map (asking stage c) (drop q all ++ repeated known.messages.copies all)
+  queue_is =
+      waiting_untouched w n bricks 1 w.packets (λ k packet at own.
+      let next : suc k ≡ 1 + k = omega arith in
+      subst (λ (j : ℕ). w.reached j ≡ false) next (calm.untouched (suc k) packet at own))
+      ∙ ap (λ (l : List Packet). filter (goes_among bricks) l) known.messages.sent
+      ∙ repeated_sends stage c (suc known.messages.copies) (phase_packets setting o.brick c) all (sends_all c refl)
+      ∙ ap (λ (l : List Seated). map (asking stage c) (l ++ repeated known.messages.copies all)) (sym (take-append-drop q all))
+      ∙ ap (map (asking stage c)) (append_assoc (take q all) (drop q all) (repeated known.messages.copies all))
+      ∙ map_append (asking stage c) (take q all) (drop q all ++ repeated known.messages.copies all)
+
+  -- so the first phase is open
+  abbrev begins_open : IsOpen stage cast scene
+  begins_open = record {
+    group = refl;
+    counted = known.call.counted;
+    stale = [];
+    old = tt;
+    others = drop q all ++ repeated known.messages.copies all;
+    others_seated = each_append (IsSeated stage) (drop q all) (repeated known.messages.copies all)
+        (each_drop (IsSeated stage) q all all_seated) (each_repeated (IsSeated stage) known.messages.copies all all_seated);
+    waiting = queue_is;
+  }
+
+  -- the floor of the quorum's logs
+  abbrev floor : Stamp
+  floor = greatest_low known.logs.lowest (take q all)
+
+  floor_stands : q ≤ count (length c.group.members) (λ seat. w.held (brick_at c.group seat) c.call.group.0 c.call.stripe.0 floor)
+  floor_stands =
+      low_one (λ (t : Stamp). q ≤ count (length c.group.members) (λ seat. w.held (brick_at c.group seat) c.call.group.0 c.call.stripe.0 t))
+      known.logs.lowest (take q all) first
+      (λ i. ⊎_elim
+      (λ (is : known.logs.lowest i ≡ first_stamp).
+      subst (λ (t : Stamp). q ≤ count (length c.group.members) (λ seat. w.held (brick_at c.group seat) c.call.group.0 c.call.stripe.0 t)) (sym is) first)
+      (λ (stands : q ≤ count (length c.group.members)
+      (λ seat. w.held (brick_at c.group seat) c.call.group.0 c.call.stripe.0 (known.logs.lowest i))). stands)
+      (known.logs.stands i))
+    where
+      first : q ≤ count (length c.group.members) (λ seat. w.held (brick_at c.group seat) c.call.group.0 c.call.stripe.0 first_stamp)
+      first =
+          let full = count_full (length c.group.members) (λ seat. w.held (brick_at c.group seat) c.call.group.0 c.call.stripe.0 first_stamp)
+          (λ k less. known.logs.first_held (brick_at c.group k)) in
+          omega (arith, full)
+
+  -- a member that has held the floor has it in its log
+  floor_kept : Each (λ x. w.held (brick_at c.group x.seat) c.call.group.0 c.call.stripe.0 floor ≡ true → is_held floor (logs x.brick.0) ≡ true) (take q all)
+  floor_kept = both (take q all) (each_take (IsSeated stage) q all all_seated) (low_most known.logs.lowest (take q all))
+    where
+      both : (ys : List Seated) → Each (IsSeated stage) ys → Each (λ x. stamp_below floor (known.logs.lowest x.brick.0) ≡ false) ys
+          → Each (λ x. w.held (brick_at c.group x.seat) c.call.group.0 c.call.stripe.0 floor ≡ true → is_held floor (logs x.brick.0) ≡ true) ys
+      both [] seated most = tt
+      both (y ∷ ys) seated most = (
+        (λ held. ⊎_elim
+            (λ (kept : is_held floor (logs y.brick.0) ≡ true). kept)
+            (λ (lower : stamp_below floor (known.logs.lowest y.brick.0) ≡ true). absurd (false≢true (sym most.0 ∙ lower)))
+            (known.logs.logged y.brick.0 floor
+            (subst (λ (i : ℕ). w.held i c.call.group.0 c.call.stripe.0 floor ≡ true) (brick_at_seat c.group y.brick.0 y.seat seated.0.0) held))),
+        both ys seated.1 most.1,
+      )
+
+  -- what is known of the quorum's logs
+  abbrev lore : Lore stage cast logs
+  lore = record {
+    ascends = each_so (λ (x : Seated). LogAscends (logs x.brick.0)) (λ x. known.logs.ascends x.brick.0) (take q all);
+    floor = floor;
+    holders = quorum_passes c.group.m (length c.group.members) limits.enough_seats (take q all) (λ x. is_held floor (logs x.brick.0))
+        (λ seat. w.held (brick_at c.group seat) c.call.group.0 c.call.stripe.0 floor)
+        (apart_take q all (apart_chosen bricks 0 c.group.members))
+        (each_then (IsSeated stage) (λ (x : Seated). x.seat < length c.group.members) (take q all)
+        (λ x seated. seat_within c.group x.brick.0 x.seat seated.0) (each_take (IsSeated stage) q all all_seated))
+        (length-take-le q all all_many) floor_stands floor_kept;
+    some_block = limits.some_block;
+    blocks = each_then (IsSeated stage) (λ (x : Seated). (k : ℕ) (version : Version) → slice_get (logs x.brick.0) k ≡ Some version
+        → length version.block ≡ setting.layout.block) (take q all)
+        (λ x seated k version at. known.logs.blocks x.brick.0 x.seat k version seated.0 at) (each_take (IsSeated stage) q all all_seated);
+    encodes = lengths;
+  }
+
+  -- phases enough
+  few : AreFew stage cast logs
+  few bound =
+      let total = total_short logs bound (take q all) known.logs.short in
+      let long : length (take q all) ≡ q = length-take-le q all all_many in
+      let seats = limits.few_seats in
+      omega (arith, total, long, seats)
+
+  -- the first round finds room, and early times
+  abbrev begins_first : IsFirst stage cast logs scene
+  begins_first = record {
+    open_is = begins_open;
+    quiet = refl;
+    round = known.call.round;
+    view = known.call.stamp_view;
+    call_view = known.call.view;
+    stamp_known = known.call.stamp_known;
+    known_early = let low = calm.times.known in omega (arith, low);
+    starts = each_then (IsSeated stage) (λ (x : Seated). ((parts x.brick.0).replica.log ≡ logs x.brick.0) × Room stage (parts x.brick.0)
+        × IsLow early (top_of (parts x.brick.0).replica)) (take q all)
+        (λ x seated. (refl, inl (ready x.brick seated.1).room, low x seated))
+        (each_take (IsSeated stage) q all all_seated);
+    ascends = each_so (λ (x : Seated). LogAscends (logs x.brick.0)) (λ x. known.logs.ascends x.brick.0) (take q all);
+  }
+    where
+      low : (x : Seated) → IsSeated stage x → IsLow early (top_of (parts x.brick.0).replica)
+      low x seated =
+          let times = (ready x.brick seated.1).times in
+          record {
+            view = known.logs.top_view x.brick.0;
+            time = top_early early (replica_at (w.nodes x.brick.0) c.call)
+                (le_of_lt (times.orders c.call.group.0 c.call.view.0 c.call.stripe.0))
+                (λ k version at. le_of_lt (times.logs c.call.group.0 c.call.view.0 c.call.stripe.0 k version at));
+          }
+
+  -- the operation's own stamp is in none of these logs
+  unheld : IsUnheld logs c.stamp (take q all)
+  unheld = each_so (λ (x : Seated). is_held c.stamp (logs x.brick.0) ≡ false) (λ x. known.logs.unheld x.brick.0) (take q all)
+
+  -- so it closes
+  closes : Closes stage scene
+  closes = go c.ask.op refl
+    where
+      go : (op : Op) → c.ask.op ≡ op → Closes stage scene
+      go (ReadBlock j) is =
+          look_first stage cast logs lore few scene begins_first (Want.Seat j)
+          (looks_at_looking stage scene j (known.call.phase ∙ ap (λ (z : Op). first_phase z) is)) (let one = known.call.number_of_phase in omega (arith, one)) unheld
+      go (WriteBlock j bytes) is =
+          let fits : nat_lt j c.group.m ≡ true = sym (ap (λ (z : Op). has_block c.group.m z) is) ∙ known.call.block_fits in
+          let long = and_parts (are_bytes bytes) (nat_eq (length bytes) setting.layout.block)
+          (sym (ap (λ (z : Op). has_length c.group.m setting.layout.block z) is) ∙ known.call.length_fits) in
+          block_first stage cast logs lore few sound.deltas scene j begins_first (known.call.phase ∙ ap (λ (z : Op). first_phase z) is)
+          (let one = known.call.number_of_phase in omega (arith, one)) unheld (ltb-true j c.group.m fits)
+          (ap (λ (z : Op). length (block_written z)) is ∙ eqb-true (length bytes) setting.layout.block long.1)
+      go ReadStripe is =
+          look_first stage cast logs lore few scene begins_first Want.All
+          (looks_looking stage scene (known.call.phase ∙ ap (λ (z : Op). first_phase z) is)) (let one = known.call.number_of_phase in omega (arith, one)) unheld
+      go (WriteStripe bytes) is =
+          write_first stage cast logs lore few scene begins_first (known.call.phase ∙ ap (λ (z : Op). first_phase z) is)
+          (let one = known.call.number_of_phase in omega (arith, one))
+
+  -- each brick serves the call
+  member_of : (brick : BrickId) → is_one_of bricks brick ≡ true → IsMember stage w c.call brick
+  member_of brick one =
+      let is = ready brick one in
+      record {
+        up = is.up;
+        group = ap (λ (g : GroupId). group_at setting.layout (w.nodes brick.0) g.0) known.call.of_group ∙ known.call.groups brick.0;
+        served =
+            let inside : nat_lt c.call.stripe.0 c.group.stripes ≡ true
+            = ap (λ (z : StripeNo). nat_lt z.0 c.group.stripes) known.call.stripe ∙ lt_so c.ask.stripe.0 c.group.stripes known.call.within in
+            ap (λ (b : Bool). b && (nat_eq c.call.view.0 (view_at (w.nodes brick.0) c.call.group.0)
+            && not ((w.nodes brick.0).accepted c.call.group.0))) inside
+            ∙ ap (λ (b : Bool). b && not ((w.nodes brick.0).accepted c.call.group.0)) (eq-eqb c.call.view.0 (view_at (w.nodes brick.0) c.call.group.0) (sym is.view))
+            ∙ ap (λ (b : Bool). not b) is.serves;
+      }
+    where
+      lt_so : (a b : ℕ) → a < b → nat_lt a b ≡ true
+      lt_so a b less = grind (arith, nat_tests)
+
+  -- the world shows the scene
+  shows : Shows stage n w scene
+  shows = record {
+    operation = o;
+    is = calm.is;
+    brick = refl;
+    boot = sym known.call.boot;
+    seq = sym known.call.seq;
+    up = and_from (nat_lt o.brick.0 setting.layout.bricks) (w.up o.brick.0) known.call.brick opened.up;
+    node_boot = opened.boot ∙ sym known.call.boot;
+    call = ap (λ (k : ℕ). (w.nodes o.brick.0).calls k) known.call.seq ∙ opened.call;
+    number = ap₂ (λ (b k : ℕ). w.numbers o.brick.0 b k) known.call.boot known.call.seq ∙ known.call.number;
+    clock = refl;
+    known = refl;
+    group = refl;
+    members = member_of;
+    parts = λ brick one. record { replica = refl; live = refl };
+    queue = refl;
+    unsent = known.messages.unsent;
+  }
+
+  -- the operation comes to its end alone, and is answered
+  pub ends_alone : EndsAlone setting w n bricks
+  ends_alone =
+      let finish = plays stage n scene closes w shows in
+      record {
+        events = finish.events;
+        last = finish.last;
+        alone = finish.alone;
+        over = λ others other runs.
+            let same = runs_once setting n bricks w finish.events finish.last finish.alone others other runs in
+            subst (λ (z : World). IsOver z n) same.1
+            (record { closed = finish.closed; operation = finish.operation; is = finish.is; answered = finish.answered });
+      }

@@ -1,0 +1,291 @@
+-- A reply is delivered: what the coordinator decides on the scene it does in the world.
+use Rattle.std.proofs.Common.{Bool, List, None, Option, Some, [], ap, ap₂, refl, subst, true, ℕ, ◌++◌, ◌+◌, ◌∙◌, ◌∷◌, ◌≡◌}
+use Rattle.std.proofs.lemmas.Bool.{and_parts}
+use Rattle.std.proofs.lemmas.List.{append-nil}
+use Rattle.std.specs.Prelude.{filter, max, nat_lt, ◌-◌}
+use Rattle.calm_laws.proofs.Plays.{Finishes, finishes_by}
+use Rattle.calm_laws.proofs.Queues.{IsDelivered, IsHead}
+use Rattle.calm_laws.proofs.Scenes.{Each, IsNext, SameCall, Scene, Stage, decision, heard, made, replying, sent, waits}
+use Rattle.calm_laws.proofs.Shows.{IsMove, Shows, open_at_is, put_field, shows_next, world_by}
+use Rattle.protocol_laws.proofs.Tables.{put_same}
+use Rattle.fab_base.specs.declared.answers.Answer.{Answer}
+use Rattle.fab_base.specs.declared.identities.BrickId.{BrickId}
+use Rattle.fab_base.specs.declared.stamps.Stamp.{Stamp}
+use Rattle.messages.specs.declared.calls.Call.{Call}
+use Rattle.messages.specs.declared.packets.Packet.{Packet}
+use Rattle.messages.specs.declared.replies.Reply.{Reply}
+use Rattle.messages.specs.declared.requests.Request.{Request}
+use Rattle.protocol.specs.Calms.{Ended, goes_among, is_left, open_at, open_call, operation_of}
+use Rattle.protocol.specs.Coordinators.{Coordinator, Ends, Ignores, Makes, Next, Sends, Waits, on_reply, request_of}
+use Rattle.protocol.specs.Nodes.{Node, carried_out, fresh_stamp, known_after, phase_packets, put, received, replica_at, replied, replied_at, to_members, with_call, with_known}
+use Rattle.protocol.specs.Replicas.{Replica}
+use Rattle.protocol.specs.Worlds.{Operation, World, is_answer, number_of, with_answer, with_made, with_seen}
+
+-- the coordinator's brick handles a reply
+heard_step : (stage : Stage) (n : ℕ) (w : World) (s : Scene) (from : BrickId) (call : Call) (reply : Reply) (rest : List Packet)
+    → Shows stage n w s → IsNext stage s from call reply rest
+    → received stage.setting stage.me (w.clocks stage.me.0) (w.nodes stage.me.0) (replying stage from call reply)
+    ≡ carried_out stage.setting stage.me (w.nodes stage.me.0) (known_after s.known reply) s.c (decision stage s from call reply)
+unfolding received replied
+heard_step stage n w s from call reply rest shows next =
+    ap (λ (z : Option Coordinator). replied_at stage.setting stage.me (w.clocks stage.me.0) from (w.nodes stage.me.0) call reply z)
+    (ap (λ (k : ℕ). (w.nodes stage.me.0).calls k) next.seq.1 ∙ shows.call)
+    ∙ ap (λ (k : ℕ). carried_out stage.setting stage.me (w.nodes stage.me.0) (known_after k reply) s.c
+    (on_reply stage.setting.layout.block stage.setting.code
+    (fresh_stamp stage.me s.c.call.view (w.clocks stage.me.0) (w.nodes stage.me.0).boot (known_after k reply)) s.c from call reply)) shows.known
+    ∙ ap (λ (b : ℕ). carried_out stage.setting stage.me (w.nodes stage.me.0) (known_after s.known reply) s.c
+    (on_reply stage.setting.layout.block stage.setting.code
+    (fresh_stamp stage.me s.c.call.view (w.clocks stage.me.0) b (known_after s.known reply)) s.c from call reply)) shows.node_boot
+    ∙ ap (λ (t : ℕ). carried_out stage.setting stage.me (w.nodes stage.me.0) (known_after s.known reply) s.c
+    (on_reply stage.setting.layout.block stage.setting.code
+    (fresh_stamp stage.me s.c.call.view t s.c.call.boot (known_after s.known reply)) s.c from call reply)) shows.clock
+
+-- The coordinator's brick after a reply, where its operation goes on: it knows a time, and has a coordinator; the rest is as before.
+pub record IsHeard (stage : Stage) (w : World) (c : Coordinator) (node : Node) (d : Coordinator) (known : ℕ) : Type 0 where
+  pub boot : node.boot ≡ (w.nodes stage.me.0).boot
+  pub call : node.calls c.call.seq ≡ Some d
+  pub known_is : node.known ≡ known
+  pub learnt : node.learnt ≡ (w.nodes stage.me.0).learnt
+  pub accepted : node.accepted ≡ (w.nodes stage.me.0).accepted
+  pub replicas : node.replicas ≡ (w.nodes stage.me.0).replicas
+  pub live : node.live ≡ (w.nodes stage.me.0).live
+
+-- the operation, as the world has it then
+pub record IsSame (w later : World) (n : ℕ) (o : Operation) : Type 0 where
+  pub operation : Operation
+  pub is : later.operations n ≡ Some operation
+  pub brick : operation.brick ≡ o.brick
+  pub boot : operation.boot ≡ o.boot
+  pub seq : operation.seq ≡ o.seq
+
+heard_move : (stage : Stage) (n : ℕ) (w later : World) (s : Scene) (node : Node) (d : Coordinator) (known number : ℕ) (rest sent : List Packet)
+    → (shows : Shows stage n w s) → later.nodes ≡ put w.nodes stage.me.0 node → later.up ≡ w.up → later.clocks ≡ w.clocks
+    → IsHeard stage w s.c node d known → IsSame w later n shows.operation → IsDelivered w later n number sent → SameCall s.c d
+    → IsMove stage n w later s (record s { c = d; known = known; queue = rest ++ filter (goes_among stage.bricks) sent }) shows.operation number rest sent
+heard_move stage n w later s node d known number rest sent shows nodes up clocks heard still delivery same = record {
+  operation_later = still.operation;
+  is = still.is;
+  brick = still.brick;
+  boot = still.boot;
+  seq = still.seq;
+  up = up;
+  clocks = clocks;
+  node_boot = ap (λ (f : ℕ → Node). (f stage.me.0).boot) nodes ∙ put_field (λ (z : Node). z.boot) w.nodes stage.me.0 node heard.boot stage.me.0;
+  call = ap (λ (f : ℕ → Node). (f stage.me.0).calls s.c.call.seq) nodes
+      ∙ ap (λ (z : Node). z.calls s.c.call.seq) (put_same w.nodes stage.me.0 node) ∙ heard.call;
+  known = ap (λ (f : ℕ → Node). (f stage.me.0).known) nodes ∙ ap (λ (z : Node). z.known) (put_same w.nodes stage.me.0 node) ∙ heard.known_is;
+  learnt = λ i. ap (λ (f : ℕ → Node). (f i).learnt) nodes ∙ put_field (λ (z : Node). z.learnt) w.nodes stage.me.0 node heard.learnt i;
+  accepted = λ i. ap (λ (f : ℕ → Node). (f i).accepted) nodes ∙ put_field (λ (z : Node). z.accepted) w.nodes stage.me.0 node heard.accepted i;
+  parts = λ brick one. record {
+    replica = ap (λ (f : ℕ → Node). replica_at (f brick.0) s.c.call) nodes
+        ∙ put_field (λ (z : Node). replica_at z s.c.call) w.nodes stage.me.0 node
+        (ap (λ (f : ℕ → ℕ → ℕ → Replica). f s.c.call.group.0 s.c.call.view.0 s.c.call.stripe.0) heard.replicas) brick.0
+        ∙ (shows.parts brick one).replica;
+    live = ap (λ (f : ℕ → Node). (f brick.0).live) nodes ∙ put_field (λ (z : Node). z.live) w.nodes stage.me.0 node heard.live brick.0
+        ∙ (shows.parts brick one).live;
+  };
+  delivery = delivery;
+  queue = refl;
+  same = same;
+}
+
+-- the packets of a phase are the operation's
+phase_own : (stage : Stage) (w : World) (n : ℕ) (call : Call) (request : ℕ → Request) (seat : ℕ) (members : List BrickId)
+    → w.numbers stage.me.0 call.boot call.seq ≡ n → Each (λ packet. operation_of w packet ≡ n) (to_members stage.me call request seat members)
+phase_own stage w n call request seat [] number = tt
+phase_own stage w n call request seat (member ∷ members) number = (number, phase_own stage w n call request (seat + 1) members number)
+
+-- the number of the next phase's call
+next_number : (stage : Stage) (n : ℕ) (w : World) (s : Scene) (d : Coordinator) → Shows stage n w s → SameCall s.c d
+    → w.numbers stage.me.0 d.call.boot d.call.seq ≡ n
+next_number stage n w s d shows same =
+    ap₂ (λ (b k : ℕ). w.numbers stage.me.0 b k) same.boot same.seq ∙ shows.number
+
+-- a world in which the operation is closed, and was answered
+closes_at : (stage : Stage) (n : ℕ) (w later : World) (s : Scene) (node : Node) (o : Operation) → (shows : Shows stage n w s)
+    → later.operations n ≡ Some o → o.brick ≡ shows.operation.brick → o.boot ≡ shows.operation.boot → o.seq ≡ shows.operation.seq
+    → later.nodes ≡ put w.nodes stage.me.0 node → later.up ≡ w.up → node.boot ≡ (w.nodes stage.me.0).boot → node.calls s.c.call.seq ≡ None
+    → o.answered ≡ true → Finishes stage n later
+closes_at stage n w later s node o shows is brick boot seq nodes up node_boot closed answered =
+    let closed_is : open_call later n ≡ None
+    = ap (λ (z : Option Operation). open_at later z) is
+    ∙ open_at_is later o stage.me s.c.call.boot s.c.call.seq (brick ∙ shows.brick) (boot ∙ shows.boot) (seq ∙ shows.seq)
+    (ap (λ (f : ℕ → Bool). f stage.me.0) up ∙ (and_parts (nat_lt stage.me.0 stage.setting.layout.bricks) (w.up stage.me.0) shows.up).1)
+    (ap (λ (f : ℕ → Node). (f stage.me.0).boot) nodes ∙ ap (λ (z : Node). z.boot) (put_same w.nodes stage.me.0 node) ∙ node_boot ∙ shows.node_boot)
+    ∙ ap (λ (f : ℕ → Node). (f stage.me.0).calls s.c.call.seq) nodes
+    ∙ ap (λ (z : Node). z.calls s.c.call.seq) (put_same w.nodes stage.me.0 node) ∙ closed in
+    record {
+      events = [];
+      last = later;
+      alone = Ended later closed_is;
+      closed = closed_is;
+      operation = o;
+      is = is;
+      answered = answered;
+    }
+
+module _ (stage : Stage) (n : ℕ) (w : World) (s : Scene) (from : BrickId) (call : Call) (reply : Reply) (rest : List Packet)
+    (shows : Shows stage n w s) (next : IsNext stage s from call reply rest) where
+  abbrev packet : Packet
+  packet = replying stage from call reply
+
+  abbrev known : ℕ
+  known = known_after s.known reply
+
+  abbrev me_node : Node
+  me_node = w.nodes stage.me.0
+
+  -- it is known what follows the delivery
+  after_step : (z : Next) → decision stage s from call reply ≡ z
+      → ((head : IsHead (is_left w n stage.bricks) 1 w.packets packet rest)
+      → Finishes stage n (world_by stage w (1 + head.place) packet (carried_out stage.setting stage.me me_node known s.c z)))
+      → Finishes stage n w
+  after_step z is then =
+      finishes_by stage n w s packet rest shows next.queue shows.up (carried_out stage.setting stage.me me_node known s.c z)
+      (heard_step stage n w s from call reply rest shows next
+      ∙ ap (λ (y : Next). carried_out stage.setting stage.me me_node known s.c y) is) then
+
+  -- a reply that is left out
+  pub skip_plays : decision stage s from call reply ≡ Ignores
+      → ((later : World) → Shows stage n later (heard s reply rest) → Finishes stage n later) → Finishes stage n w
+  skip_plays is then =
+      after_step Ignores is (λ head.
+      then (world_by stage w (1 + head.place) packet (carried_out stage.setting stage.me me_node known s.c Ignores))
+      (subst (λ (q : List Packet). Shows stage n (world_by stage w (1 + head.place) packet (carried_out stage.setting stage.me me_node known s.c Ignores))
+      (record s { known = known; queue = q })) (append-nil rest)
+      (shows_next stage n w (world_by stage w (1 + head.place) packet (carried_out stage.setting stage.me me_node known s.c Ignores)) s
+      (record s { known = known; queue = rest ++ [] }) packet rest [] shows head
+      (heard_move stage n w (world_by stage w (1 + head.place) packet (carried_out stage.setting stage.me me_node known s.c Ignores)) s
+      (with_known me_node known) s.c known (1 + head.place) rest [] shows refl refl refl
+      (record { boot = refl; call = shows.call; known_is = refl; learnt = refl; accepted = refl; replicas = refl; live = refl })
+      (record { operation = shows.operation; is = shows.is; brick = refl; boot = refl; seq = refl })
+      (record { numbers = refl; reached = refl; packets = refl; own = tt })
+      (record { group = refl; boot = refl; seq = refl; of_group = refl; view = refl; stripe = refl })))))
+
+  -- one that counts, where more are waited for
+  pub count_plays : (d : Coordinator) → decision stage s from call reply ≡ Waits d → SameCall s.c d
+      → ((later : World) → Shows stage n later (waits (heard s reply rest) d) → Finishes stage n later) → Finishes stage n w
+  count_plays d is same then =
+      after_step (Waits d) is (λ head.
+      then (world_by stage w (1 + head.place) packet (carried_out stage.setting stage.me me_node known s.c (Waits d)))
+      (subst (λ (q : List Packet). Shows stage n (world_by stage w (1 + head.place) packet (carried_out stage.setting stage.me me_node known s.c (Waits d)))
+      (record s { c = d; known = known; queue = q })) (append-nil rest)
+      (shows_next stage n w (world_by stage w (1 + head.place) packet (carried_out stage.setting stage.me me_node known s.c (Waits d))) s
+      (record s { c = d; known = known; queue = rest ++ [] }) packet rest [] shows head
+      (heard_move stage n w (world_by stage w (1 + head.place) packet (carried_out stage.setting stage.me me_node known s.c (Waits d))) s
+      (with_call me_node known me_node.busy s.c.call.seq (Some d)) d known (1 + head.place) rest [] shows refl refl refl
+      (record {
+        boot = refl;
+        call = put_same me_node.calls s.c.call.seq (Some d);
+        known_is = refl;
+        learnt = refl;
+        accepted = refl;
+        replicas = refl;
+        live = refl;
+      })
+      (record { operation = shows.operation; is = shows.is; brick = refl; boot = refl; seq = refl })
+      (record { numbers = refl; reached = refl; packets = refl; own = tt }) same))))
+
+  -- one that begins an ordered phase
+  pub begin_plays : (d : Coordinator) → decision stage s from call reply ≡ Sends d → SameCall s.c d
+      → ((later : World) → Shows stage n later (sent stage (heard s reply rest) d) → Finishes stage n later) → Finishes stage n w
+  begin_plays d is same then =
+      after_step (Sends d) is (λ head.
+      then (world_by stage w (1 + head.place) packet (carried_out stage.setting stage.me me_node known s.c (Sends d)))
+      (shows_next stage n w (world_by stage w (1 + head.place) packet (carried_out stage.setting stage.me me_node known s.c (Sends d))) s
+      (sent stage (heard s reply rest) d) packet rest (phase_packets stage.setting stage.me d) shows head
+      (heard_move stage n w (world_by stage w (1 + head.place) packet (carried_out stage.setting stage.me me_node known s.c (Sends d))) s
+      (with_call me_node (max known d.stamp.time) me_node.busy s.c.call.seq (Some d)) d (max known d.stamp.time) (1 + head.place) rest
+      (phase_packets stage.setting stage.me d) shows refl refl refl
+      (record {
+        boot = refl;
+        call = put_same me_node.calls s.c.call.seq (Some d);
+        known_is = refl;
+        learnt = refl;
+        accepted = refl;
+        replicas = refl;
+        live = refl;
+      })
+      (record { operation = shows.operation; is = shows.is; brick = refl; boot = refl; seq = refl })
+      (record {
+        numbers = refl;
+        reached = refl;
+        packets = refl;
+        own = phase_own stage w n d.call (request_of stage.setting.code d) 0 d.group.members (next_number stage n w s d shows same);
+      })
+      same)))
+
+  -- the number of the operation that the coordinator's call is of
+  number_is : (z : World) → z.numbers ≡ w.numbers → z.nodes ≡ w.nodes → number_of z stage.me.0 s.c.call.seq ≡ n
+  number_is z numbers nodes =
+      ap₂ (λ (f : ℕ → ℕ → ℕ → ℕ) (g : ℕ → Node). f stage.me.0 (g stage.me.0).boot s.c.call.seq) numbers nodes
+      ∙ ap (λ (b : ℕ). w.numbers stage.me.0 b s.c.call.seq) shows.node_boot ∙ shows.number
+
+  -- one that makes the version
+  pub create_plays : (d : Coordinator) → decision stage s from call reply ≡ Makes d → SameCall s.c d
+      → ((later : World) → Shows stage n later (made stage (heard s reply rest) d) → Finishes stage n later) → Finishes stage n w
+  create_plays d is same then =
+      after_step (Makes d) is (λ head.
+      then (world_by stage w (1 + head.place) packet (carried_out stage.setting stage.me me_node known s.c (Makes d)))
+      (shows_next stage n w (world_by stage w (1 + head.place) packet (carried_out stage.setting stage.me me_node known s.c (Makes d))) s
+      (made stage (heard s reply rest) d) packet rest (phase_packets stage.setting stage.me d) shows head
+      (heard_move stage n w (world_by stage w (1 + head.place) packet (carried_out stage.setting stage.me me_node known s.c (Makes d))) s
+      (with_call me_node known me_node.busy s.c.call.seq (Some d)) d known (1 + head.place) rest
+      (phase_packets stage.setting stage.me d) shows refl refl refl
+      (record {
+        boot = refl;
+        call = put_same me_node.calls s.c.call.seq (Some d);
+        known_is = refl;
+        learnt = refl;
+        accepted = refl;
+        replicas = refl;
+        live = refl;
+      })
+      (record {
+        operation = record shows.operation { version = Some d.stamp; made = true; base = d.base };
+        is = ap (λ (k : ℕ). put w.operations k (with_made d.stamp d.base (w.operations k)) n) (number_is w refl refl)
+            ∙ put_same w.operations n (with_made d.stamp d.base (w.operations n))
+            ∙ ap (λ (z : Option Operation). with_made d.stamp d.base z) shows.is;
+        brick = refl;
+        boot = refl;
+        seq = refl;
+      })
+      (record {
+        numbers = refl;
+        reached = refl;
+        packets = refl;
+        own = phase_own stage w n d.call (request_of stage.setting.code d) 0 d.group.members (next_number stage n w s d shows same);
+      })
+      same)))
+
+  -- one that ends the operation with an answer
+  pub answer_plays : (answer : Answer) (seen stored : Option Stamp) → decision stage s from call reply ≡ Ends answer seen stored
+      → is_answer answer ≡ true → Finishes stage n w
+  answer_plays answer seen stored is well =
+      after_step (Ends answer seen stored) is (λ head. ended (1 + head.place) seen)
+    where
+      -- the operations once the version was seen
+      seen_at : ℕ → Stamp → ℕ → Option Operation
+      seen_at k v = put w.operations k (with_seen v (w.operations k))
+
+      -- the brick after the end
+      node : Node
+      node = with_call me_node known (me_node.busy - 1) s.c.call.seq None
+
+      -- the world after the end
+      ended : (number : ℕ) (seen : Option Stamp)
+          → Finishes stage n (world_by stage w number packet (carried_out stage.setting stage.me me_node known s.c (Ends answer seen stored)))
+      ended number None =
+          closes_at stage n w (world_by stage w number packet (carried_out stage.setting stage.me me_node known s.c (Ends answer None stored))) s node
+          (record shows.operation { answered = is_answer answer }) shows
+          (ap (λ (k : ℕ). put w.operations k (with_answer answer (w.operations k)) n) (number_is w refl refl)
+          ∙ put_same w.operations n (with_answer answer (w.operations n)) ∙ ap (λ (z : Option Operation). with_answer answer z) shows.is)
+          refl refl refl refl refl refl (put_same me_node.calls s.c.call.seq None) well
+      ended number (Some v) =
+          closes_at stage n w (world_by stage w number packet (carried_out stage.setting stage.me me_node known s.c (Ends answer (Some v) stored))) s node
+          (record shows.operation { version = Some v; answered = is_answer answer }) shows
+          (ap (λ (k : ℕ). put (seen_at k v) k (with_answer answer (seen_at k v k)) n) (number_is w refl refl)
+          ∙ put_same (seen_at n v) n (with_answer answer (seen_at n v n))
+          ∙ ap (λ (z : Option Operation). with_answer answer z) (put_same w.operations n (with_seen v (w.operations n)))
+          ∙ ap (λ (z : Option Operation). with_answer answer (with_seen v z)) shows.is)
+          refl refl refl refl refl refl (put_same me_node.calls s.c.call.seq None) well

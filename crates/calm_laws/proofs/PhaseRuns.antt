@@ -1,0 +1,163 @@
+-- A phase alone: what is left of earlier phases is left out, each member is asked, and the first quorum of them decides.
+use Rattle.std.proofs.Common.{List, [], ap, ap₂, arith, false, length, map, refl, subst, sym, true, zero-add, ℕ, ◌++◌, ◌+◌, ◌<◌, ◌∙◌, ◌∷◌, ◌≡◌, ◌≤◌}
+use Rattle.std.specs.Prelude.{◌-◌, ◌^◌}
+use Rattle.calm_laws.proofs.Asking.{Holds, IsReply, Keeps, Replies, asks_pass, each_then, holds_on, reacted_all, told_all, told_exactly, told_replies}
+use Rattle.calm_laws.proofs.Counts.{AreApart, AreNew, Carries, counted_of, decides, new_from, replies_pass, told}
+use Rattle.calm_laws.proofs.Hearing.{IsStale, known_through, stale_pass}
+use Rattle.calm_laws.proofs.Queues.{waiting}
+use Rattle.calm_laws.proofs.Scenes.{Closes, Each, Fits, IsSeated, Part, SameCall, Scene, Seated, Stage, asking, heard, sends}
+use Rattle.messages.specs.declared.packets.Packet.{Packet}
+use Rattle.messages.specs.declared.replies.Reply.{Reply}
+use Rattle.protocol.specs.Coordinators.{Coordinator, answers_phase, has_seat}
+use Rattle.protocol.specs.declared.phases.Counted.{Counted}
+use Rattle.quorum.specs.Quorums.{quorum_of}
+
+-- A phase begins at these seats, a quorum: nothing counts yet; what is asked can be stored; and of the part of each seat something holds that each
+-- request keeps, and that tells what is replied, which answers the phase.
+pub record HasBegun (stage : Stage) (s : Scene) (Inv : ℕ → Part → Type 0) (f : Seated → Reply) (xs : List Seated) : Type 0 where
+  pub group : s.c.group ≡ stage.group
+  pub counted : s.c.counted ≡ []
+  pub early : s.c.call.phase < 2 ^ 32 - 1
+  pub fits : (x : Seated) → IsSeated stage x → Fits stage s.c x
+  pub seated : Each (IsSeated stage) xs
+  pub apart : AreApart xs
+  pub some : 1 ≤ length xs
+  pub quorum : length xs ≡ quorum_of stage.group
+  pub keeps : Keeps stage s.c Inv
+  pub replies : Replies stage s.c Inv f
+  pub holds : Holds Inv s.parts xs
+  pub answers : Each (λ x. answers_phase stage.setting.layout.block s.c.stamp x.seat s.c.phase (f x) ≡ true) xs
+
+-- the time that the coordinator's brick knows once the quorum has replied
+abbrev pub known_then : Stage → Scene → (Seated → Reply) → List Seated → List Packet → ℕ
+known_then stage s f xs stale = known_through (told stage s.c.call f xs) (known_through stale s.known)
+
+-- nothing counts yet
+none_new : (xs : List Seated) → Each (λ x. has_seat x.seat [] ≡ false) xs
+none_new [] = tt
+none_new (x ∷ xs) = (refl, none_new xs)
+
+-- where these seats' replies are heard
+abbrev pub Heard : Stage → Scene → (ℕ → Part → Type 0) → (Seated → Reply) → List Seated → List Packet → List Seated → Type 0
+Heard stage s Inv f xs stale others =
+    (before parts : ℕ → Part) → Holds Inv parts xs
+    → Carries stage (record s { known = known_then stage s f xs stale; parts = parts; queue = told_all stage s.c others before })
+    (decides stage s.c (known_then stage s f xs stale) (map (counted_of f) xs))
+
+module _ (stage : Stage) (s : Scene) (Inv : ℕ → Part → Type 0) (f : Seated → Reply) (xs : List Seated) (begins : HasBegun stage s Inv f xs)
+    (stale : List Packet) (others : List Seated) (heard : Heard stage s Inv f xs stale others) where
+  -- the parts once the quorum was asked, and once all were
+  abbrev asked_parts : ℕ → Part
+  asked_parts = reacted_all stage s.c xs s.parts
+
+  abbrev all_parts : ℕ → Part
+  all_parts = reacted_all stage s.c others asked_parts
+
+  -- the quorum's replies wait, and then those of the others
+  replies_wait : Closes stage
+      (record s { known = known_through stale s.known; parts = all_parts; queue = told stage s.c.call f xs ++ told_all stage s.c others asked_parts })
+  replies_wait =
+      replies_pass stage f xs
+      (record s { known = known_through stale s.known; parts = all_parts; queue = told stage s.c.call f xs ++ told_all stage s.c others asked_parts })
+      (told_all stage s.c others asked_parts) refl begins.early begins.group begins.seated begins.answers
+      (subst (λ (l : List Counted). AreNew f l xs) (sym begins.counted) (new_from f [] xs begins.apart (none_new xs)))
+      begins.some (ap (λ (l : List Counted). length l + length xs) begins.counted ∙ zero-add (length xs) ∙ begins.quorum)
+      (subst (λ (l : List Counted). Carries stage
+      (record s { known = known_then stage s f xs stale; parts = all_parts; queue = told_all stage s.c others asked_parts })
+      (decides stage s.c (known_then stage s f xs stale) (l ++ map (counted_of f) xs))) (sym begins.counted)
+      (heard asked_parts all_parts
+      (holds_on stage s.c Inv begins.keeps xs others asked_parts (holds_on stage s.c Inv begins.keeps xs xs s.parts begins.holds))))
+
+  -- the requests wait
+  requests_wait : Each (IsSeated stage) others
+      → Closes stage (record s { known = known_through stale s.known; queue = map (asking stage s.c) xs ++ map (asking stage s.c) others })
+  requests_wait seated =
+      asks_pass stage xs (record s { known = known_through stale s.known; queue = map (asking stage s.c) xs ++ map (asking stage s.c) others })
+      (map (asking stage s.c) others) refl begins.seated begins.fits
+      (asks_pass stage others
+      (record s { known = known_through stale s.known; parts = asked_parts; queue = map (asking stage s.c) others ++ told_all stage s.c xs s.parts })
+      (told_all stage s.c xs s.parts) refl seated begins.fits
+      (subst (λ (l : List Packet). Closes stage
+      (record s { known = known_through stale s.known; parts = all_parts; queue = l ++ told_all stage s.c others asked_parts }))
+      (sym (told_exactly stage s.c Inv f begins.keeps begins.replies xs s.parts begins.holds)) replies_wait))
+
+  -- the phase runs to its decision
+  pub phase_run : s.queue ≡ stale ++ (map (asking stage s.c) xs ++ map (asking stage s.c) others) → Each (IsStale stage s.c) stale
+      → Each (IsSeated stage) others → Closes stage s
+  phase_run waiting old seated =
+      stale_pass stage stale s (map (asking stage s.c) xs ++ map (asking stage s.c) others) waiting old (requests_wait seated)
+
+-- the members that hear the coordinator: the first quorum of them in the order of seats, and the rest
+pub record Cast (stage : Stage) : Type 0 where
+  pub xs : List Seated
+  pub rest : List Seated
+  pub seated : Each (IsSeated stage) xs
+  pub rest_seated : Each (IsSeated stage) rest
+  pub apart : AreApart xs
+  pub some : 1 ≤ length xs
+  pub quorum : length xs ≡ quorum_of stage.group
+  pub sends : (d : Coordinator) → d.group ≡ stage.group → sends stage d ≡ map (asking stage d) xs ++ map (asking stage d) rest
+
+-- A phase begins: nothing counts yet, and what waits are replies to earlier phases, and requests, first to the first quorum.
+pub record IsOpen (stage : Stage) (cast : Cast stage) (s : Scene) : Type 0 where
+  pub group : s.c.group ≡ stage.group
+  pub counted : s.c.counted ≡ []
+  pub stale : List Packet
+  pub old : Each (IsStale stage s.c) stale
+  pub others : List Seated
+  pub others_seated : Each (IsSeated stage) others
+  pub waiting : s.queue ≡ stale ++ (map (asking stage s.c) cast.xs ++ map (asking stage s.c) others)
+
+-- an open phase runs to its decision
+pub open_run : (stage : Stage) (cast : Cast stage) (s : Scene) (open_is : IsOpen stage cast s) (Inv : ℕ → Part → Type 0) (f : Seated → Reply)
+    → s.c.call.phase < 2 ^ 32 - 1 → ((x : Seated) → IsSeated stage x → Fits stage s.c x) → Keeps stage s.c Inv → Replies stage s.c Inv f
+    → Holds Inv s.parts cast.xs
+    → Each (λ x. answers_phase stage.setting.layout.block s.c.stamp x.seat s.c.phase (f x) ≡ true) cast.xs
+    → Heard stage s Inv f cast.xs open_is.stale open_is.others → Closes stage s
+open_run stage cast s open_is Inv f early fits keeps replies holds answers heard =
+    phase_run stage s Inv f cast.xs
+    (record {
+      group = open_is.group;
+      counted = open_is.counted;
+      early = early;
+      fits = fits;
+      seated = cast.seated;
+      apart = cast.apart;
+      some = cast.some;
+      quorum = cast.quorum;
+      keeps = keeps;
+      replies = replies;
+      holds = holds;
+      answers = answers;
+    })
+    open_is.stale open_is.others heard open_is.waiting open_is.old open_is.others_seated
+
+-- a coordinator begins the phase after another
+pub record IsAfter (c d : Coordinator) : Type 0 where
+  pub same : SameCall c d
+  pub later : d.call.phase ≡ c.call.phase + 1
+  pub counted : d.counted ≡ []
+
+-- replies to the phase before are stale
+pub stale_then : (stage : Stage) (c d : Coordinator) → IsAfter c d → (packets : List Packet) → Each (IsReply stage c.call) packets
+    → Each (IsStale stage d) packets
+stale_then stage c d after packets replies =
+    each_then (IsReply stage c.call) (IsStale stage d) packets
+    (λ packet is. (is.0, c.call, is.1, is.2, sym after.same.boot, sym after.same.seq, omega (arith, after.later))) replies
+
+-- the next phase begins
+pub next_open : (stage : Stage) (cast : Cast stage) (c d : Coordinator) (others : List Seated) (before : ℕ → Part) (s : Scene)
+    → c.group ≡ stage.group → IsAfter c d → s.c ≡ d → s.queue ≡ told_all stage c others before ++ sends stage d → IsOpen stage cast s
+next_open stage cast c d others before s group after is waiting =
+    subst (λ (z : Scene). IsOpen stage cast z) (sym scene_is) (record {
+      group = after.same.group ∙ group;
+      counted = after.counted;
+      stale = told_all stage c others before;
+      old = stale_then stage c d after (told_all stage c others before) (told_replies stage c others before);
+      others = cast.rest;
+      others_seated = cast.rest_seated;
+      waiting = ap (λ (q : List Packet). told_all stage c others before ++ q) (cast.sends d (after.same.group ∙ group));
+    })
+  where
+    scene_is : s ≡ record s { c = d; queue = told_all stage c others before ++ sends stage d }
+    scene_is = ap₂ (λ (e : Coordinator) (q : List Packet). record s { c = e; queue = q }) is waiting

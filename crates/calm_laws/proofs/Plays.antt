@@ -1,0 +1,162 @@
+-- What closes on the scene closes in the world: each step of the one is a delivery in the other.
+use Rattle.std.proofs.Common.{Bool, List, None, Option, Some, [], ap, cond, refl, subst, sym, true, ℕ, ⊎_elim, ◌++◌, ◌+◌, ◌∙◌, ◌∷◌, ◌≡◌, ◌≢◌}
+use Rattle.std.proofs.lemmas.Bool.{and_parts, cases_eq}
+use Rattle.std.specs.Prelude.{filter, is_some, nat_lt, ◌-◌}
+use Rattle.calm_laws.proofs.Queues.{IsHead, head_of}
+use Rattle.calm_laws.proofs.Scenes.{Each, Fits, IsSeated, Part, Scene, Seated, Stage, asked, asked_of, asking, part_after, reaction, replies_from, replying}
+use Rattle.calm_laws.proofs.Shows.{IsMove, IsPart, Shows, delivers_so, open_at_is, put_field, world_by}
+use Rattle.protocol_laws.proofs.Puts.{put_other}
+use Rattle.protocol_laws.proofs.Tables.{put_same}
+use Rattle.fab_base.specs.Layouts.{Group, seat_in}
+use Rattle.fab_base.specs.declared.identities.BrickId.{BrickId}
+use Rattle.messages.specs.declared.calls.Call.{Call}
+use Rattle.messages.specs.declared.packets.Packet.{Packet}
+use Rattle.messages.specs.declared.replies.Reply.{Reply}
+use Rattle.protocol.specs.Calms.{RunsAlone, goes_among, is_left, is_one_of, open_at, open_call, operation_of}
+use Rattle.protocol.specs.Coordinators.{Coordinator}
+use Rattle.protocol.specs.Nodes.{Node, NodeStep, fitting_seat, full_at, put, reacted, received, replica_at, reply_packets, requested, requested_at, requested_in, with_replica}
+use Rattle.protocol.specs.Replicas.{Reaction, Replica, handle}
+use Rattle.protocol.specs.Worlds.{Delivers, Event, Operation, World, happens, is_up}
+use Rattle.quorum.specs.Tallies.{fits}
+use Rattle.protocol.specs.Calms.{Next as Goes_on}
+
+-- The operation's deliveries come to their end, and it is answered.
+pub record Finishes (stage : Stage) (n : ℕ) (w : World) : Type 0 where
+  pub events : List Event
+  pub last : World
+  pub alone : RunsAlone stage.setting n stage.bricks w events last
+  pub closed : open_call last n ≡ None
+  pub operation : Operation
+  pub is : last.operations n ≡ Some operation
+  pub answered : operation.answered ≡ true
+
+-- the next message is delivered, where the world after that finishes
+pub finishes_next : (stage : Stage) (n : ℕ) (w : World) (s : Scene) (packet : Packet) (rest : List Packet) → Shows stage n w s
+    → (head : IsHead (is_left w n stage.bricks) 1 w.packets packet rest)
+    → Finishes stage n (happens stage.setting w (Delivers (1 + head.place))) → Finishes stage n w
+finishes_next stage n w s packet rest shows head then =
+    let up_me = (and_parts (nat_lt stage.me.0 stage.setting.layout.bricks) (w.up stage.me.0) shows.up).1 in
+    let open_is : open_call w n ≡ Some s.c
+    = ap (λ (z : Option Operation). open_at w z) shows.is
+    ∙ open_at_is w shows.operation stage.me s.c.call.boot s.c.call.seq shows.brick shows.boot shows.seq up_me shows.node_boot ∙ shows.call in
+    record {
+      events = Delivers (1 + head.place) ∷ then.events;
+      last = then.last;
+      alone = Goes_on w then.last (1 + head.place) then.events (ap (λ (z : Option Coordinator). is_some z) open_is) head.first then.alone;
+      closed = then.closed;
+      operation = then.operation;
+      is = then.is;
+      answered = then.answered;
+    }
+
+-- the same, by the step that the delivery makes
+pub finishes_by : (stage : Stage) (n : ℕ) (w : World) (s : Scene) (packet : Packet) (rest : List Packet) → (shows : Shows stage n w s)
+    → (queue : s.queue ≡ packet ∷ rest) → is_up stage.setting.layout w packet.to ≡ true
+    → (step : NodeStep) → received stage.setting packet.to (w.clocks packet.to.0) (w.nodes packet.to.0) packet ≡ step
+    → ((head : IsHead (is_left w n stage.bricks) 1 w.packets packet rest) → Finishes stage n (world_by stage w (1 + head.place) packet step))
+    → Finishes stage n w
+finishes_by stage n w s packet rest shows queue up step step_is then =
+    let head = head_of (is_left w n stage.bricks) 1 w.packets packet rest (shows.queue ∙ queue) in
+    finishes_next stage n w s packet rest shows head
+    (subst (λ (z : World). Finishes stage n z)
+    (sym (delivers_so stage w head.place packet head.stands up
+    ∙ ap (λ (z : NodeStep). world_by stage w (1 + head.place) packet z) step_is))
+    (then head))
+
+-- a member handles what it is asked
+pub asked_step : (stage : Stage) (n : ℕ) (w : World) (s : Scene) (x : Seated) → Shows stage n w s → IsSeated stage x → Fits stage s.c x
+    → received stage.setting x.brick (w.clocks x.brick.0) (w.nodes x.brick.0) (asking stage s.c x)
+    ≡ reacted x.brick stage.me (w.nodes x.brick.0) s.c.call (reaction stage s.c (s.parts x.brick.0) x)
+unfolding received requested
+asked_step stage n w s x shows seated fits =
+    let member = shows.members x.brick seated.1 in
+    let part = shows.parts x.brick seated.1 in
+    ap (λ (z : Option Group). requested_in stage.setting x.brick stage.me (w.nodes x.brick.0) s.c.call (asked_of stage s.c x) z) member.group
+    ∙ ap (λ (b : Bool). requested_at stage.setting stage.group.m x.brick stage.me (w.nodes x.brick.0) s.c.call (asked_of stage s.c x)
+    (cond b (fitting_seat stage.setting.layout.block stage.group.m (asked_of stage s.c x) (seat_in stage.group.members x.brick.0)) None)) member.served
+    ∙ ap (λ (z : Option ℕ). requested_at stage.setting stage.group.m x.brick stage.me (w.nodes x.brick.0) s.c.call (asked_of stage s.c x)
+    (fitting_seat stage.setting.layout.block stage.group.m (asked_of stage s.c x) z)) seated.0
+    ∙ ap (λ (b : Bool). requested_at stage.setting stage.group.m x.brick stage.me (w.nodes x.brick.0) s.c.call (asked_of stage s.c x)
+    (cond b (Some x.seat) None)) fits
+    ∙ ap (λ (l : ℕ). reacted x.brick stage.me (w.nodes x.brick.0) s.c.call (handle stage.setting.code stage.group.m
+    (full_at stage.setting.layout.records l) x.seat (replica_at (w.nodes x.brick.0) s.c.call) (asked_of stage s.c x))) part.live
+    ∙ ap (λ (r : Replica). reacted x.brick stage.me (w.nodes x.brick.0) s.c.call (handle stage.setting.code stage.group.m
+    (full_at stage.setting.layout.records (s.parts x.brick.0).live) x.seat r (asked_of stage s.c x))) part.replica
+
+-- the part that changed
+part_put : (node : Node) (call : Call) (r : Reaction) → replica_at (with_replica node call r) call ≡ r.replica
+part_put node call r =
+    ap (λ (f : ℕ → ℕ → Replica). f call.view.0 call.stripe.0)
+    (put_same node.replicas call.group.0
+    (put (node.replicas call.group.0) call.view.0 (put (node.replicas call.group.0 call.view.0) call.stripe.0 r.replica)))
+    ∙ ap (λ (f : ℕ → Replica). f call.stripe.0)
+    (put_same (node.replicas call.group.0) call.view.0 (put (node.replicas call.group.0 call.view.0) call.stripe.0 r.replica))
+    ∙ put_same (node.replicas call.group.0 call.view.0) call.stripe.0 r.replica
+
+-- a reply of one of the bricks goes among them
+reply_goes : (stage : Stage) (brick : BrickId) (call : Call) (z : Option Reply) → is_one_of stage.bricks brick ≡ true
+    → filter (goes_among stage.bricks) (reply_packets brick stage.me call z) ≡ reply_packets brick stage.me call z
+reply_goes stage brick call None one = refl
+reply_goes stage brick call (Some reply) one =
+    ap (λ (b : Bool). cond b (replying stage brick call reply ∷ []) []) one
+
+-- and is the operation's
+reply_own : (stage : Stage) (w : World) (n : ℕ) (brick : BrickId) (call : Call) (z : Option Reply) → w.numbers stage.me.0 call.boot call.seq ≡ n
+    → Each (λ packet. operation_of w packet ≡ n) (reply_packets brick stage.me call z)
+reply_own stage w n brick call None number = tt
+reply_own stage w n brick call (Some reply) number = (number, tt)
+
+-- a request is delivered
+pub asked_move : (stage : Stage) (n : ℕ) (w : World) (s : Scene) (x : Seated) (rest : List Packet) (number : ℕ) → (shows : Shows stage n w s)
+    → IsSeated stage x
+    → IsMove stage n w
+    (world_by stage w number (asking stage s.c x)
+    (reacted x.brick stage.me (w.nodes x.brick.0) s.c.call (reaction stage s.c (s.parts x.brick.0) x)))
+    s (asked stage s x rest) shows.operation number rest (replies_from stage s.c (s.parts x.brick.0) x)
+asked_move stage n w s x rest number shows seated = record {
+  operation_later = shows.operation;
+  is = shows.is;
+  brick = refl;
+  boot = refl;
+  seq = refl;
+  up = refl;
+  clocks = refl;
+  node_boot = put_field (λ (z : Node). z.boot) w.nodes x.brick.0 node refl stage.me.0;
+  call = put_field (λ (z : Node). z.calls s.c.call.seq) w.nodes x.brick.0 node refl stage.me.0 ∙ shows.call;
+  known = put_field (λ (z : Node). z.known) w.nodes x.brick.0 node refl stage.me.0 ∙ shows.known;
+  learnt = put_field (λ (z : Node). z.learnt) w.nodes x.brick.0 node refl;
+  accepted = put_field (λ (z : Node). z.accepted) w.nodes x.brick.0 node refl;
+  parts = λ brick one. ⊎_elim (here brick) (elsewhere brick one) (cases_eq brick.0 x.brick.0);
+  delivery = record {
+    numbers = refl;
+    reached = refl;
+    packets = refl;
+    own = reply_own stage w n x.brick s.c.call change.reply shows.number;
+  };
+  queue = ap (λ (l : List Packet). rest ++ l) (sym (reply_goes stage x.brick s.c.call change.reply seated.1));
+  same = record { group = refl; boot = refl; seq = refl; of_group = refl; view = refl; stripe = refl };
+}
+  where
+    change : Reaction
+    change = reaction stage s.c (s.parts x.brick.0) x
+
+    node : Node
+    node = with_replica (w.nodes x.brick.0) s.c.call change
+
+    part : Part
+    part = part_after stage s.c (s.parts x.brick.0) x
+
+    here : (brick : BrickId) → brick.0 ≡ x.brick.0 → IsPart (put w.nodes x.brick.0 node brick.0) s.c.call (put s.parts x.brick.0 part brick.0)
+    here brick same =
+        subst (λ (i : ℕ). IsPart (put w.nodes x.brick.0 node i) s.c.call (put s.parts x.brick.0 part i)) (sym same)
+        (subst (λ (z : Node). IsPart z s.c.call (put s.parts x.brick.0 part x.brick.0)) (sym (put_same w.nodes x.brick.0 node))
+        (subst (λ (p : Part). IsPart node s.c.call p) (sym (put_same s.parts x.brick.0 part)) (record {
+          replica = part_put (w.nodes x.brick.0) s.c.call change;
+          live = ap (λ (l : ℕ). l + change.adds - change.drops) (shows.parts x.brick seated.1).live;
+        })))
+
+    elsewhere : (brick : BrickId) → is_one_of stage.bricks brick ≡ true → brick.0 ≢ x.brick.0
+        → IsPart (put w.nodes x.brick.0 node brick.0) s.c.call (put s.parts x.brick.0 part brick.0)
+    elsewhere brick one other =
+        subst (λ (z : Node). IsPart z s.c.call (put s.parts x.brick.0 part brick.0)) (sym (put_other w.nodes x.brick.0 node brick.0 other))
+        (subst (λ (p : Part). IsPart (w.nodes brick.0) s.c.call p) (sym (put_other s.parts x.brick.0 part brick.0 other)) (shows.parts brick one))

@@ -1,0 +1,168 @@
+-- An operation alone, seen from its coordinator: a small machine of the coordinator, what its members keep of its stripe, and the queue of its
+-- messages. What it does, the disk does with the operation's messages alone.
+use Rattle.std.proofs.Common.{List, Option, Some, [], refl, subst, sym, true, ℕ, ◌++◌, ◌+◌, ◌∷◌, ◌≡◌}
+use Rattle.std.specs.Prelude.{filter, max, ◌-◌}
+use Rattle.fab_base.specs.Layouts.{Group, seat_in}
+use Rattle.fab_base.specs.declared.answers.Answer.{Answer}
+use Rattle.fab_base.specs.declared.identities.BrickId.{BrickId}
+use Rattle.fab_base.specs.declared.stamps.Stamp.{Stamp}
+use Rattle.messages.specs.declared.calls.Call.{Call}
+use Rattle.messages.specs.declared.packets.Message.{Message}
+use Rattle.messages.specs.declared.packets.Packet.{Packet}
+use Rattle.messages.specs.declared.replies.Reply.{Reply}
+use Rattle.messages.specs.declared.requests.Request.{Request}
+use Rattle.protocol.specs.Calms.{goes_among, is_one_of}
+use Rattle.protocol.specs.Coordinators.{Coordinator, Ends, Ignores, Makes, Next, Sends, Waits, on_reply, request_of}
+use Rattle.protocol.specs.Nodes.{fits_block, fresh_stamp, full_at, known_after, phase_packets, put, reply_packets}
+use Rattle.protocol.specs.Replicas.{Reaction, Replica, handle}
+use Rattle.protocol.specs.Settings.{Setting}
+use Rattle.protocol.specs.Worlds.{is_answer}
+
+-- what stays as it is meanwhile: the setting, the bricks that hear one another, the coordinator's brick and its clock, and the group
+pub record Stage : Type 0 where
+  pub setting : Setting
+  pub bricks : List BrickId
+  pub me : BrickId
+  pub now : ℕ
+  pub group : Group
+
+-- what a brick keeps of the stripe, and how many live records it keeps in all
+pub record Part : Type 0 where
+  pub replica : Replica
+  pub live : ℕ
+
+-- the open operation at its coordinator, the greatest time that its brick knows, the parts by brick, and the messages that wait to be delivered
+pub record Scene : Type 0 where
+  pub c : Coordinator
+  pub known : ℕ
+  pub parts : ℕ → Part
+  pub queue : List Packet
+
+-- a member at its seat
+pub record Seated : Type 0 where
+  pub seat : ℕ
+  pub brick : BrickId
+
+-- a member that hears the coordinator, at its seat
+abbrev pub IsSeated : Stage → Seated → Type 0
+IsSeated stage x = (seat_in stage.group.members x.brick.0 ≡ Some x.seat) × (is_one_of stage.bricks x.brick ≡ true)
+
+-- what holds of each
+abbrev pub Each : {A : Type 0} → (A → Type 0) → List A → Type 0
+Each P [] = Unit {0}
+Each P (x ∷ xs) = P x × Each P xs
+
+-- what a coordinator asks of a member
+abbrev pub asked_of : Stage → Coordinator → Seated → Request
+asked_of stage c x = request_of stage.setting.code c x.seat
+
+abbrev pub asking : Stage → Coordinator → Seated → Packet
+asking stage c x = record { from = stage.me; to = x.brick; message = Message.Request c.call (asked_of stage c x) }
+
+-- a member's reply to the coordinator
+abbrev pub replying : Stage → BrickId → Call → Reply → Packet
+replying stage from call reply = record { from = from; to = stage.me; message = Message.Reply call reply }
+
+-- what a member does with what it is asked
+abbrev pub reaction : Stage → Coordinator → Part → Seated → Reaction
+reaction stage c part x =
+    handle stage.setting.code stage.group.m (full_at stage.setting.layout.records part.live) x.seat part.replica (asked_of stage c x)
+
+-- a part after that
+abbrev pub part_after : Stage → Coordinator → Part → Seated → Part
+part_after stage c part x =
+    record { replica = (reaction stage c part x).replica; live = part.live + (reaction stage c part x).adds - (reaction stage c part x).drops }
+
+-- and what it replies
+abbrev pub replies_from : Stage → Coordinator → Part → Seated → List Packet
+replies_from stage c part x = reply_packets x.brick stage.me c.call (reaction stage c part x).reply
+
+-- what is asked can be stored
+abbrev pub Fits : Stage → Coordinator → Seated → Type 0
+Fits stage c x = fits_block stage.setting.layout.block stage.group.m x.seat (asked_of stage c x) ≡ true
+
+-- the scene once a member was asked
+abbrev pub asked : Stage → Scene → Seated → List Packet → Scene
+asked stage s x rest =
+    record s {
+      parts = put s.parts x.brick.0 (part_after stage s.c (s.parts x.brick.0) x);
+      queue = rest ++ replies_from stage s.c (s.parts x.brick.0) x;
+    }
+
+-- the scene once a reply was heard
+abbrev pub heard : Scene → Reply → List Packet → Scene
+heard s reply rest = record s { known = known_after s.known reply; queue = rest }
+
+-- what the coordinator does with a reply
+abbrev pub decision : Stage → Scene → BrickId → Call → Reply → Next
+decision stage s from call reply =
+    on_reply stage.setting.layout.block stage.setting.code
+    (fresh_stamp stage.me s.c.call.view stage.now s.c.call.boot (known_after s.known reply)) s.c from call reply
+
+-- the messages of a phase that are delivered
+abbrev pub sends : Stage → Coordinator → List Packet
+sends stage d = filter (goes_among stage.bricks) (phase_packets stage.setting stage.me d)
+
+-- the coordinators are of one operation
+pub record SameCall (c d : Coordinator) : Type 0 where
+  pub group : d.group ≡ c.group
+  pub boot : d.call.boot ≡ c.call.boot
+  pub seq : d.call.seq ≡ c.call.seq
+  pub of_group : d.call.group ≡ c.call.group
+  pub view : d.call.view ≡ c.call.view
+  pub stripe : d.call.stripe ≡ c.call.stripe
+
+-- the scene as the coordinator goes on, begins an ordered phase, or makes its version
+abbrev pub waits : Scene → Coordinator → Scene
+waits s d = record s { c = d }
+
+abbrev pub sent : Stage → Scene → Coordinator → Scene
+sent stage s d = record s { c = d; known = max s.known d.stamp.time; queue = s.queue ++ sends stage d }
+
+abbrev pub made : Stage → Scene → Coordinator → Scene
+made stage s d = record s { c = d; queue = s.queue ++ sends stage d }
+
+-- the next message is this reply
+pub record IsNext (stage : Stage) (s : Scene) (from : BrickId) (call : Call) (reply : Reply) (rest : List Packet) : Type 0 where
+  pub queue : s.queue ≡ replying stage from call reply ∷ rest
+  pub seq : (call.boot ≡ s.c.call.boot) × (call.seq ≡ s.c.call.seq)
+
+-- From a scene the operation comes to an answer that is no abort: its messages are delivered in order.
+pub data Closes (stage : Stage) : Scene → Type 0 where
+  Asks : (s : Scene) (x : Seated) (rest : List Packet) → s.queue ≡ asking stage s.c x ∷ rest → IsSeated stage x → Fits stage s.c x
+      → Closes stage (asked stage s x rest) → Closes stage s
+  Skips : (s : Scene) (from : BrickId) (call : Call) (reply : Reply) (rest : List Packet) → IsNext stage s from call reply rest
+      → decision stage s from call reply ≡ Ignores → Closes stage (heard s reply rest) → Closes stage s
+  Counts : (s : Scene) (from : BrickId) (call : Call) (reply : Reply) (rest : List Packet) (d : Coordinator) → IsNext stage s from call reply rest
+      → decision stage s from call reply ≡ Waits d → SameCall s.c d → Closes stage (waits (heard s reply rest) d) → Closes stage s
+  Begins : (s : Scene) (from : BrickId) (call : Call) (reply : Reply) (rest : List Packet) (d : Coordinator) → IsNext stage s from call reply rest
+      → decision stage s from call reply ≡ Sends d → SameCall s.c d → Closes stage (sent stage (heard s reply rest) d) → Closes stage s
+  Creates : (s : Scene) (from : BrickId) (call : Call) (reply : Reply) (rest : List Packet) (d : Coordinator) → IsNext stage s from call reply rest
+      → decision stage s from call reply ≡ Makes d → SameCall s.c d → Closes stage (made stage (heard s reply rest) d) → Closes stage s
+  Answers : (s : Scene) (from : BrickId) (call : Call) (reply : Reply) (rest : List Packet) (answer : Answer) (seen stored : Option Stamp)
+      → IsNext stage s from call reply rest → decision stage s from call reply ≡ Ends answer seen stored → is_answer answer ≡ true
+      → Closes stage s
+
+-- what is left to show, where a coordinator decided this
+abbrev pub Outcome : Stage → Scene → Next → Type 0
+Outcome stage s Ignores = Closes stage s
+Outcome stage s (Waits d) = SameCall s.c d × Closes stage (waits s d)
+Outcome stage s (Sends d) = SameCall s.c d × Closes stage (sent stage s d)
+Outcome stage s (Makes d) = SameCall s.c d × Closes stage (made stage s d)
+Outcome stage s (Ends answer seen stored) = is_answer answer ≡ true
+
+-- a reply is heard, and what it decides is carried out
+pub hears : (stage : Stage) (s : Scene) (from : BrickId) (call : Call) (reply : Reply) (rest : List Packet) → IsNext stage s from call reply rest
+    → Outcome stage (heard s reply rest) (decision stage s from call reply) → Closes stage s
+hears stage s from call reply rest next outcome = go (decision stage s from call reply) refl outcome
+  where
+    go : (z : Next) → decision stage s from call reply ≡ z → Outcome stage (heard s reply rest) z → Closes stage s
+    go Ignores is then = Skips s from call reply rest next is then
+    go (Waits d) is then = Counts s from call reply rest d next is then.0 then.1
+    go (Sends d) is then = Begins s from call reply rest d next is then.0 then.1
+    go (Makes d) is then = Creates s from call reply rest d next is then.0 then.1
+    go (Ends answer seen stored) is then = Answers s from call reply rest answer seen stored next is then
+
+-- a scene with another queue, which is the same
+pub with_queue : (stage : Stage) (s : Scene) (queue : List Packet) → s.queue ≡ queue → Closes stage (record s { queue = queue }) → Closes stage s
+with_queue stage s queue is closes = subst (λ (q : List Packet). Closes stage (record s { queue = q })) (sym is) closes

@@ -1,0 +1,20 @@
+//! The law of operations that run alone. The call does nothing: its contract is the law.
+
+ghost use Rattle.calm_laws.specs.Laws.{CalmOperationsEnd};
+
+/// An operation that runs alone comes to its end, and is answered data or that it is done, and not aborted: whatever had happened before, and
+/// whatever else is open.
+///
+/// It runs alone among some bricks where none of its messages was delivered before, and then those among these bricks are delivered one after
+/// another, in the order of sending, and nothing else happens. The bricks are distinct and up, they serve the view of the operation, a quorum
+/// of its members is among them, each has room for two live records more, and no time that they or its coordinator know or keep is 2^63 or
+/// later (`protocol/specs/Calms.antt`, `IsCalm`). This holds for every layout within the limits of a quorum whose bricks keep at most 2^20
+/// live records, and for every code that gives back what it encodes, in blocks of the layout's length.
+///
+/// Why: each phase is answered by the first quorum of the members among these bricks, and by the same in every phase. The first round of
+/// ordering may be refused, the second one is not: its stamp is above all that these members told. A recovery looks at ever lower versions,
+/// and finds enough blocks of one at the latest at the greatest of the lowest versions that these members keep, since a quorum has held that
+/// one (Frølund et al., "A Decentralized Algorithm for Erasure-Coded Virtual Disks", DSN 2004).
+pub fn calm_operations_end()
+    ensures { CalmOperationsEnd }
+{}
