@@ -5,8 +5,10 @@ use Rattle.std.specs.Bool.{Decides}
 use Rattle.std.specs.List.{IsDistinct, AllByRecursion, list_any}
 use Rattle.std.proofs.lemmas.Bool.{and_parts, eqb-true, eq-eqb}
 use Rattle.std.proofs.lemmas.Bool.Decides.{nat_tests}
+use Rattle.std.proofs.lemmas.Option.{same_Some}
 use Rattle.fab_base.specs.declared.identities.BrickId.{BrickId}
-use Rattle.fab_base.specs.Layouts.{Layout}
+use Rattle.fab_base.specs.declared.asks.Ask.{Ask}
+use Rattle.fab_base.specs.Layouts.{Layout, group_of}
 use Rattle.fab_disk.specs.declared.mem_disk.MemDisk.{MemDisk}
 use Rattle.brick_state.specs.States.{live}
 use Rattle.node.specs.Running.{Running, state_of}
@@ -14,7 +16,7 @@ use Rattle.protocol.specs.Calms.{IsEarly, early, open_at, open_call}
 use Rattle.protocol.specs.Nodes.{Node}
 use Rattle.protocol.specs.Coordinators.{Coordinator}
 use Rattle.protocol.specs.Settings.{Setting}
-use Rattle.protocol.specs.Worlds.{World, Operation, is_brick, is_up}
+use Rattle.protocol.specs.Worlds.{World, Operation, is_brick, is_up, number_of}
 use Rattle.protocol_laws.proofs.Books.{Books, OperationBooks}
 use Rattle.world.specs.Ledgers.{Notes, NotesOrigin, origin_at}
 use Rattle.world.specs.declared.ledgers.Ledger.{Ledger}
@@ -202,3 +204,45 @@ up_of layout w brick up = (and_parts (is_brick layout brick) (w.up brick.0) up).
 pub running_boot : (layout : Layout) (me : BrickId) (state : Node) (node : Running MemDisk) → IsRunning layout me state node
     → state.boot ≡ (state_of node).boot
 running_boot layout me state node is = ap (λ (x : Node). x.boot) (sym is.state_is)
+
+-- an open operation: what it asks is what its coordinator was asked, of the group that the coordinator knows
+pub record IsOpenAt (setting : Setting) (w : World) (n : ℕ) (c : Coordinator) : Type 0 where
+  pub operation : Operation
+  pub is : w.operations n ≡ Some operation
+  pub call : (w.nodes operation.brick.0).calls operation.seq ≡ Some c
+  pub up : w.up operation.brick.0 ≡ true
+  pub ask : c.ask ≡ operation.ask
+  pub group_is : group_of setting.layout operation.ask.group.0 ≡ Some c.group
+  pub view : c.call.view.0 ≡ 1
+  pub group : c.call.group ≡ c.ask.group
+  pub numbers : (1 ≤ n) × (n ≤ w.begun)
+
+pub open_parts : (setting : Setting) (w : World) (n : ℕ) (c : Coordinator) → Books setting w → open_call w n ≡ Some c → IsOpenAt setting w n c
+open_parts setting w n c books is = by_operation (w.operations n) refl is
+  where
+    by_operation : (found : Option Operation) → w.operations n ≡ found → open_at w found ≡ Some c → IsOpenAt setting w n c
+    by_operation None none e = absurd (let never : None ≡ Some c = e in cc)
+    by_operation (Some o) at e = by_up (w.up o.brick.0) refl (nat_eq (w.nodes o.brick.0).boot o.boot) refl e
+      where
+        by_up : (x : Bool) → w.up o.brick.0 ≡ x → (y : Bool) → nat_eq (w.nodes o.brick.0).boot o.boot ≡ y
+            → cond (x && y) ((w.nodes o.brick.0).calls o.seq) None ≡ Some c → IsOpenAt setting w n c
+        by_up true up true boot call =
+            let its = books.operations n o at in
+            let own = books.calls o.brick.0 o.seq c call in
+            let same_boot : (w.nodes o.brick.0).boot ≡ o.boot = eqb-true (w.nodes o.brick.0).boot o.boot boot in
+            let number : number_of w o.brick.0 o.seq ≡ n = ap (λ (b : ℕ). w.numbers o.brick.0 b o.seq) same_boot ∙ its.number in
+            let same : own.operation ≡ o = same_Some own.operation o (sym own.operation_is ∙ ap w.operations number ∙ at) in
+            let ask : c.ask ≡ o.ask = own.ask ∙ ap (λ (x : Operation). x.ask) same in
+            record {
+              operation = o;
+              is = at;
+              call = call;
+              up = up;
+              ask = ask;
+              group_is = ap (λ (a : Ask). group_of setting.layout a.group.0) (sym ask) ∙ own.group_is;
+              view = own.call_view;
+              group = own.call_group;
+              numbers = (its.from_one, its.begun);
+            }
+        by_up true up false boot e' = absurd (let never : None ≡ Some c = e' in cc)
+        by_up false down y boot e' = absurd (let never : None ≡ Some c = e' in cc)

@@ -177,7 +177,11 @@ impl Simulation {
         if operation == 0 {
             return None;
         }
-        let kept = self.history.operations.get((operation - 1) as usize)?;
+        let place = (operation - 1) as usize;
+        if place >= self.history.operations.len() {
+            return None;
+        }
+        let kept = self.history.operations[place];
         layout.group(kept.group)
     }
 }
