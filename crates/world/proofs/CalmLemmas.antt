@@ -5,17 +5,23 @@ use Rattle.std.specs.Bool.{Decides}
 use Rattle.std.specs.List.{IsDistinct, AllByRecursion, list_any}
 use Rattle.std.proofs.lemmas.Bool.{and_parts, eqb-true, eq-eqb}
 use Rattle.std.proofs.lemmas.Bool.Decides.{nat_tests}
+use Rattle.std.proofs.lemmas.Option.{same_Some, slice_get-map}
 use Rattle.fab_base.specs.declared.identities.BrickId.{BrickId}
-use Rattle.fab_base.specs.Layouts.{Layout}
+use Rattle.fab_base.specs.declared.asks.Ask.{Ask}
+use Rattle.fab_base.specs.Layouts.{Layout, group_of, seat_in}
 use Rattle.fab_disk.specs.declared.mem_disk.MemDisk.{MemDisk}
 use Rattle.brick_state.specs.States.{live}
 use Rattle.node.specs.Running.{Running, state_of}
-use Rattle.protocol.specs.Calms.{IsEarly, early, open_at, open_call}
+use Rattle.protocol.specs.Calms.{IsCalm, IsReady, IsEarly, IsUntouched, early, open_at, open_call}
+use Rattle.stripe_code.specs.Codes.{coding}
+use Rattle.quorum.specs.Quorums.{quorum_of}
+use Rattle.std.specs.Option.{option_map}
 use Rattle.protocol.specs.Nodes.{Node}
 use Rattle.protocol.specs.Coordinators.{Coordinator}
 use Rattle.protocol.specs.Settings.{Setting}
-use Rattle.protocol.specs.Worlds.{World, Operation, is_brick, is_up}
+use Rattle.protocol.specs.Worlds.{World, Operation, is_brick, is_up, number_of}
 use Rattle.protocol_laws.proofs.Books.{Books, OperationBooks}
+use Rattle.protocol_laws.proofs.FirstViews.{view_first}
 use Rattle.world.specs.Ledgers.{Notes, NotesOrigin, origin_at}
 use Rattle.world.specs.declared.ledgers.Ledger.{Ledger}
 use Rattle.world.specs.declared.ledgers.Origin.{Origin}
@@ -202,3 +208,146 @@ up_of layout w brick up = (and_parts (is_brick layout brick) (w.up brick.0) up).
 pub running_boot : (layout : Layout) (me : BrickId) (state : Node) (node : Running MemDisk) → IsRunning layout me state node
     → state.boot ≡ (state_of node).boot
 running_boot layout me state node is = ap (λ (x : Node). x.boot) (sym is.state_is)
+
+-- an open operation: what it asks is what its coordinator was asked, of the group that the coordinator knows
+pub record IsOpenAt (setting : Setting) (w : World) (n : ℕ) (c : Coordinator) : Type 0 where
+  pub operation : Operation
+  pub is : w.operations n ≡ Some operation
+  pub call : (w.nodes operation.brick.0).calls operation.seq ≡ Some c
+  pub up : w.up operation.brick.0 ≡ true
+  pub ask : c.ask ≡ operation.ask
+  pub group_is : group_of setting.layout operation.ask.group.0 ≡ Some c.group
+  pub view : c.call.view.0 ≡ 1
+  pub group : c.call.group ≡ c.ask.group
+  pub numbers : (1 ≤ n) × (n ≤ w.begun)
+
+pub open_parts : (setting : Setting) (w : World) (n : ℕ) (c : Coordinator) → Books setting w → open_call w n ≡ Some c → IsOpenAt setting w n c
+open_parts setting w n c books is = by_operation (w.operations n) refl is
+  where
+    by_operation : (found : Option Operation) → w.operations n ≡ found → open_at w found ≡ Some c → IsOpenAt setting w n c
+    by_operation None none e = absurd (let never : None ≡ Some c = e in cc)
+    by_operation (Some o) at e = by_up (w.up o.brick.0) refl (nat_eq (w.nodes o.brick.0).boot o.boot) refl e
+      where
+        by_up : (x : Bool) → w.up o.brick.0 ≡ x → (y : Bool) → nat_eq (w.nodes o.brick.0).boot o.boot ≡ y
+            → cond (x && y) ((w.nodes o.brick.0).calls o.seq) None ≡ Some c → IsOpenAt setting w n c
+        by_up true up true boot call =
+            let its = books.operations n o at in
+            let own = books.calls o.brick.0 o.seq c call in
+            let same_boot : (w.nodes o.brick.0).boot ≡ o.boot = eqb-true (w.nodes o.brick.0).boot o.boot boot in
+            let number : number_of w o.brick.0 o.seq ≡ n = ap (λ (b : ℕ). w.numbers o.brick.0 b o.seq) same_boot ∙ its.number in
+            let same : own.operation ≡ o = same_Some own.operation o (sym own.operation_is ∙ ap w.operations number ∙ at) in
+            let ask : c.ask ≡ o.ask = own.ask ∙ ap (λ (x : Operation). x.ask) same in
+            record {
+              operation = o;
+              is = at;
+              call = call;
+              up = up;
+              ask = ask;
+              group_is = ap (λ (a : Ask). group_of setting.layout a.group.0) (sym ask) ∙ own.group_is;
+              view = own.call_view;
+              group = own.call_group;
+              numbers = (its.from_one, its.begun);
+            }
+        by_up true up false boot e' = absurd (let never : None ≡ Some c = e' in cc)
+        by_up false down y boot e' = absurd (let never : None ≡ Some c = e' in cc)
+
+-- what decides whether an operation may run alone among the bricks of these numbers
+pub record CalmParts (layout : Layout) (w : World) (n : ℕ) (numbers : List ℕ) (o : Operation) (c : Coordinator) : Type 0 where
+  pub distinct : IsDistinct nat_eq numbers
+  pub members : quorum_of c.group ≤ length (filter (λ number. list_any (λ member. nat_eq member.0 number) c.group.members) numbers)
+  pub in_time : IsInTime layout w o.brick.0
+  pub able : (k number : ℕ) → slice_get numbers k ≡ Some number → IsAble layout w number
+  pub untouched : IsUntouched w n
+
+-- the numbers of the bricks of numbers
+numbers_back : (numbers : List ℕ) → map (λ (brick : BrickId). brick.0) (map brick_of numbers) ≡ numbers
+numbers_back [] = refl
+numbers_back (n ∷ numbers) = ap (λ (l : List ℕ). n ∷ l) (numbers_back numbers)
+
+-- a brick has a seat where it is a member
+seated : (members : List BrickId) (n : ℕ) → is_some (seat_in members n) ≡ list_any (λ member. nat_eq member.0 n) members
+seated [] n = refl
+seated (member ∷ members) n = by_first (seated members n) (nat_eq member.0 n) refl
+  where
+    later : (found : Option ℕ) → is_some (option_map (λ seat. seat + 1) found) ≡ is_some found
+    later None = refl
+    later (Some seat) = refl
+
+    by_first : is_some (seat_in members n) ≡ list_any (λ one. nat_eq one.0 n) members → (x : Bool) → nat_eq member.0 n ≡ x
+        → is_some (cond x (Some 0) (option_map (λ seat. seat + 1) (seat_in members n))) ≡ x || list_any (λ one. nat_eq one.0 n) members
+    by_first more true is = refl
+    by_first more false is = later (seat_in members n) ∙ more
+
+counted_members : (members : List BrickId) (numbers : List ℕ)
+    → length (filter (λ (brick : BrickId). is_some (seat_in members brick.0)) (map brick_of numbers))
+    ≡ length (filter (λ number. list_any (λ member. nat_eq member.0 number) members) numbers)
+counted_members members [] = refl
+counted_members members (n ∷ numbers) = by_seat (counted_members members numbers) (is_some (seat_in members n)) (list_any (λ member. nat_eq member.0 n) members) (seated members n)
+  where
+    by_seat : length (filter (λ (brick : BrickId). is_some (seat_in members brick.0)) (map brick_of numbers))
+        ≡ length (filter (λ number. list_any (λ member. nat_eq member.0 number) members) numbers) → (x y : Bool) → x ≡ y
+        → length (cond x (brick_of n ∷ filter (λ (brick : BrickId). is_some (seat_in members brick.0)) (map brick_of numbers))
+        (filter (λ (brick : BrickId). is_some (seat_in members brick.0)) (map brick_of numbers)))
+        ≡ length (cond y (n ∷ filter (λ number. list_any (λ member. nat_eq member.0 number) members) numbers)
+        (filter (λ number. list_any (λ member. nat_eq member.0 number) members) numbers))
+    by_seat more true true same = ap suc more
+    by_seat more false false same = more
+    by_seat more true false same = absurd (let never : true ≡ false = same in cc)
+    by_seat more false true same = absurd (let never : false ≡ true = same in cc)
+
+-- the brick at a place, where there is its number
+brick_there : (numbers : List ℕ) (k : ℕ) (brick : BrickId) → slice_get (map brick_of numbers) k ≡ Some brick
+    → (number : ℕ) × (slice_get numbers k ≡ Some number) × (brick_of number ≡ brick)
+brick_there numbers k brick at = by_found (slice_get numbers k) refl (sym (slice_get-map brick_of numbers k) ∙ at)
+  where
+    by_found : (found : Option ℕ) → slice_get numbers k ≡ found → option_map brick_of found ≡ Some brick
+        → (number : ℕ) × (slice_get numbers k ≡ Some number) × (brick_of number ≡ brick)
+    by_found None is e = absurd (let never : None ≡ Some brick = e in cc)
+    by_found (Some number) is e = (number, is, same_Some (brick_of number) brick e)
+
+-- so it may where all of them hold, and only there
+pub calm_of : (layout : Layout) (w : World) (n : ℕ) (numbers : List ℕ) (c : Coordinator) → Books (coding layout) w → open_call w n ≡ Some c
+    → (at : IsOpenAt (coding layout) w n c) → CalmParts layout w n numbers at.operation c → IsCalm (coding layout) w n (map brick_of numbers)
+calm_of layout w n numbers c books opens at parts = record {
+  operation = at.operation;
+  is = at.is;
+  coordinator = c;
+  open_is = opens;
+  untouched = parts.untouched;
+  distinct = subst (λ (l : List ℕ). IsDistinct nat_eq l) (sym (numbers_back numbers)) parts.distinct;
+  ready = λ k brick found.
+      (let there = brick_there numbers k brick found in
+      let able = parts.able k there.0 there.1 in
+      subst (λ (b : BrickId). IsReady (coding layout) w c b) there.2 (record {
+        up = able.up;
+        view = view_first layout (w.nodes there.0) c.call.group.0 (books.first there.0) ∙ sym at.view;
+        serves = ap (λ (f : ℕ → Bool). f c.call.group.0) (books.first there.0).accepted;
+        room = able.room;
+        times = able.times;
+      }));
+  members = subst (λ (x : ℕ). quorum_of c.group ≤ x) (sym (counted_members c.group.members numbers)) parts.members;
+  clock = parts.in_time.clock;
+  times = parts.in_time.times;
+}
+
+pub parts_of : (layout : Layout) (w : World) (n : ℕ) (numbers : List ℕ) (c : Coordinator) → open_call w n ≡ Some c
+    → (at : IsOpenAt (coding layout) w n c) → is_up layout w at.operation.brick ≡ true → IsCalm (coding layout) w n (map brick_of numbers)
+    → CalmParts layout w n numbers at.operation c
+parts_of layout w n numbers c opens at up calm =
+    let same : calm.operation ≡ at.operation = same_Some calm.operation at.operation (sym calm.is ∙ at.is) in
+    let coordinator : calm.coordinator ≡ c = same_Some calm.coordinator c (sym calm.open_is ∙ opens) in
+    record {
+      distinct = subst (λ (l : List ℕ). IsDistinct nat_eq l) (numbers_back numbers) calm.distinct;
+      members = subst (λ (d : Coordinator). quorum_of d.group ≤ length (filter (λ number. list_any (λ member. nat_eq member.0 number) d.group.members) numbers))
+          coordinator
+          (subst (λ (x : ℕ). quorum_of calm.coordinator.group ≤ x) (counted_members calm.coordinator.group.members numbers) calm.members);
+      in_time = record {
+        up = up;
+        clock = subst (λ (o : Operation). w.clocks o.brick.0 < early) same calm.clock;
+        times = subst (λ (o : Operation). IsEarly (w.nodes o.brick.0)) same calm.times;
+      };
+      able = λ k number found.
+          (let ready = calm.ready k (brick_of number) (slice_get-map brick_of numbers k ∙ ap (option_map brick_of) found) in
+          record { up = ready.up; room = ready.room; times = ready.times });
+      untouched = calm.untouched;
+    }

@@ -9,11 +9,11 @@ use Rattle.messages.specs.declared.packets.Message.{Message}
 use Rattle.messages.specs.declared.packets.Packet.{Packet}
 use Rattle.protocol.specs.Settings.{Setting}
 use Rattle.protocol.specs.Worlds.{World, Operation, Event, Delivers, happens, run}
-use Rattle.protocol.specs.Calms.{RunsAlone, Ended, Stuck, Next, open_call, operation_of, goes_among, is_left, first_number, next_delivery}
+use Rattle.protocol.specs.Calms.{RunsAlone, Ended, Stuck, Next, IsUntouched, open_call, operation_of, goes_among, is_left, first_number, next_delivery}
 use Rattle.world.specs.Calms.{BeginsAlone}
 use Rattle.world.specs.Calms as begun
 use Rattle.world.specs.Disks.{KeepsDisks}
-use Rattle.world.specs.Ledgers.{Notes, NoneLeft, FindsLeft, is_of, is_left_at}
+use Rattle.world.specs.Ledgers.{Notes, NoneLeft, FindsLeft, IsUntouchedAt, is_of, is_left_at}
 use Rattle.world.specs.Runs.{brick_of}
 use Rattle.world.specs.declared.ledgers.Ledger.{Ledger}
 use Rattle.world.specs.declared.ledgers.Origin.{Origin}
@@ -160,3 +160,26 @@ module _ (w : World) (n : ℕ) (o : Operation) (says : NumbersSay w) (knows : Kn
             → is_left_at ledger.reached.items origin numbers k one ≡ false
         by_from k one at (inl earlier) = before k one (omega arith) earlier at
         by_from k one at (inr later) = none k one later (slice_get_within w.packets k one at) at
+
+-- no message of the operation was delivered where the ledger tells of none
+module _ (w : World) (n : ℕ) (o : Operation) (says : NumbersSay w) (knows : KnowsCalls w) (some : n ≢ 0) (is : w.operations n ≡ Some o)
+    (ledger : Ledger) (origin : Origin) (sent : List Packet) (notes : Notes ledger w) (same : sent ≡ w.packets)
+    (brick : origin.brick ≡ o.brick) (boot : origin.boot ≡ o.boot) (seq : origin.seq ≡ o.seq) where
+  of_origin : (packet : Packet) → nat_eq (operation_of w packet) n ≡ is_of origin.brick.0 origin.boot origin.seq packet
+  of_origin packet =
+      of_operation w n o says knows some is packet
+      ∙ sym (ap (λ (b : BrickId). is_of b.0 origin.boot origin.seq packet) brick
+      ∙ ap (λ (b : ℕ). is_of o.brick.0 b origin.seq packet) boot ∙ ap (λ (k : ℕ). is_of o.brick.0 o.boot k packet) seq)
+
+  pub untouched_as : IsUntouchedAt ledger.reached.items sent origin true → IsUntouched w n
+  untouched_as none zero packet at of = absurd (let never : None ≡ Some packet = at in cc)
+  untouched_as none (suc k) packet at of =
+      ap w.reached (let one : suc k ≡ k + 1 = omega arith in one) ∙ sym (notes.reached k)
+      ∙ none k packet (ap (λ (l : List Packet). slice_get l k) same ∙ at) (sym (of_origin packet) ∙ eq-eqb (operation_of w packet) n of)
+
+  pub touched_as : IsUntouchedAt ledger.reached.items sent origin false → IsUntouched w n → ⊥
+  touched_as (k, packet, at, of, marked) untouched =
+      let number : suc k ≡ k + 1 = omega arith in
+      let none : w.reached (suc k) ≡ false =
+      untouched (suc k) packet (ap (λ (l : List Packet). slice_get l k) (sym same) ∙ at) (eqb-true (operation_of w packet) n (of_origin packet ∙ of)) in
+      (let never : true ≡ false = sym marked ∙ notes.reached k ∙ ap w.reached (sym number) ∙ none in cc)

@@ -163,11 +163,19 @@ impl Simulation {
         let Some(group) = self.group_of(layout, operation) else {
             return false;
         };
-        are_distinct(bricks)
-            && members_among(group, bricks) >= group.quorum() as usize
-            && is_in_time(&self.bricks, u64::from(origin.brick.0))
-            && are_able(&self.bricks, layout, bricks)
-            && self.ledger.is_untouched(&self.history.sent, origin)
+        if !are_distinct(bricks) {
+            return false;
+        }
+        if members_among(group, bricks) < group.quorum() as usize {
+            return false;
+        }
+        if !is_in_time(&self.bricks, u64::from(origin.brick.0)) {
+            return false;
+        }
+        if !are_able(&self.bricks, layout, bricks) {
+            return false;
+        }
+        self.ledger.is_untouched(&self.history.sent, origin)
     }
 
     /// The group of an operation.
@@ -177,7 +185,11 @@ impl Simulation {
         if operation == 0 {
             return None;
         }
-        let kept = self.history.operations.get((operation - 1) as usize)?;
+        let place = (operation - 1) as usize;
+        if place >= self.history.operations.len() {
+            return None;
+        }
+        let kept = self.history.operations[place];
         layout.group(kept.group)
     }
 }

@@ -4,6 +4,9 @@
 //! word of one of its lines is `FAULT`. For each number from 1 to CALLS the schedule is run with each of four faults in the place of
 //! that word. Printed are the fault, what that line and those behind it print, and the stamps of the brick's log of the stripe, the
 //! newest first.
+//!
+//! The line `often WRITES` writes a stripe so often over bricks with little room, each write alone, and each brick told to drop what is
+//! older. Printed is how many of the writes were done.
 #![tactic(auto)]
 
 use anyhow::{Result, anyhow};
@@ -21,6 +24,10 @@ const PLACE: &str = "FAULT";
 
 /// The most versions of a log that are printed.
 const MOST_VERSIONS: u32 = 8;
+
+/// The layout of bricks with room for an order stamp and three versions.
+const SMALL: &str =
+    "block = 1\nbricks = 3\nrecords = 4\n[[group]]\nm = 1\nmembers = [0, 1, 2]\nstripes = 1\n";
 
 /// A schedule, the faults that are tried in it, and whose log is looked at.
 #[derive(Drop)]
@@ -135,6 +142,28 @@ impl Play {
     }
 }
 
+/// Writes a stripe so often, each write alone, and has its bricks drop what is older; how many writes were done.
+fn write_often(alloc: Global, writes: u64) -> Result<u64> {
+    let mut play = Play::new(alloc, SMALL)?;
+    let mut done = 0u64;
+    for write in 1..=writes {
+        play.said = String::new(alloc);
+        let byte = write % 256;
+        play.run(alloc, format!(in alloc; "writeall 0 0 0 {byte:02x}")?.as_str(), "")?;
+        play.is_past = true;
+        play.run(alloc, format!(in alloc; "calm {write} 0 1 2")?.as_str(), "")?;
+        play.is_past = false;
+        if play.said.as_str().ends_with("done") {
+            done = done.saturating_add(1);
+        }
+        let sent = play.world.sent().len();
+        for number in sent.saturating_sub(2)..=sent {
+            play.run(alloc, format!(in alloc; "deliver {number}")?.as_str(), "")?;
+        }
+    }
+    Ok(done)
+}
+
 /// The stamp of the newest version, or of the newest below another.
 fn stamp_below(log: &State<'_>, bound: Option<Stamp>) -> Option<Stamp> {
     let found = match bound {
@@ -156,7 +185,13 @@ fn main(rt: HostRuntime) -> Result<()> {
     for line in rt.lines(rt.alloc()) {
         let line = line?;
         println!(rt; "{line}")?;
-        Case::read(&rt, line.as_str())?.print(&rt)?;
+        match line.strip_prefix("often ") {
+            Some(writes) => {
+                let done = write_often(rt.alloc(), writes.parse().unwrap_or(0))?;
+                println!(rt; "{done} done")?;
+            }
+            None => Case::read(&rt, line.as_str())?.print(&rt)?,
+        }
     }
     Ok(())
 }

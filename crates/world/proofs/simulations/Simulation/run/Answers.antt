@@ -125,9 +125,3 @@ returns-in-Start-clause-err c =
     (λ err contents w reached shows notes. refused_still c.args.layout.now w c.args.self.now c.start.new.self c.args.line.now (err w shows)
     contents (subst (λ (ledger : Ledger). Notes ledger w) (sym c.start.ensures.ledger)))
     c.start.ensures.err c.start.ensures.contents
-
-pub returns-in-Calm-clause-comes : goal.returns-in-Calm-clause-comes
-returns-in-Calm-clause-comes c = ?
-
-pub returns-in-Calm-clause-err : goal.returns-in-Calm-clause-err
-returns-in-Calm-clause-err c = ?
