@@ -12,3 +12,4 @@ pub mod Passing
 pub mod Answering
 pub mod HeadLines
 pub mod ScheduleLines
+mod BrickTokens

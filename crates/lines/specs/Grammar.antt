@@ -1,11 +1,11 @@
 -- What a line of a schedule says.
-use Rattle.std.specs.Prelude.{ℕ, nat_le, if◌then◌else◌, List, [], ◌∷◌, length, nat_eq, codes, Option, Some, None, option_and_then}
+use Rattle.std.specs.Prelude.{ℕ, nat_le, nat_lt, ◌&&◌, if◌then◌else◌, List, [], ◌∷◌, length, nat_eq, codes, Option, Some, None, option_and_then}
 use Rattle.std.specs.List.{starts_with}
 use Rattle.std.specs.Option.{option_map}
 use Rattle.std.specs.Str.{bytes_eq}
 use Rattle.lines.specs.Tokens.{tokens, number, bytes_of_hex}
 use Rattle.lines.specs.declared.forms.Line.{Line}
-use Rattle.lines.specs.declared.forms.Line.TheVariants.{Nothing, Invoke, Deliver, SetClock, Tick, Crash, Start}
+use Rattle.lines.specs.declared.forms.Line.TheVariants.{Nothing, Invoke, Deliver, SetClock, Tick, Crash, Start, Calm}
 use Rattle.lines.specs.declared.forms.Access.{Access}
 use Rattle.lines.specs.declared.forms.Access.TheVariants.{WriteBlock, ReadBlock, WriteStripe, ReadStripe}
 use Rattle.lines.specs.declared.forms.Fault.{Fault}
@@ -112,6 +112,23 @@ unfoldable pub one_brick : List (List ℕ) → Option ℕ
 one_brick (b ∷ []) = number b
 one_brick _ = None
 
+-- the numbers that tokens spell, where each spells one
+unfoldable pub numbers : List (List ℕ) → Option (List ℕ)
+numbers [] = Some []
+numbers (token ∷ tokens) = do
+  first ← number token
+  others ← numbers tokens
+  Some (first ∷ others)
+
+-- `calm N B ..`, behind its first word: 1 to 64 bricks
+unfoldable pub calm : List (List ℕ) → Option Line
+calm (n ∷ tokens) =
+    if nat_lt 0 (length tokens) && nat_le (length tokens) 64 then (do
+      operation ← number n
+      bricks ← numbers tokens
+      Some (Calm operation bricks)) else None
+calm _ = None
+
 -- what a line says whose first word and the words behind it are these; nothing else is a line
 unfoldable pub form : List ℕ → List (List ℕ) → Option Line
 form word arguments =
@@ -124,6 +141,7 @@ form word arguments =
     else if bytes_eq word (codes "tick") then option_map Tick (one_brick arguments)
     else if bytes_eq word (codes "crash") then option_map Crash (one_brick arguments)
     else if bytes_eq word (codes "start") then start arguments
+    else if bytes_eq word (codes "calm") then calm arguments
     else None
 
 -- what the tokens of a line say: nothing where there is none or the first begins with `#`

@@ -1,13 +1,17 @@
 // The forms of a line.
 ghost use Rattle.std.specs.Prelude.{◌≡◌, map, IfOk};
-ghost use Rattle.lines.specs.Grammar.{line_of, line_of_tokens, form, write_all, read_all, write_block, read_block, invoke, call_number, fail, cut, fault, deliver, start, clock, one_brick};
+ghost use Rattle.lines.specs.Grammar.{line_of, line_of_tokens, form, write_all, read_all, write_block, read_block, invoke, call_number, fail, cut, fault, deliver, start, clock, one_brick, numbers, calm};
 
+use crate::brick_lists::BrickList;
 use crate::tokens::{parse_hex, parse_number, split};
 use fab_base::{Bytes, NoMem};
 use std::alloc::Global;
 
 /// The most bytes of a line, not counting its line feed and the one carriage return before that.
 pub const LINE_LIMIT: usize = 70_000;
+
+/// The most bricks among which an operation is to run alone.
+const MOST_BRICKS: usize = 64;
 
 /// What an operation is to do with its stripe. A data block goes by its number, any below 2^64: whether the stripe has such a block is for the
 /// one who runs the line to find.
@@ -88,6 +92,13 @@ pub enum Line {
         /// What is to befall a call of that.
         fault: Option<Fault>,
     },
+    /// An operation is to run alone among some bricks, until it ends: `calm N B ..`, with 1 to 64 bricks.
+    Calm {
+        /// The number of the operation, in the order of beginning.
+        operation: u64,
+        /// The bricks.
+        bricks: BrickList,
+    },
 }
 
 /// What a line says. The bytes are those of the line without its line feed and the one carriage return before that.
@@ -142,6 +153,8 @@ fn parse_form(alloc: Global, word: &[u8], arguments: &[&[u8]]) -> Result<Option<
         Ok(parse_brick(arguments).map(|brick| Line::Crash { brick }))
     } else if word == b"start".as_slice() {
         Ok(parse_start(arguments))
+    } else if word == b"calm".as_slice() {
+        parse_calm(alloc, arguments)
     } else {
         Ok(None)
     }
@@ -330,4 +343,37 @@ fn parse_brick(arguments: &[&[u8]]) -> Option<u64>
         return None;
     }
     parse_number(arguments[0])
+}
+
+/// `calm N B ..`, behind its first word: 1 to 64 bricks.
+fn parse_calm(alloc: Global, arguments: &[&[u8]]) -> Result<Option<Line>, NoMem>
+    ensures { IfOk result (λ line. line ≡ calm (map (λ token. token.now) arguments.now)) }
+{
+    let [operation, behind @ ..] = arguments else {
+        return Ok(None);
+    };
+    if behind.len() == 0 || behind.len() > MOST_BRICKS {
+        return Ok(None);
+    }
+    let Some(operation) = parse_number(operation) else {
+        return Ok(None);
+    };
+    let Some(bricks) = parse_numbers(alloc, behind)? else {
+        return Ok(None);
+    };
+    Ok(Some(Line::Calm { operation, bricks }))
+}
+
+/// The numbers that tokens spell. None where one spells none.
+fn parse_numbers(alloc: Global, tokens: &[&[u8]]) -> Result<Option<BrickList>, NoMem>
+    ensures { IfOk result (λ found. found ≡ numbers (map (λ token. token.now) tokens.now)) }
+{
+    let mut found = Vec::new(alloc);
+    for token in tokens {
+        let Some(number) = parse_number(token) else {
+            return Ok(None);
+        };
+        found.push(number)?;
+    }
+    Ok(Some(BrickList::from_vec(found)))
 }

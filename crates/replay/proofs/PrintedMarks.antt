@@ -12,9 +12,11 @@ use Rattle.protocol.specs.declared.tellings.Told.{Told}
 use Rattle.protocol.specs.declared.tellings.Told.TheVariants as told
 use Rattle.protocol.specs.Nodes.{NodeStep, put, refusal_of, invoked, received}
 use Rattle.protocol.specs.Worlds.{World, Event, Found, Invokes, Delivers, Sets, Ticks, Stops, Starts, Before, After, number_of, is_brick, is_up, may_start, world_began, world_told, world_tells, world_answered, world_answers, world_stepped, world_ticked, world_stopped, world_found, world_started, replies_with, delivered, packet_of, happens, run}
+use Rattle.lines.specs.declared.forms.Line.{Line}
+use Rattle.lines.specs.declared.forms.Line.TheVariants.{Calm}
 use Rattle.world.specs.Runs.{Step, all_events}
 use Rattle.world.proofs.RunLemmas.{run-append}
-use Rattle.world.specs.Texts.{mark_text, marks_text, new_marks, is_deliverable, marks_if, outcome_of, outcome_text, event_text, text_of, refused_or_begun}
+use Rattle.world.specs.Texts.{mark_text, marks_text, new_marks, is_deliverable, marks_if, outcome_of, outcome_text, event_text, text_of, line_text, step_text, refused_or_begun}
 use Rattle.world.specs.declared.simulations.Outcome.{Outcome}
 use Rattle.world.specs.declared.simulations.Outcome.TheVariants.{Marks, Refused, Idle}
 use Rattle.replay.specs.Printed.{Printed, OfMark, OfRefusal, OfNothing, printed_text, printed_texts, marks_in, printed_marks}
@@ -99,12 +101,12 @@ stepped_printed setting w before brick step same =
     printed_more w (world_stepped setting before brick step) more.0
     (more.1 ∙ ap (λ (l : List Mark). l ++ more.0) (told_marks setting before brick step.told ∙ same))
 
-delivered_printed : (setting : Setting) (w : World) (packet : Option Packet)
-    → IsPrinted w (delivered setting w packet) (marks_if (is_deliverable setting w packet))
-delivered_printed setting w None = printed_idle w
-delivered_printed setting w (Some packet) =
+delivered_printed : (setting : Setting) (w : World) (number : ℕ) (packet : Option Packet)
+    → IsPrinted w (delivered setting w number packet) (marks_if (is_deliverable setting w packet))
+delivered_printed setting w number None = printed_idle w
+delivered_printed setting w number (Some packet) =
     let step : NodeStep = received setting packet.to (w.clocks packet.to.0) (w.nodes packet.to.0) packet in
-    let counted : World = record w { replies = replies_with setting w packet } in
+    let counted : World = record w { replies = replies_with setting w packet; reached = put w.reached number true } in
     done_or_not w (world_stepped setting counted packet.to step) (is_up setting.layout w packet.to)
     (stepped_printed setting w counted packet.to step refl)
 
@@ -127,7 +129,7 @@ event_printed setting w (Invokes brick ask) =
     invoked_printed w (world_began w brick ask step) (is_up setting.layout w brick)
     (refusal_of setting.layout (w.nodes brick.0) ask) (printed_more w (world_began w brick ask step)
     (mark.Begin (length w.marks) (w.begun + 1) brick ask ∷ []) refl)
-event_printed setting w (Delivers number) = delivered_printed setting w (packet_of w.packets number)
+event_printed setting w (Delivers number) = delivered_printed setting w number (packet_of w.packets number)
 event_printed setting w (Sets brick time) =
     done_or_not w (record w { clocks = put w.clocks brick.0 time }) (is_brick setting.layout brick)
     (printed_none w (record w { clocks = put w.clocks brick.0 time }) refl)
@@ -173,11 +175,21 @@ events_printed setting w (event ∷ events) =
       marks_are = event_printed setting w event;
     }) (events_printed setting next events)
 
+-- what a line prints that is these events
+line_printed : (setting : Setting) (w : World) (line : Line) (events : List Event) → IsPrintedAs w (run setting events w) (line_text setting w line events)
+line_printed setting w line (event ∷ events) = events_printed setting w (event ∷ events)
+line_printed setting w (Calm n bricks) [] = record {
+  printed = OfNothing ∷ [];
+  text_is = sym (append-nil (printed_text OfNothing));
+  marks_are = sym (append-nil w.marks);
+}
+line_printed setting w line [] = nothing_printed w
+
 -- and steps
 pub steps_printed : (setting : Setting) (w : World) (steps : List Step) → IsPrintedAs w (run setting (all_events steps) w) (steps_text setting w steps)
 steps_printed setting w [] = nothing_printed w
 steps_printed setting w (step ∷ steps) =
     let next : World = run setting step.events w in
     subst (λ (v : World). IsPrintedAs w v (steps_text setting w (step ∷ steps))) (sym (run-append setting w step.events (all_events steps)))
-    (both_printed w next (run setting (all_events steps) next) (text_of setting w step.events) (steps_text setting next steps)
-    (events_printed setting w step.events) (steps_printed setting next steps))
+    (both_printed w next (run setting (all_events steps) next) (step_text setting w step) (steps_text setting next steps)
+    (line_printed setting w step.line step.events) (steps_printed setting next steps))

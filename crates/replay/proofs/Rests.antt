@@ -20,7 +20,7 @@ use Rattle.protocol.specs.Settings.{Setting}
 use Rattle.protocol.specs.Worlds.{World, run}
 use Rattle.stripe_code.specs.Codes.{coding}
 use Rattle.world.specs.Runs.{Run, Step, world_of}
-use Rattle.world.specs.Texts.{text_of}
+use Rattle.world.specs.Texts.{step_text}
 use Rattle.world.specs.Steps.{Ran, Runs}
 use Rattle.fab_io.proofs.Content.{AppendsFront-none, AppendsFront-more}
 use Rattle.replay.specs.declared.endings.Verdict.{Verdict}
@@ -56,10 +56,10 @@ PrintsRest-none run n left old new r behind within are p =
 -- the next line was run: what was printed is its text, and what stands behind it
 PrintsRest-one : (before after : Run) (n : ℕ) (left old new : Option (List ℕ)) (r : Result Verdict Halt) (content : List ℕ) (rest : List (List ℕ)) (step : Step)
     → n < most_lines → AreLinesOf left (content ∷ rest) → line_of content ≡ Some step.line → Runs before after step.line step
-    → Prints old new (onto (text_of (coding before.layout) (world_of before) step.events) (output_behind before.layout (world_of after) (n + 1) rest)) r
+    → Prints old new (onto (step_text (coding before.layout) (world_of before) step) (output_behind before.layout (world_of after) (n + 1) rest)) r
     → PrintsRest before n left old new r
 PrintsRest-one before after n left old new r content rest step within are is runs p =
-    let text = text_of (coding before.layout) (world_of before) step.events in
+    let text = step_text (coding before.layout) (world_of before) step in
     record {
       done = content ∷ [];
       behind = rest;
@@ -108,7 +108,7 @@ line-front run after n old new line halt within stops = λ left rest are.
           let behind = output_behind run.layout (world_of run) n (line ∷ rest) in
           PrintsRest-none run n left old new (Err halt) (line ∷ rest) (omega (arith, within)) are (AppendsFront-none old new behind.text keeps)
       | inr begins ↦
-          let text = text_of (coding run.layout) (world_of run) begins.step.events in
+          let text = step_text (coding run.layout) (world_of run) begins.step in
           let behind = output_behind run.layout (world_of after) (n + 1) rest in
           PrintsRest-one run after n left old new (Err halt) line rest begins.step within are begins.is_line begins.runs
           (AppendsFront-more old new text behind.text begins.printed)
@@ -170,7 +170,7 @@ pub PrintsRest-last : (before after : Run) (n : ℕ) (left rest old mid new : Op
     → n < most_lines → Passes left rest (line ∷ []) → IsAtEnd rest → LineRuns before after (content line) old mid
     → Prints mid new (finished after.layout (world_of after) (n + 1)) r → PrintsRest before n left old new r
 PrintsRest-last before after n left rest old mid new line r within passes end l p =
-    let text = text_of (coding before.layout) (world_of before) l.step.events in
+    let text = step_text (coding before.layout) (world_of before) l.step in
     let same : after.layout ≡ before.layout = ap (λ u. u.layout) l.runs.run in
     let closed = finished before.layout (world_of after) (n + 1) in
     let behind = output_behind before.layout (world_of after) (n + 1) [] in
@@ -347,7 +347,7 @@ HasRun-line first run after n unread now next told told_now told_next old mid ne
     let setting = coding run.layout in
     let w = world_of run in
     let step = l.step in
-    let text = text_of setting w step.events in
+    let text = step_text setting w step in
     let layout : after.layout ≡ run.layout = ap (λ r. r.layout) l.runs.run in
     let world = after_step run after step.line step l.runs in
     record {

@@ -9,7 +9,7 @@ use Rattle.protocol.specs.Settings.{Setting}
 use Rattle.protocol.specs.Worlds.{World, run}
 use Rattle.world.specs.Runs.{Run, Step, world_of, all_events}
 use Rattle.world.specs.Steps.{Runs}
-use Rattle.world.specs.Texts.{text_of}
+use Rattle.world.specs.Texts.{step_text}
 use Rattle.world.proofs.RunLemmas.{run-append, world_of-with_step}
 use Rattle.replay.specs.Outputs.{steps_text}
 use Rattle.replay.specs.LineSteps.{LeadsTo, AreLinesOfSteps}
@@ -72,6 +72,6 @@ pub steps_text-append : (setting : Setting) (w : World) (steps more : List Step)
 steps_text-append setting w [] more = refl
 steps_text-append setting w (first ∷ steps) more =
     let v : World = run setting first.events w in
-    let text : List ℕ = text_of setting w first.events in
+    let text : List ℕ = step_text setting w first in
     ap (λ (t : List ℕ). text ++ t) (steps_text-append setting v steps more)
     ∙ sym (append_assoc text (steps_text setting v steps) (steps_text setting (after_steps setting v steps) more))

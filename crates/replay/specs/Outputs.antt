@@ -19,7 +19,7 @@ use Rattle.layout.specs.Texts.{layout_of}
 use Rattle.world.specs.Runs.{Step, all_events}
 use Rattle.replay.specs.declared.endings.Verdict.{Verdict}
 use Rattle.replay.specs.declared.endings.Verdict.TheVariants.{Whole, BadLayout, BadLine, TooManyLines}
-use Rattle.world.specs.Texts.{text_of, newline}
+use Rattle.world.specs.Texts.{step_text, newline}
 use Rattle.replay.specs.Inputs.{Input, Parted, TooLong, Endless}
 
 -- the most lines of a schedule
@@ -102,7 +102,7 @@ left_by layout steps = run (coding layout) (all_events steps) (first_world layou
 -- the texts of steps, one after another
 abbrev pub steps_text : Setting → World → List Step → List ℕ
 steps_text setting w [] = []
-steps_text setting w (step ∷ steps) = text_of setting w step.events ++ steps_text setting (run setting step.events w) steps
+steps_text setting w (step ∷ steps) = step_text setting w step ++ steps_text setting (run setting step.events w) steps
 
 -- what is printed, and how the input ends that; not yet, where a next line is left to be run
 pub record Output : Type 0 where

@@ -10,7 +10,7 @@ use Rattle.lines.specs.declared.reader.Piece.TheVariants.{Whole, Last, Long, End
 use Rattle.stripe_code.specs.Codes.{coding}
 use Rattle.world.specs.Runs.{Run, Step, world_of}
 use Rattle.world.specs.Steps.{Runs}
-use Rattle.world.specs.Texts.{text_of}
+use Rattle.world.specs.Texts.{step_text}
 use Rattle.replay.specs.declared.endings.Verdict.{Verdict}
 use Rattle.replay.specs.declared.endings.Halt.{Halt}
 use Rattle.replay.specs.declared.heads.Head.{Head}
@@ -49,14 +49,14 @@ pub record LineRuns (before after : Run) (content : List ℕ) (old new : Option 
   pub step : Step
   pub is_line : line_of content ≡ Some step.line
   pub runs : Runs before after step.line step
-  pub printed : Appends old new (text_of (coding before.layout) (world_of before) step.events)
+  pub printed : Appends old new (step_text (coding before.layout) (world_of before) step)
 
 -- a line was run, and some of its text printed, from the front
 pub record LineBegins (before after : Run) (content : List ℕ) (old new : Option (List ℕ)) : Type 0 where
   pub step : Step
   pub is_line : line_of content ≡ Some step.line
   pub runs : Runs before after step.line step
-  pub printed : AppendsFront old new (text_of (coding before.layout) (world_of before) step.events)
+  pub printed : AppendsFront old new (step_text (coding before.layout) (world_of before) step)
 
 -- a line was run and printed; or it is no line; or a run was stopped at it, before it printed anything or within the line's text
 abbrev pub LineMeans : Run → Run → List ℕ → Option (List ℕ) → Option (List ℕ) → Result Bool Halt → Type 0

@@ -15,3 +15,10 @@ pub mod RunLaws
 pub mod RunLemmas
 pub mod SimulationLemmas
 pub mod DeliveryLemmas
+pub mod CallNumbers
+pub mod CallSteps
+pub mod TimeLemmas
+pub mod LedgerLemmas
+pub mod LedgerLists
+pub mod CalmLemmas
+pub mod CalmRuns

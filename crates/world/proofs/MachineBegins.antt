@@ -1,5 +1,5 @@
 -- When an operation begins in the machine, and what a message does there.
-use Rattle.std.proofs.Common.{◌≡◌, ℕ, ◌+◌, ◌<◌, ◌≤◌, Bool, true, false, not, cond, nat_lt, ◌&&◌, List, Option, Some, None, refl, ap, ◌∙◌, arith}
+use Rattle.std.proofs.Common.{◌≡◌, ◌≢◌, ℕ, ◌+◌, ◌<◌, ◌≤◌, Bool, true, false, not, cond, nat_lt, ◌&&◌, List, Option, Some, None, refl, ap, ◌∙◌, arith}
 use Rattle.std.specs.Prelude.{if◌then◌else◌}
 use Rattle.std.specs.Option.{is_some, option_map}
 use Rattle.std.proofs.lemmas.Bool.Decides.{nat_tests}
@@ -14,6 +14,7 @@ use Rattle.protocol.specs.Views.{kept_by}
 use Rattle.protocol.specs.Nodes.{Node, group_at, put, has_block, has_length, is_spent, most_open, refusal_in, refusal_of, began, invoked, received}
 use Rattle.protocol.specs.Worlds.{World, Invokes, Delivers, Sets, Ticks, Stops, Starts, Found, is_up, may_start, world_began, world_stepped, world_ticked, world_stopped, world_found, world_started, replies_with, delivered, packet_of, happens}
 use Rattle.world.specs.Runs.{ask_of, refusal_at}
+use Rattle.world.proofs.Places.{value_here, value_elsewhere}
 
 -- where there is no such group there is no such stripe
 pub refused_no_group : (layout : Layout) (g s : ℕ) (node : Node) (op : Op) → group_of layout g ≡ None
@@ -104,6 +105,25 @@ invoked_next setting brick now node ask none =
     began_next setting brick now node ask (group_at setting.layout node ask.group.0)
     (refused_alike setting.layout node ask (node.learnt ask.group.0).view.members (group_of setting.layout ask.group.0) ∙ none)
 
+-- it is open, and the other calls are as they were
+abbrev pub OpensOne : Node → Node → Type 0
+OpensOne node after = ((k : ℕ) → k ≢ after.seq → after.calls k ≡ node.calls k) × (is_some (after.calls after.seq) ≡ true)
+
+began_opens : (setting : Setting) (brick : BrickId) (now : ℕ) (node : Node) (ask : Ask) (found : Option Group)
+    → refusal_in setting.layout.block node ask found ≡ None → OpensOne node (began setting brick now node ask found).node
+began_opens setting brick now node ask None none = absurd (let never : Some Refusal.NoStripe ≡ None = none in cc)
+began_opens setting brick now node ask (Some group) none = (
+  λ k other. value_elsewhere node.calls (node.seq + 1) k _ other,
+  ap is_some (value_here node.calls (node.seq + 1) (node.seq + 1) _ refl),
+)
+
+pub invoked_opens : (setting : Setting) (brick : BrickId) (now : ℕ) (node : Node) (ask : Ask) → refusal_of setting.layout node ask ≡ None
+    → OpensOne node (invoked setting brick now node ask).node
+unfolding invoked refusal_of
+invoked_opens setting brick now node ask none =
+    began_opens setting brick now node ask (group_at setting.layout node ask.group.0)
+    (refused_alike setting.layout node ask (node.learnt ask.group.0).view.members (group_of setting.layout ask.group.0) ∙ none)
+
 -- it is a call of the same boot
 invoked_boot_in : (setting : Setting) (brick : BrickId) (now : ℕ) (node : Node) (ask : Ask) (found : Option Group)
     → (began setting brick now node ask found).node.boot ≡ node.boot
@@ -115,28 +135,28 @@ pub invoked_boot : (setting : Setting) (brick : BrickId) (now : ℕ) (node : Nod
 unfolding invoked
 invoked_boot setting brick now node ask = invoked_boot_in setting brick now node ask (group_at setting.layout node ask.group.0)
 
--- the world after its brick handled a message
-abbrev pub after_message : Setting → World → Packet → World
-after_message setting w packet =
+-- the world after its brick handled the message of a number
+abbrev pub after_message : Setting → World → ℕ → Packet → World
+after_message setting w number packet =
     let step = received setting packet.to (w.clocks packet.to.0) (w.nodes packet.to.0) packet in
-    world_stepped setting (record w { replies = replies_with setting w packet }) packet.to step
+    world_stepped setting (record w { replies = replies_with setting w packet; reached = put w.reached number true }) packet.to step
 
 -- a number that was not sent changes nothing
 pub happens_unsent : (setting : Setting) (w : World) (number : ℕ) → packet_of w.packets number ≡ None → happens setting w (Delivers number) ≡ w
 unfolding happens
-happens_unsent setting w number none = ap (delivered setting w) none
+happens_unsent setting w number none = ap (delivered setting w number) none
 
 -- a message to no brick that is up changes nothing
 pub happens_astray : (setting : Setting) (w : World) (number : ℕ) (packet : Packet) → packet_of w.packets number ≡ Some packet
     → is_up setting.layout w packet.to ≡ false → happens setting w (Delivers number) ≡ w
 unfolding happens
-happens_astray setting w number packet sent down = ap (delivered setting w) sent ∙ ap (λ b. cond b (after_message setting w packet) w) down
+happens_astray setting w number packet sent down = ap (delivered setting w number) sent ∙ ap (λ b. cond b (after_message setting w number packet) w) down
 
 -- a message is handled by its brick
 pub happens_handled : (setting : Setting) (w : World) (number : ℕ) (packet : Packet) → packet_of w.packets number ≡ Some packet
-    → is_up setting.layout w packet.to ≡ true → happens setting w (Delivers number) ≡ after_message setting w packet
+    → is_up setting.layout w packet.to ≡ true → happens setting w (Delivers number) ≡ after_message setting w number packet
 unfolding happens
-happens_handled setting w number packet sent up = ap (delivered setting w) sent ∙ ap (λ b. cond b (after_message setting w packet) w) up
+happens_handled setting w number packet sent up = ap (delivered setting w number) sent ∙ ap (λ b. cond b (after_message setting w number packet) w) up
 
 -- a clock is set
 pub happens_set : (setting : Setting) (w : World) (brick : BrickId) (time : ℕ) → brick.0 < setting.layout.bricks

@@ -13,7 +13,7 @@ use Rattle.messages.specs.declared.packets.Packet.{Packet}
 use Rattle.reg_model.specs.declared.marks.Mark.{Mark}
 use Rattle.reg_model.specs.declared.marks.Mark.TheVariants as mark
 use Rattle.lines.specs.declared.forms.Line.{Line}
-use Rattle.lines.specs.declared.forms.Line.TheVariants.{Nothing, Invoke, Deliver, SetClock, Tick, Crash, Start}
+use Rattle.lines.specs.declared.forms.Fault.{Fault}
 use Rattle.stripe_code.specs.Codes.{coding}
 use Rattle.fab_base.specs.Layouts.{Layout, Group, group_of}
 use Rattle.protocol.specs.Nodes.{Node, NodeStep, put, view_at, invoked, received}
@@ -24,11 +24,11 @@ use Rattle.protocol.specs.Settings.{Setting}
 use Rattle.protocol.specs.Worlds.{World, Event, Found, Invokes, Delivers, Sets, Ticks, Stops, Starts, Before, After, first_world, is_brick, is_up, may_begin, may_start, number_of, packet_of, replies_with, delivered, world_began, world_told, world_tells, world_answered, world_answers, world_stepped, world_ticked, world_stopped, world_found, world_started, happens, run}
 use Rattle.protocol_laws.proofs.Books.{Books}
 use Rattle.world.specs.Runs.{Run, Step, world_of, all_events, brick_of, ask_of, op_of}
-use Rattle.world.specs.Faults.{IsEventsOf, StopsMidway, IsDelivered, StaysDown, IsStarted, IsNoStart}
+use Rattle.world.specs.Faults.{IsEventsOf, IsStartOf, StaysDown, IsStarted, IsNoStart}
 use Rattle.world.specs.Disks.{ShowsDiskOf, ShowsDisks, KeepsDisks}
 use Rattle.world.specs.Shown.{IsNumbered, Shows, ShowsBricks, ShowsPower, ComesTo, disk_in, disks_of, came_to}
 use Rattle.world.specs.Steps.{Runs, RunsTo, with_step, is_stripe, log_at}
-use Rattle.world.specs.Texts.{text_of, event_text, marks_text, outcome_text, new_marks}
+use Rattle.world.specs.Texts.{text_of, event_text, marks_text, outcome_text, new_marks, line_text, step_text}
 use Rattle.world.specs.declared.bricks.Brick.{Brick}
 use Rattle.world.specs.declared.bricks.Power.{Power}
 use Rattle.world.specs.declared.bricks.Power.TheVariants.{Up, Down}
@@ -149,11 +149,11 @@ happens_grows setting w (Invokes brick ask) =
     (λ is. omega (arith, length-append w.marks (mark.Begin (length w.marks) (w.begun + 1) brick ask ∷ []))) (λ isnt. omega arith)
 happens_grows setting w (Delivers number) = delivered_grows (packet_of w.packets number)
   where
-    delivered_grows : (packet : Option Packet) → length w.marks ≤ length (delivered setting w packet).marks
+    delivered_grows : (packet : Option Packet) → length w.marks ≤ length (delivered setting w number packet).marks
     delivered_grows None = omega arith
     delivered_grows (Some packet) =
-        cond_both (is_up setting.layout w packet.to) (after_message setting w packet) w (λ (v : World). length w.marks ≤ length v.marks)
-        (λ is. stepped_grows setting (record w { replies = replies_with setting w packet }) packet.to
+        cond_both (is_up setting.layout w packet.to) (after_message setting w number packet) w (λ (v : World). length w.marks ≤ length v.marks)
+        (λ is. stepped_grows setting (record w { replies = replies_with setting w packet; reached = put w.reached number true }) packet.to
         (received setting packet.to (w.clocks packet.to.0) (w.nodes packet.to.0) packet)) (λ isnt. omega arith)
 happens_grows setting w (Sets brick time) =
     cond_both (is_brick setting.layout brick) (record w { clocks = put w.clocks brick.0 time }) w (λ (v : World). length w.marks ≤ length v.marks)
@@ -191,26 +191,18 @@ numbered_from_books setting w books i k c is =
     let seq : (w.nodes call.operation.brick.0).seq ≡ (w.nodes i).seq = ap (λ j. (w.nodes j).seq) call.brick in
     (call.call_seq, omega (arith, operation.called.0, call.seq), omega (arith, operation.called.1 boot, call.seq, seq))
 
--- a line is one event at most
-few_events : (layout : Layout) (w : World) (old new : List MemDisk) (line : Line) (events : List Event) → IsEventsOf layout w old new line events
-    → (events ≡ []) ⊎ ((event : Event) × (events ≡ event ∷ []))
-few_events layout w old new Nothing events are = inl are
-few_events layout w old new (Invoke b g s access) events are = inr (Invokes (brick_of b) (ask_of g s (op_of access)), are)
-few_events layout w old new (Deliver k fault) events are = ⊎_elim
-    (λ (stops : StopsMidway layout w old new k fault events). inr (Stops stops.struck.packet.to (Some k), stops.events_are))
-    (λ (whole : IsDelivered layout w old k fault events). inr (Delivers k, whole.events_are)) are
-few_events layout w old new (SetClock b v) events are = inr (Sets (brick_of b) v, are)
-few_events layout w old new (Tick b) events are = inr (Ticks (brick_of b), are)
-few_events layout w old new (Crash b) events are = inr (Stops (brick_of b) None, are.0)
-few_events layout w old new (Start b fault) events are = ⊎_elim
-    (λ (stays : StaysDown layout w old new (brick_of b) fault events). inr (Stops (brick_of b) None, stays.events_are))
-    (λ (other : IsStarted layout w old (brick_of b) fault events ⊎ IsNoStart layout w (brick_of b) events). ⊎_elim
-    (λ (is : IsStarted layout w old (brick_of b) fault events).
-    inr (Starts (brick_of b) (is.start.finds.openings + 1) is.start.finds.found, is.events_are))
-    (λ (is : IsNoStart layout w (brick_of b) events). inr (Starts (brick_of b) 1 Before, is.events_are)) other) are
+-- the start of a brick is one event
+pub start_few : (layout : Layout) (w : World) (old new : List MemDisk) (brick : BrickId) (fault : Option Fault) (events : List Event)
+    → IsStartOf layout w old new brick fault events → (events ≡ []) ⊎ ((event : Event) × (events ≡ event ∷ []))
+start_few layout w old new brick fault events are = ⊎_elim
+    (λ (stays : StaysDown layout w old new brick fault events). inr (Stops brick None, stays.events_are))
+    (λ (other : IsStarted layout w old brick fault events ⊎ IsNoStart layout w brick events). ⊎_elim
+    (λ (is : IsStarted layout w old brick fault events).
+    inr (Starts brick (is.start.finds.openings + 1) is.start.finds.found, is.events_are))
+    (λ (is : IsNoStart layout w brick events). inr (Starts brick 1 Before, is.events_are)) other) are
 
 -- what such events came to, with the marks behind those before, is what they print
-came_text : (setting : Setting) (w : World) (events : List Event) → (events ≡ []) ⊎ ((event : Event) × (events ≡ event ∷ []))
+pub came_text : (setting : Setting) (w : World) (events : List Event) → (events ≡ []) ⊎ ((event : Event) × (events ≡ event ∷ []))
     → outcome_text (came_to setting w events) (new_marks w (run setting events w)) ≡ text_of setting w events
 came_text setting w events few = ⊎_elim
     (λ (none : events ≡ []).
@@ -223,23 +215,19 @@ came_text setting w events few = ⊎_elim
 
 pub text_is : (old new : Run) (line : Line) (step : Step) (outcome : Outcome) (marks : List Mark) (before : ℕ) (text : List ℕ)
     → Runs old new line step
-    → outcome ≡ came_to (coding old.layout) (world_of old) step.events → marks ≡ (world_of new).marks
+    → outcome_text outcome (new_marks (world_of old) (world_of new)) ≡ line_text (coding old.layout) (world_of old) line step.events
+    → marks ≡ (world_of new).marks
     → before ≡ length (world_of old).marks → text ≡ outcome_text outcome (take (length marks - before) (drop before marks))
-    → text ≡ text_of (coding old.layout) (world_of old) step.events
-text_is old new line step outcome marks before text runs came are count is =
+    → text ≡ step_text (coding old.layout) (world_of old) step
+text_is old new line step outcome marks before text runs prints are count is =
     let rest : take (length marks - before) (drop before marks) ≡ drop before marks =
     take_all (length marks - before) (drop before marks) (omega (arith, length-drop before marks))
     in
-    let after : marks ≡ (run (coding old.layout) step.events (world_of old)).marks =
-    are ∙ ap (λ (r : Run). (world_of r).marks) runs.run ∙ ap (λ (w : World). w.marks) (world_of-with_step old step new.disks)
+    let made : drop before marks ≡ new_marks (world_of old) (world_of new) =
+    ap (λ n. drop n marks) count ∙ ap (λ (xs : List Mark). drop (length (world_of old).marks) xs) are
     in
-    let made : drop before marks ≡ new_marks (world_of old) (run (coding old.layout) step.events (world_of old)) =
-    ap (λ n. drop n marks) count ∙ ap (λ (xs : List Mark). drop (length (world_of old).marks) xs) after
-    in
-    is ∙ ap (λ (xs : List Mark). outcome_text outcome xs) (rest ∙ made)
-    ∙ ap (λ (x : Outcome). outcome_text x (new_marks (world_of old) (run (coding old.layout) step.events (world_of old)))) came
-    ∙ came_text (coding old.layout) (world_of old) step.events
-    (few_events old.layout (world_of old) old.disks new.disks line step.events runs.events_are)
+    is ∙ ap (λ (xs : List Mark). outcome_text outcome xs) (rest ∙ made) ∙ prints
+    ∙ ap (λ (l : Line). line_text (coding old.layout) (world_of old) l step.events) (sym runs.line_is)
 
 -- a step that a trail took is one that was run
 pub runs_to : (layout : Layout) (old new : List Step) (before disks : List MemDisk) (state : Simulation) (line : Line) (outcome : Outcome)
@@ -257,7 +245,9 @@ runs_to layout old new before disks state line outcome same (events, comes, grow
         run = ap (λ (steps : List Step). record { layout = layout; steps = steps; disks = disks }) grown;
         disks = subst (λ (d : List MemDisk). KeepsDisks (coding layout) (world_of r) events before d) (sym same) comes.kept;
       };
-      comes = comes.comes;
+      prints = ap (λ (v : World). outcome_text outcome (new_marks (world_of r) v))
+          (ap (λ (steps : List Step). world_of (record { layout = layout; steps = steps; disks = disks })) grown
+          ∙ world_of-with_step r (record { line = line; events = events }) disks) ∙ comes.prints;
     }
 
 -- and the state shows the world behind it

@@ -71,11 +71,11 @@ shows_begun layout state w brick ask up none bricks history =
 pub shows_still : (layout : Layout) (state : Simulation) (w v : World) → v ≡ w → Shows layout state w → Shows layout state v
 shows_still layout state w v same shows = subst (λ (x : World). Shows layout state x) (sym same) shows
 
--- which replies count is told by no history
-pub tells_replies : (layout : Layout) (history : History) (w : World) (packet : Packet) → Tells history w
-    → Tells history (record w { replies = replies_with (coding layout) w packet })
-tells_replies layout history w packet tells =
-    let v : World = record w { replies = replies_with (coding layout) w packet } in
+-- which replies count, and which messages were delivered, is told by no history
+pub tells_replies : (layout : Layout) (history : History) (w : World) (number : ℕ) (packet : Packet) → Tells history w
+    → Tells history (record w { replies = replies_with (coding layout) w packet; reached = put w.reached number true })
+tells_replies layout history w number packet tells =
+    let v : World = record w { replies = replies_with (coding layout) w packet; reached = put w.reached number true } in
     tells_other history w v refl refl refl refl (calls_same w v (λ i. refl) (λ i. refl) refl) tells
 
 -- a message that was handled
@@ -83,20 +83,20 @@ pub shows_handled : (layout : Layout) (state : Simulation) (w : World) (number :
     → is_up layout w packet.to ≡ true
     → ShowsBricks layout state.bricks.items
     (put w.nodes packet.to.0 (received (coding layout) packet.to (w.clocks packet.to.0) (w.nodes packet.to.0) packet).node) w.after w.up w.clocks
-    → Tells state.history (after_message (coding layout) w packet)
+    → Tells state.history (after_message (coding layout) w number packet)
     → Shows layout state (happens (coding layout) w (Delivers number))
 shows_handled layout state w number packet sent up bricks history =
     let step : NodeStep = received (coding layout) packet.to (w.clocks packet.to.0) (w.nodes packet.to.0) packet in
-    let v : World = record w { replies = replies_with (coding layout) w packet } in
+    let v : World = record w { replies = replies_with (coding layout) w packet; reached = put w.reached number true } in
     subst (λ (x : World). Shows layout state x) (sym (happens_handled (coding layout) w number packet sent up))
     (record {
-      bricks = subst (λ (f : ℕ → ℕ). ShowsBricks layout state.bricks.items (after_message (coding layout) w packet).nodes
-          (after_message (coding layout) w packet).after (after_message (coding layout) w packet).up f)
+      bricks = subst (λ (f : ℕ → ℕ). ShowsBricks layout state.bricks.items (after_message (coding layout) w number packet).nodes
+          (after_message (coding layout) w number packet).after (after_message (coding layout) w number packet).up f)
           (sym (heard_keeps (coding layout) v packet.to step).clocks)
-          (subst (λ (f : ℕ → Bool). ShowsBricks layout state.bricks.items (after_message (coding layout) w packet).nodes
-          (after_message (coding layout) w packet).after f w.clocks)
+          (subst (λ (f : ℕ → Bool). ShowsBricks layout state.bricks.items (after_message (coding layout) w number packet).nodes
+          (after_message (coding layout) w number packet).after f w.clocks)
           (sym (heard_keeps (coding layout) v packet.to step).up)
-          (subst (λ (f : ℕ → Node). ShowsBricks layout state.bricks.items (after_message (coding layout) w packet).nodes f w.up w.clocks)
+          (subst (λ (f : ℕ → Node). ShowsBricks layout state.bricks.items (after_message (coding layout) w number packet).nodes f w.up w.clocks)
           (sym (heard_keeps (coding layout) v packet.to step).after)
           bricks));
       history = history;

@@ -1,5 +1,5 @@
 -- Which events of the machine a line of a schedule is, where a call of a disk may be cut short or fail in the midst of it.
-use Rattle.std.specs.Prelude.{◌≡◌, ◌⊎◌, ℕ, ◌+◌, ◌<◌, ◌≤◌, ◌&&◌, Bool, true, false, not, List, [], ◌∷◌, Option, Some, None, slice_get}
+use Rattle.std.specs.Prelude.{◌≡◌, ◌⊎◌, ℕ, ◌+◌, ◌<◌, ◌≤◌, ◌&&◌, Bool, true, false, not, List, [], ◌∷◌, map, Option, Some, None, slice_get}
 use Rattle.fab_base.specs.declared.identities.BrickId.{BrickId}
 use Rattle.fab_base.specs.Layouts.{Layout}
 use Rattle.fab_disk.specs.declared.disk.Plan.{Plan}
@@ -21,11 +21,12 @@ use Rattle.node.specs.Running.{shape_at, ImageShows, ShowsEither, reopened}
 use Rattle.lines.specs.declared.forms.Fault.{Fault}
 use Rattle.lines.specs.declared.forms.Fault.TheVariants.{Cut, Fail}
 use Rattle.lines.specs.declared.forms.Line.{Line}
-use Rattle.lines.specs.declared.forms.Line.TheVariants.{Deliver, Crash, Start}
+use Rattle.lines.specs.declared.forms.Line.TheVariants.{Deliver, Crash, Start, Calm}
 use Rattle.stripe_code.specs.Codes.{coding}
 use Rattle.protocol.specs.Nodes.{Node, absorbed, stopped, may_open}
 use Rattle.protocol.specs.Worlds.{World, Event, Delivers, Stops, Starts, Found, Before, After, is_brick, is_up, packet_of}
 use Rattle.world.specs.Runs.{brick_of, events_of}
+use Rattle.world.specs.Calms.{IsCalmRun}
 
 -- what is to befall a call of the disk
 abbrev pub plan_of : Option Fault → Plan
@@ -185,4 +186,5 @@ abbrev pub IsEventsOf : Layout → World → List MemDisk → List MemDisk → L
 IsEventsOf layout w old new (Deliver k fault) events = IsDeliveryOf layout w old new k fault events
 IsEventsOf layout w old new (Crash b) events = (events ≡ Stops (brick_of b) None ∷ []) × (new ≡ old)
 IsEventsOf layout w old new (Start b fault) events = IsStartOf layout w old new (brick_of b) fault events
+IsEventsOf layout w old new (Calm n bricks) events = IsCalmRun (coding layout) w n (map brick_of bricks) events
 IsEventsOf layout w old new line events = events ≡ events_of line

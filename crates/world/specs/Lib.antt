@@ -1,4 +1,6 @@
 pub mod Runs
+pub mod Calms
+pub mod Ledgers
 pub mod Faults
 pub mod Disks
 pub mod Texts

@@ -10,7 +10,7 @@ use Rattle.fab_disk.specs.declared.mem_disk.MemDisk.{MemDisk}
 use Rattle.lines.specs.declared.forms.Access.{Access}
 use Rattle.lines.specs.declared.forms.Access.TheVariants.{ReadBlock, WriteBlock, ReadStripe, WriteStripe}
 use Rattle.lines.specs.declared.forms.Line.{Line}
-use Rattle.lines.specs.declared.forms.Line.TheVariants.{Nothing, Invoke, Deliver, SetClock, Tick, Crash, Start}
+use Rattle.lines.specs.declared.forms.Line.TheVariants.{Nothing, Invoke, Deliver, SetClock, Tick, Crash, Start, Calm}
 use Rattle.fab_base.specs.Layouts.{Layout}
 use Rattle.protocol.specs.Settings.{Setting}
 use Rattle.protocol.specs.Nodes.{refusal_of}
@@ -47,7 +47,8 @@ op_of (WriteBlock j bytes) = op.WriteBlock (block_no j) bytes
 op_of ReadStripe = op.ReadStripe
 op_of (WriteStripe bytes) = op.WriteStripe bytes
 
--- the events of a line of which no disk decides: a brick stops during no handling, and one that is not down does not start
+-- The events of a line of which no disk decides: a brick stops during no handling, and one that is not down does not start. An operation that is
+-- to run alone does not.
 abbrev pub events_of : Line → List Event
 events_of Nothing = []
 events_of (Invoke b g s access) = Invokes (brick_of b) (ask_of g s (op_of access)) ∷ []
@@ -56,6 +57,7 @@ events_of (SetClock b v) = Sets (brick_of b) v ∷ []
 events_of (Tick b) = Ticks (brick_of b) ∷ []
 events_of (Crash b) = Stops (brick_of b) None ∷ []
 events_of (Start b fault) = Starts (brick_of b) 1 Before ∷ []
+events_of (Calm n bricks) = []
 
 -- the events of steps, in order
 abbrev pub all_events : List Step → List Event

@@ -1,5 +1,5 @@
 -- What a world keeps, and the machine's world that it shows.
-use Rattle.std.specs.Prelude.{◌≡◌, ◌⊎◌, ℕ, ◌+◌, ◌<◌, ◌≤◌, Bool, true, false, nat_eq, if◌then◌else◌, List, [], ◌∷◌, length, map, Option, Some, None, Result, Ok, Err, slice_get, vec_len, vec_capacity}
+use Rattle.std.specs.Prelude.{◌≡◌, ◌⊎◌, ℕ, ◌+◌, ◌<◌, ◌≤◌, Bool, true, false, not, nat_eq, if◌then◌else◌, List, [], ◌∷◌, length, map, Option, Some, None, is_some, Result, Ok, Err, slice_get, vec_len, vec_capacity}
 use Rattle.std.specs.declared.cmp.Ordering.{Ordering}
 use Rattle.std.specs.Ordering.{nat_cmp, ordering_then}
 use Rattle.std.specs.BTreeMap.{get}
@@ -8,18 +8,18 @@ use Rattle.std.specs.Option.{option_map}
 use Rattle.fab_base.specs.declared.faults.NoMem.{NoMem}
 use Rattle.fab_base.specs.declared.identities.BrickId.{BrickId}
 use Rattle.fab_base.specs.declared.stamps.Stamp.{Stamp}
-use Rattle.fab_disk.specs.MemDisk.{IsSound}
+use Rattle.fab_disk.specs.MemDisk.{IsSound, content_of}
 use Rattle.fab_disk.specs.declared.mem_disk.MemDisk.{MemDisk}
 use Rattle.brick_store.specs.Calls.{opening_calls}
 use Rattle.brick_store.specs.Openings.{opens_appendable}
 use Rattle.node.specs.Running.{Running, state_of, shape_at}
-use Rattle.fab_base.specs.Layouts.{Layout}
+use Rattle.fab_base.specs.Layouts.{Layout, Group}
 use Rattle.protocol.specs.Coordinators.{Coordinator}
 use Rattle.protocol.specs.Nodes as machine
 use Rattle.protocol.specs.declared.tellings.Answered.{Answered}
 use Rattle.protocol.specs.declared.tellings.Told.{Told}
 use Rattle.protocol.specs.declared.tellings.Told.TheVariants as told
-use Rattle.protocol.specs.Worlds.{World, Operation, is_up, number_of, run}
+use Rattle.protocol.specs.Worlds.{World, Operation, is_up, number_of, first_world, run}
 use Rattle.protocol.specs.Happenings.{writes}
 use Rattle.protocol.specs.Settings.{Setting}
 use Rattle.protocol.specs.Worlds.{Event}
@@ -28,11 +28,17 @@ use Rattle.world.specs.Faults.{HoldsOne, IsEventsOf, IsStartOf, IsLeft, IsLeftOp
 use Rattle.world.specs.Disks.{ShowsDisk, KeepsOthers, KeepsDisks}
 use Rattle.lines.specs.declared.forms.Fault.{Fault}
 use Rattle.lines.specs.declared.forms.Line.{Line}
+use Rattle.lines.specs.declared.forms.Line.TheVariants.{Calm}
 use Rattle.messages.specs.declared.packets.Packet.{Packet}
 use Rattle.coord_phase.specs.Messages.{packets_from}
 use Rattle.node.specs.Outcomes.{Outcome as Sent}
 use Rattle.stripe_code.specs.Codes.{coding}
-use Rattle.world.specs.Texts.{outcome_of}
+use Rattle.protocol.specs.Calms.{IsEarly, RunsAlone, early, open_call}
+use Rattle.world.specs.Calms.{BeginsCalm, BeginsAlone}
+use Rattle.world.specs.Ledgers.{Notes, origin_at}
+use Rattle.world.specs.declared.ledgers.Ledger.{Ledger}
+use Rattle.world.specs.declared.ledgers.Origin.{Origin}
+use Rattle.world.specs.Texts.{outcome_of, outcome_text, new_marks, line_text}
 use Rattle.world.specs.declared.simulations.Outcome.{Outcome}
 use Rattle.world.specs.declared.simulations.Outcome.TheVariants.{Marks, Idle}
 use Rattle.world.specs.declared.histories.History.{History}
@@ -252,6 +258,10 @@ pub record HasStepRoom (history : History) : Type 0 where
   pub marks : vec_len history.marks < vec_capacity history.marks
   pub operations : vec_len history.operations < vec_capacity history.operations
 
+-- a schedule of events reaches the world
+abbrev pub IsReachedBy : Layout → World → Type 0
+IsReachedBy layout w = (events : List Event) × (w ≡ run (coding layout) events (first_world layout))
+
 -- each open call knows its number, and is one of the brick's calls so far
 abbrev pub IsNumbered : World → Type 0
 IsNumbered w = (i k : ℕ) (c : Coordinator) → (w.nodes i).calls k ≡ Some c → (c.call.seq ≡ k) × (1 ≤ k) × (k ≤ (w.nodes i).seq)
@@ -271,6 +281,11 @@ AreTold node told = AllByRecursion (λ one. IsOfCall node (told_call one)) told
 
 abbrev pub AreAnswered : machine.Node → List Answered → Type 0
 AreAnswered node answers = AllByRecursion (λ one. IsOfCall node one.seq) answers
+
+-- the operation of the one call that is answered, if one is
+abbrev pub EndedIs : World → BrickId → List Answered → Option ℕ → Type 0
+EndedIs w brick [] ended = ended ≡ None
+EndedIs w brick (one ∷ answers) ended = ended ≡ Some (number_of w brick.0 one.seq)
 
 -- what events that are none or one come to
 abbrev pub came_to : Setting → World → List Event → Outcome
@@ -293,5 +308,93 @@ pub record ComesTo (layout : Layout) (w : World) (disks : List MemDisk) (state :
     (events : List Event) : Type 0 where
   pub are : IsEventsOf layout w disks (disks_of state.bricks.items) line events
   pub shows : Shows layout state (run (coding layout) events w)
-  pub comes : outcome ≡ came_to (coding layout) w events
+  pub prints : outcome_text outcome (new_marks w (run (coding layout) events w)) ≡ line_text (coding layout) w line events
+  pub kept : KeepsDisks (coding layout) w events disks (disks_of state.bricks.items)
+
+-- the events are the first of a line's: it is one that has an operation run alone, and was not run to its end
+abbrev pub IsBegunBy : Layout → World → Line → List Event → Type 0
+IsBegunBy layout w (Calm n bricks) events = BeginsCalm (coding layout) w n (map brick_of bricks) events
+IsBegunBy layout w line events = ⊥
+
+-- a line came to this outcome, and is some events, after which the ledger notes the world too
+abbrev pub Comes : Layout → World → List MemDisk → Simulation → Line → Outcome → Type 0
+Comes layout w disks state line outcome =
+    (events : List Event) × ComesTo layout w disks state line outcome events × Notes state.ledger (run (coding layout) events w)
+
+-- the ledger notes the world after events, where it noted the world before
+abbrev pub NotesOn : Layout → World → Ledger → List Event → Ledger → Type 0
+NotesOn layout w old events new = Notes old w → Notes new (run (coding layout) events w)
+
+-- No memory was left for a line: the state shows the world as it was, and a read of each disk gives what it gave; or an operation began to run alone.
+pub record StopsAt (layout : Layout) (w : World) (disks : List MemDisk) (state : Simulation) (line : Line) (events : List Event) : Type 0 where
+  pub are : IsBegunBy layout w line events
+  pub shows : Shows layout state (run (coding layout) events w)
+  pub kept : KeepsDisks (coding layout) w events disks (disks_of state.bricks.items)
+
+pub record StaysAt (layout : Layout) (w : World) (disks : List MemDisk) (state : Simulation) : Type 0 where
+  pub shows : Shows layout state w
+  pub contents : map content_of (disks_of state.bricks.items) ≡ map content_of disks
+
+abbrev pub Refused : Layout → World → Simulation → Simulation → Line → Type 0
+Refused layout w old new line =
+    (StaysAt layout w (disks_of old.bricks.items) new × NotesOn layout w old.ledger [] new.ledger)
+    ⊎ ((events : List Event) × StopsAt layout w (disks_of old.bricks.items) new line events × NotesOn layout w old.ledger events new.ledger)
+
+-- the brick of a number was found running, or there is none that is up
+abbrev pub FindsRunning : List Brick → ℕ → Option (Running MemDisk) → Type 0
+FindsRunning bricks number None =
+    (layout : Layout) (w : World) → ShowsBricks layout bricks w.nodes w.after w.up w.clocks → is_up layout w (brick_of number) ≡ false
+FindsRunning bricks number (Some node) =
+    (layout : Layout) (w : World) → ShowsBricks layout bricks w.nodes w.after w.up w.clocks
+    → (is_up layout w (brick_of number) ≡ true) × IsRunning layout (brick_of number) (w.nodes number) node
+
+-- what the clock of the brick of a number reads
+abbrev pub ClockIs : List Brick → ℕ → ℕ → Type 0
+ClockIs bricks number time =
+    (layout : Layout) (w : World) → ShowsBricks layout bricks w.nodes w.after w.up w.clocks → is_up layout w (brick_of number) ≡ true
+    → time ≡ w.clocks number
+
+-- the brick of a number is up, has room for two records more, and its times are early
+pub record IsAble (layout : Layout) (w : World) (number : ℕ) : Type 0 where
+  pub up : is_up layout w (brick_of number) ≡ true
+  pub room : (w.nodes number).live + 2 ≤ layout.records
+  pub times : IsEarly (w.nodes number)
+
+-- the brick of a number is up, and its clock and its times are early
+pub record IsInTime (layout : Layout) (w : World) (number : ℕ) : Type 0 where
+  pub up : is_up layout w (brick_of number) ≡ true
+  pub clock : w.clocks number < early
+  pub times : IsEarly (w.nodes number)
+
+-- the operation of a number is open, and began there; or it is not open
+abbrev pub OpensAs : Simulation → World → ℕ → Option Origin → Type 0
+OpensAs state w n None = open_call w n ≡ None
+OpensAs state w n (Some origin) = (is_some (open_call w n) ≡ true) × (origin_at state.ledger.origins.items n ≡ Some origin)
+
+-- the group of an operation was found, where it is open
+abbrev pub GroupIs : Layout → World → ℕ → Option Group → Type 0
+GroupIs layout w n found = (c : Coordinator) → open_call w n ≡ Some c → found ≡ Some c.group
+
+-- no event
+abbrev pub is_empty : List Event → Bool
+is_empty [] = true
+is_empty (event ∷ events) = false
+
+-- An operation ran alone among these bricks: these are its deliveries, and the state shows the world that they leave.
+pub record HasRun (layout : Layout) (w : World) (n : ℕ) (bricks : List BrickId) (disks : List MemDisk) (state : Simulation) (some : Bool) : Type 0 where
+  pub events : List Event
+  pub some_is : some ≡ not (is_empty events)
+  pub last : World
+  pub runs : RunsAlone (coding layout) n bricks w events last
+  pub shows : Shows layout state last
+  pub notes : Notes state.ledger last
+  pub kept : KeepsDisks (coding layout) w events disks (disks_of state.bricks.items)
+
+-- so it began to
+pub record HasBegun (layout : Layout) (w : World) (n : ℕ) (bricks : List BrickId) (disks : List MemDisk) (state : Simulation) : Type 0 where
+  pub events : List Event
+  pub last : World
+  pub begins : BeginsAlone (coding layout) n bricks w events last
+  pub shows : Shows layout state last
+  pub notes : Notes state.ledger last
   pub kept : KeepsDisks (coding layout) w events disks (disks_of state.bricks.items)

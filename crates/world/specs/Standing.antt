@@ -1,5 +1,6 @@
 -- What a world always keeps.
 use Rattle.world.specs.Runs.{Run, world_of}
+use Rattle.world.specs.Ledgers.{Notes}
 use Rattle.world.specs.Shown.{Shows, disks_of}
 use Rattle.world.specs.declared.worlds.World.TheInside.{Inside}
 
@@ -7,6 +8,7 @@ use Rattle.world.specs.declared.worlds.World.TheInside.{Inside}
 abbrev pub run_of : Inside → Run
 run_of inside = record { layout = inside.layout; steps = inside.trail.steps; disks = disks_of inside.simulation.bricks.items }
 
--- its state shows the world that its run leaves
+-- its state shows the world that its run leaves, and its ledger notes it
 pub record IsStanding (inside : Inside) : Type 0 where
   pub shows : Shows inside.layout inside.simulation (world_of (run_of inside))
+  pub notes : Notes inside.simulation.ledger (world_of (run_of inside))

@@ -12,8 +12,8 @@ use Rattle.protocol.specs.Worlds.{is_up}
 use Rattle.world.specs.Runs.{Run, Step, world_of, brick_of}
 use Rattle.world.specs.Faults.{IsEventsOf}
 use Rattle.world.specs.Disks.{KeepsDisks}
-use Rattle.world.specs.Texts.{text_of}
-use Rattle.world.specs.Shown.{came_to}
+use Rattle.world.specs.Shown.{IsBegunBy}
+use Rattle.world.specs.Texts.{outcome_text, new_marks, line_text, step_text}
 use Rattle.world.specs.declared.simulations.Outcome.{Outcome}
 use Rattle.world.specs.declared.worlds.StepFault.{StepFault}
 use Rattle.world.specs.declared.worlds.StepFault.TheVariants.{BadLine, NoMemory}
@@ -29,11 +29,11 @@ pub record Runs (old new : Run) (line : Line) (step : Step) : Type 0 where
   pub run : new ≡ with_step old step new.disks
   pub disks : KeepsDisks (coding old.layout) (world_of old) step.events old.disks new.disks
 
--- a step of this line was run, and came to this
+-- a step of this line was run, and what it came to, with the marks that were made, is printed so
 pub record RunsTo (old new : Run) (line : Line) (outcome : Outcome) : Type 0 where
   pub step : Step
   pub runs : Runs old new line step
-  pub comes : outcome ≡ came_to (coding old.layout) (world_of old) step.events
+  pub prints : outcome_text outcome (new_marks (world_of old) (world_of new)) ≡ line_text (coding old.layout) (world_of old) line step.events
 
 -- the line that the content says was run, and the text is what it prints
 pub record Ran (old new : Run) (content text : List ℕ) : Type 0 where
@@ -41,7 +41,7 @@ pub record Ran (old new : Run) (content text : List ℕ) : Type 0 where
   pub is_line : line_of content ≡ Some line
   pub step : Step
   pub runs : Runs old new line step
-  pub text_is : text ≡ text_of (coding old.layout) (world_of old) step.events
+  pub text_is : text ≡ step_text (coding old.layout) (world_of old) step
 
 -- no step was run, and a read of each disk gives what it gave
 pub record IsAsBefore (old new : Run) : Type 0 where
@@ -49,12 +49,25 @@ pub record IsAsBefore (old new : Run) : Type 0 where
   pub steps : new.steps ≡ old.steps
   pub contents : map content_of new.disks ≡ map content_of old.disks
 
--- what a step that answers no text leaves: no line changes nothing; for want of memory nothing was run, or only the text is missing
+-- A step of this line was run, but not to its end.
+pub record RunsPartly (old new : Run) (line : Line) (step : Step) : Type 0 where
+  pub line_is : step.line ≡ line
+  pub events_are : IsBegunBy old.layout (world_of old) line step.events
+  pub run : new ≡ with_step old step new.disks
+  pub disks : KeepsDisks (coding old.layout) (world_of old) step.events old.disks new.disks
+
+-- What a line leaves for which no memory was left: nothing was run, or some of it.
+abbrev pub LeavesSome : Run → Run → Line → Type 0
+LeavesSome old new line = IsAsBefore old new ⊎ ((step : Step) × RunsPartly old new line step)
+
+-- What a step that answers no text leaves: no line changes nothing; for want of memory nothing was run, or only the text is missing, or the rest of
+-- what an operation was to do alone is, and the text.
 abbrev pub Stands : Run → Run → List ℕ → Result (List ℕ) StepFault → Type 0
 Stands old new content (Ok text) = Unit {0}
 Stands old new content (Err BadLine) = new ≡ old
 Stands old new content (Err NoMemory) =
-    IsAsBefore old new ⊎ ((line : Line) × (step : Step) × (line_of content ≡ Some line) × Runs old new line step)
+    IsAsBefore old new
+    ⊎ ((line : Line) × (step : Step) × (line_of content ≡ Some line) × (Runs old new line step ⊎ RunsPartly old new line step))
 
 -- a stripe of the group
 abbrev pub is_stripe : Option Group → ℕ → Bool

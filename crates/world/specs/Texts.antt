@@ -17,7 +17,9 @@ use Rattle.reg_model.specs.declared.marks.Mark.TheVariants.{Begin, End}
 use Rattle.messages.specs.declared.packets.Packet.{Packet}
 use Rattle.protocol.specs.Settings.{Setting}
 use Rattle.protocol.specs.Worlds.{World, Event, Invokes, Delivers, Sets, Ticks, Stops, Starts, is_brick, is_up, may_start, packet_of, happens}
-use Rattle.world.specs.Runs.{refusal_at}
+use Rattle.lines.specs.declared.forms.Line.{Line}
+use Rattle.lines.specs.declared.forms.Line.TheVariants.{Calm}
+use Rattle.world.specs.Runs.{Step, refusal_at}
 use Rattle.world.specs.declared.simulations.Outcome.{Outcome}
 use Rattle.world.specs.declared.simulations.Outcome.TheVariants.{Marks, Refused, Idle}
 
@@ -120,3 +122,16 @@ event_text setting w event = outcome_text (outcome_of setting w event) (new_mark
 abbrev pub text_of : Setting → World → List Event → List ℕ
 text_of setting w [] = []
 text_of setting w (event ∷ events) = event_text setting w event ++ text_of setting (happens setting w event) events
+
+-- what a line prints that is no event: where an operation was to run alone, that there was nothing to do
+abbrev pub empty_text : Line → List ℕ
+empty_text (Calm n bricks) = idle_text
+empty_text line = []
+
+-- what a line prints that is these events
+abbrev pub line_text : Setting → World → Line → List Event → List ℕ
+line_text setting w line [] = empty_text line
+line_text setting w line (event ∷ events) = text_of setting w (event ∷ events)
+
+abbrev pub step_text : Setting → World → Step → List ℕ
+step_text setting w step = line_text setting w step.line step.events

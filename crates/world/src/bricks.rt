@@ -255,6 +255,17 @@ pub fn next_of(bricks: &[Brick], number: BrickId) -> Option<u64>
     }
 }
 
+/// How often the store of a brick that is up was opened.
+pub fn boot_of(bricks: &[Brick], number: BrickId) -> u32
+    requires { (layout : _) × IsUp layout bricks.now number }
+    ensures { (layout : _) (w : World) → ShowsBricks layout bricks.now w.nodes w.after w.up w.clocks → result ≡ (w.nodes number.0).boot }
+{
+    match &bricks[number.0 as usize].power {
+        Power::Up(node) => node.boot(),
+        Power::Down(_) => unreachable!(),
+    }
+}
+
 /// A brick that is up is asked for an operation. After a refusal of any kind no brick has changed.
 pub fn ask_brick(bricks: &mut Vec<Brick>, number: BrickId, ask: &Ask) -> Result<Begun, NodeFault>
     requires { (layout : _) × IsUp layout bricks.old.items number }

@@ -150,7 +150,7 @@ impl History {
     ghost use Rattle.protocol.specs.Nodes.{NodeStep};
     ghost use Rattle.protocol.specs.Nodes.{put as changed};
     ghost use Rattle.protocol.specs.Worlds.{World, first_world, number_of, world_began, world_stepped, world_stopped, world_tells, world_answers, with_made, with_seen};
-    ghost use Rattle.world.specs.Shown.{Tells, HasStepRoom, pair_cmp, AreTold, AreAnswered};
+    ghost use Rattle.world.specs.Shown.{Tells, HasStepRoom, pair_cmp, AreTold, AreAnswered, EndedIs};
 
     /// Nothing yet.
     pub fn new(alloc: Global) -> History
@@ -210,6 +210,16 @@ impl History {
         match self.numbers.get(&(brick.0, seq)) {
             Some(number) => *number,
             None => 0,
+        }
+    }
+
+    /// The number of the operation that a brick's step answers, if it does.
+    pub fn ended(&self, brick: BrickId, outs: &Outs) -> Option<u64>
+        ensures { (w : World) → Tells self.now w → AreAnswered (w.nodes brick.0) outs.now.answers → EndedIs w brick outs.now.answers result }
+    {
+        match &outs.answer {
+            Some(answered) => Some(self.number(brick, answered.seq)),
+            None => None,
         }
     }
 

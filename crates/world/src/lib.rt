@@ -3,7 +3,9 @@
 #![tactic(auto)]
 
 mod bricks;
+mod calms;
 mod histories;
+mod ledgers;
 mod simulations;
 mod stripe_entries;
 mod texts;

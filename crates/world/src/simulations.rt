@@ -6,10 +6,11 @@ ghost use Rattle.protocol.specs.Nodes.{refusal_of};
 ghost use Rattle.world.specs.Runs.{ask_of, block_no, op_of};
 
 use crate::bricks::{
-    Brick, ask_brick, find_up, fresh_bricks, hand_over, next_of, start_brick, stop_brick,
+    Brick, ask_brick, boot_of, find_up, fresh_bricks, hand_over, next_of, start_brick, stop_brick,
     tick_brick,
 };
 use crate::histories::{History, packet_at};
+use crate::ledgers::Ledger;
 use fab_base::{Ask, BrickId, GroupId, NoMem, Op, Refusal, StripeNo};
 use layout::Layout;
 use lines::{Access, Fault, Line};
@@ -21,6 +22,7 @@ use std::alloc::Global;
 pub struct Simulation {
     pub bricks: Vec<Brick>,
     pub history: History,
+    pub ledger: Ledger,
 }
 
 /// What a line comes to.
@@ -75,32 +77,38 @@ fn op_of(alloc: Global, access: &Access) -> Result<Op, NoMem>
 impl Simulation {
     ghost use Rattle.std.specs.Prelude.{◌≡◌, true, List, None, map, vec_len, IfOk, OnOk, OnErr};
     ghost use Rattle.fab_disk.specs.MemDisk.{content_of};
-    ghost use Rattle.protocol.specs.Worlds.{World, Event, first_world, happens, is_brick, is_up};
+    ghost use Rattle.protocol.specs.Worlds.{World, first_world, happens, is_brick, is_up};
     ghost use Rattle.protocol.specs.Worlds.Event.{Invokes, Sets, Ticks, Stops};
-    ghost use Rattle.lines.specs.declared.forms.Line.TheVariants.{Deliver, Start};
+    ghost use Rattle.protocol.specs.Calms.{IsCalm};
+    ghost use Rattle.lines.specs.declared.forms.Line.TheVariants.{Deliver, Start, Calm};
     ghost use Rattle.stripe_code.specs.Codes.{coding};
     ghost use Rattle.world.specs.Runs.{brick_of, ask_of, op_of, refusal_at};
-    ghost use Rattle.world.specs.Shown.{AreNodesOf, Shows, ComesTo, IsUp, IsNumbered, disks_of};
+    ghost use Rattle.world.specs.Shown.{AreNodesOf, Shows, Comes, Refused, HasRun, HasBegun, IsUp, IsReachedBy, disks_of};
+    ghost use Rattle.world.specs.Ledgers.{Notes};
     ghost use Rattle.world.specs.Texts.{refused_or_begun, marks_if};
 
     /// All bricks up, their stores fresh, their clocks at 0, and nothing sent.
     pub fn new(alloc: Global, layout: &Layout) -> Result<Simulation, NoMem>
-        ensures { IfOk result (λ state. Shows layout.now state (first_world layout.now)) }
+        ensures shows { IfOk result (λ state. Shows layout.now state (first_world layout.now)) }
+        ensures notes { IfOk result (λ state. Notes state.ledger (first_world layout.now)) }
     {
         Ok(Simulation {
             bricks: fresh_bricks(alloc, layout)?,
             history: History::new(alloc),
+            ledger: Ledger::new(alloc),
         })
     }
 
-    /// Runs a line. After a refusal for want of memory the state shows what it showed.
+    /// Runs a line. After a refusal for want of memory the state shows what it showed, or what the first deliveries of an operation that runs alone
+    /// leave.
     pub fn run(&mut self, alloc: Global, layout: &Layout, line: &Line) -> Result<Outcome, NoMem>
         requires nodes { AreNodesOf layout.now self.old.bricks.items }
         requires bricks { vec_len self.old.bricks ≡ layout.now.bricks }
-        ensures comes { IfOk result (λ outcome. (w : World) → IsNumbered w → Shows layout.now self.old w → (events : List Event)
-            × ComesTo layout.now w (disks_of self.old.bricks.items) self.new line.now outcome events) }
-        ensures contents { OnErr result (map content_of (disks_of self.new.bricks.items) ≡ map content_of (disks_of self.old.bricks.items)) }
-        ensures err { OnErr result ((w : World) → Shows layout.now self.old w → Shows layout.now self.new w) }
+        requires shows { (w : World) × IsReachedBy layout.now w × Shows layout.now self.old w × Notes self.old.ledger w }
+        ensures comes { IfOk result (λ outcome. (w : World) → IsReachedBy layout.now w → Shows layout.now self.old w → Notes self.old.ledger w
+            → Comes layout.now w (disks_of self.old.bricks.items) self.new line.now outcome) }
+        ensures err { OnErr result ((w : World) → IsReachedBy layout.now w → Shows layout.now self.old w → Notes self.old.ledger w
+            → Refused layout.now w self.old self.new line.now) }
     {
         match line {
             Line::Nothing => Ok(Outcome::Marks),
@@ -115,6 +123,9 @@ impl Simulation {
             Line::Tick { brick } => self.tick(layout, *brick),
             Line::Crash { brick } => self.crash(alloc, layout, *brick),
             Line::Start { brick, fault } => self.start(alloc, layout, *brick, *fault),
+            Line::Calm { operation, bricks } => {
+                self.calm(alloc, layout, *operation, bricks.as_slice())
+            }
         }
     }
 
@@ -134,7 +145,10 @@ impl Simulation {
             → Shows layout.now self.new (happens (coding layout.now) w (Invokes (brick_of brick) (ask_of group stripe (op_of access.now))))) }
         ensures outcome { IfOk result (λ outcome. (w : World) → Shows layout.now self.old w
             → outcome ≡ refused_or_begun (refusal_at (coding layout.now) w (brick_of brick) (ask_of group stripe (op_of access.now)))) }
+        ensures notes { OnOk result ((w : World) → IsReachedBy layout.now w → Shows layout.now self.old w → Notes self.old.ledger w
+            → Notes self.new.ledger (happens (coding layout.now) w (Invokes (brick_of brick) (ask_of group stripe (op_of access.now))))) }
         ensures err { OnErr result ((w : World) → Shows layout.now self.old w → Shows layout.now self.new w) }
+        ensures kept { OnErr result ((w : World) → Notes self.old.ledger w → Notes self.new.ledger w) }
         ensures disks { disks_of self.new.bricks.items ≡ disks_of self.old.bricks.items }
     {
         let brick = match find_up(&self.bricks, layout, brick) {
@@ -156,14 +170,20 @@ impl Simulation {
             → Shows layout.now self.new (happens (coding layout.now) w (Invokes brick ask))) }
         ensures outcome { IfOk result (λ outcome. (w : World) → Shows layout.now self.old w
             → outcome ≡ refused_or_begun (refusal_at (coding layout.now) w brick ask)) }
+        ensures notes { OnOk result ((w : World) → IsReachedBy layout.now w → Shows layout.now self.old w → Notes self.old.ledger w
+            → Notes self.new.ledger (happens (coding layout.now) w (Invokes brick ask))) }
         ensures err { OnErr result ((w : World) → Shows layout.now self.old w → Shows layout.now self.new w) }
+        ensures kept { OnErr result ((w : World) → Notes self.old.ledger w → Notes self.new.ledger w) }
         ensures disks { disks_of self.new.bricks.items ≡ disks_of self.old.bricks.items }
     {
         let next = next_of(&self.bricks, brick);
+        let boot = boot_of(&self.bricks, brick);
         self.history.expect_call(brick, next)?;
+        self.ledger.make_room()?;
         match ask_brick(&mut self.bricks, brick, &ask) {
             Ok(begun) => {
                 self.history.begin(brick, ask, begun.messages);
+                self.ledger.begin(brick, boot, begun.seq);
                 Ok(Outcome::Marks)
             }
             Err(NodeFault::Refused(refusal)) => Ok(Outcome::Refused(refusal)),
@@ -182,9 +202,10 @@ impl Simulation {
     ) -> Result<Outcome, NoMem>
         requires nodes { AreNodesOf layout.now self.old.bricks.items }
         requires bricks { vec_len self.old.bricks ≡ layout.now.bricks }
-        ensures comes { IfOk result (λ outcome. (w : World) → IsNumbered w → Shows layout.now self.old w → (events : List Event)
-            × ComesTo layout.now w (disks_of self.old.bricks.items) self.new (Deliver message fault) outcome events) }
+        ensures comes { IfOk result (λ outcome. (w : World) → IsReachedBy layout.now w → Shows layout.now self.old w → Notes self.old.ledger w
+            → Comes layout.now w (disks_of self.old.bricks.items) self.new (Deliver message fault) outcome) }
         ensures contents { OnErr result (map content_of (disks_of self.new.bricks.items) ≡ map content_of (disks_of self.old.bricks.items)) }
+        ensures kept { OnErr result ((w : World) → Notes self.old.ledger w → Notes self.new.ledger w) }
         ensures err { OnErr result ((w : World) → Shows layout.now self.old w → Shows layout.now self.new w) }
     {
         self.history.make_room()?;
@@ -196,12 +217,15 @@ impl Simulation {
             Some(to) => to,
             None => return Ok(Outcome::Idle),
         };
+        self.ledger.expect_delivery(message)?;
         match hand_over(&mut self.bricks, alloc, to, packet, fault)? {
             Some(outs) => {
+                self.ledger.handle(message, self.history.ended(to, &outs));
                 self.history.step(to, outs);
                 Ok(Outcome::Marks)
             }
             None => {
+                self.ledger.handle(message, None);
                 self.history.crash(to);
                 Ok(Outcome::Marks)
             }
@@ -216,6 +240,7 @@ impl Simulation {
         ensures outcome { result ≡ marks_if (is_brick layout.now (brick_of brick)) }
         ensures history { self.new.history ≡ self.old.history }
         ensures disks { disks_of self.new.bricks.items ≡ disks_of self.old.bricks.items }
+        ensures ledger { self.new.ledger ≡ self.old.ledger }
     {
         if brick >= u64::from(layout.bricks()) {
             return Outcome::Idle;
@@ -235,6 +260,7 @@ impl Simulation {
             → outcome ≡ marks_if (is_up layout.now w (brick_of brick))) }
         ensures err { OnErr result ((w : World) → Shows layout.now self.old w → Shows layout.now self.new w) }
         ensures disks { disks_of self.new.bricks.items ≡ disks_of self.old.bricks.items }
+        ensures ledger { self.new.ledger ≡ self.old.ledger }
     {
         let brick = match find_up(&self.bricks, layout, brick) {
             Some(brick) => brick,
@@ -255,6 +281,7 @@ impl Simulation {
             → outcome ≡ marks_if (is_up layout.now w (brick_of brick))) }
         ensures err { OnErr result ((w : World) → Shows layout.now self.old w → Shows layout.now self.new w) }
         ensures disks { disks_of self.new.bricks.items ≡ disks_of self.old.bricks.items }
+        ensures ledger { self.new.ledger ≡ self.old.ledger }
     {
         let brick = match find_up(&self.bricks, layout, brick) {
             Some(brick) => brick,
@@ -276,10 +303,11 @@ impl Simulation {
     ) -> Result<Outcome, NoMem>
         requires nodes { AreNodesOf layout.now self.old.bricks.items }
         requires bricks { vec_len self.old.bricks ≡ layout.now.bricks }
-        ensures comes { IfOk result (λ outcome. (w : World) → Shows layout.now self.old w → (events : List Event)
-            × ComesTo layout.now w (disks_of self.old.bricks.items) self.new (Start brick fault) outcome events) }
+        ensures comes { IfOk result (λ outcome. (w : World) → IsReachedBy layout.now w → Shows layout.now self.old w → Notes self.old.ledger w
+            → Comes layout.now w (disks_of self.old.bricks.items) self.new (Start brick fault) outcome) }
         ensures contents { OnErr result (map content_of (disks_of self.new.bricks.items) ≡ map content_of (disks_of self.old.bricks.items)) }
         ensures err { OnErr result ((w : World) → Shows layout.now self.old w → Shows layout.now self.new w) }
+        ensures ledger { self.new.ledger ≡ self.old.ledger }
     {
         if brick >= u64::from(layout.bricks()) {
             return Ok(Outcome::Idle);
@@ -295,5 +323,62 @@ impl Simulation {
         } else {
             Ok(Outcome::Idle)
         }
+    }
+
+    /// Has an operation run alone among these bricks until it has ended, where it may.
+    fn calm(
+        &mut self,
+        alloc: Global,
+        layout: &Layout,
+        operation: u64,
+        bricks: &[u64],
+    ) -> Result<Outcome, NoMem>
+        requires { (w : World) × IsReachedBy layout.now w × Shows layout.now self.old w × Notes self.old.ledger w }
+        ensures calm { IfOk result (λ outcome. (w : World) → IsReachedBy layout.now w → Shows layout.now self.old w → Notes self.old.ledger w
+            → Comes layout.now w (disks_of self.old.bricks.items) self.new (Calm operation bricks.now) outcome) }
+        ensures cut { OnErr result ((w : World) → IsReachedBy layout.now w → Shows layout.now self.old w → Notes self.old.ledger w
+            → IsCalm (coding layout.now) w operation (map brick_of bricks.now)
+            × HasBegun layout.now w operation (map brick_of bricks.now) (disks_of self.old.bricks.items) self.new) }
+    {
+        if !self.is_calm(layout, operation, bricks) {
+            return Ok(Outcome::Idle);
+        }
+        if self.run_alone(alloc, layout, operation, bricks)? {
+            Ok(Outcome::Marks)
+        } else {
+            Ok(Outcome::Idle)
+        }
+    }
+
+    /// Makes the deliveries of an operation that runs alone among these bricks. Answers whether there was one.
+    fn run_alone(
+        &mut self,
+        alloc: Global,
+        layout: &Layout,
+        operation: u64,
+        bricks: &[u64],
+    ) -> Result<bool, NoMem>
+        requires { (w : World) × IsReachedBy layout.now w × Shows layout.now self.old w × Notes self.old.ledger w }
+        ensures run { IfOk result (λ some. (w : World) → IsReachedBy layout.now w → Shows layout.now self.old w → Notes self.old.ledger w
+            → IsCalm (coding layout.now) w operation (map brick_of bricks.now)
+            → HasRun layout.now w operation (map brick_of bricks.now) (disks_of self.old.bricks.items) self.new some) }
+        ensures cut { OnErr result ((w : World) → IsReachedBy layout.now w → Shows layout.now self.old w → Notes self.old.ledger w
+            → IsCalm (coding layout.now) w operation (map brick_of bricks.now)
+            → HasBegun layout.now w operation (map brick_of bricks.now) (disks_of self.old.bricks.items) self.new) }
+    {
+        let mut from = 0;
+        let mut some = false;
+        while let Some(origin) = self.open_origin(operation) {
+            let Some(place) = self
+                .ledger
+                .next_left(&self.history.sent, origin, bricks, from)
+            else {
+                return Ok(some);
+            };
+            self.deliver(alloc, layout, place as u64 + 1, None)?;
+            from = place + 1;
+            some = true;
+        }
+        Ok(some)
     }
 }

@@ -39,7 +39,7 @@ returns-clause-shows c w shows =
     let found =
     up_at c.args.layout.now _ _ c.args.brick (brick_of c.args.brick) c.in-Some.brick c.deref.ensures.value refl c.in-Some.ensures
     in
-    let state : Simulation = record { bricks = c.stop_brick.new.bricks; history = c.crash.new.self } in
+    let state : Simulation = record { bricks = c.stop_brick.new.bricks; history = c.crash.new.self; ledger = c.args.self.now.ledger } in
     subst (λ (brick : BrickId). Shows c.args.layout.now state (happens (coding c.args.layout.now) w (Stops brick None))) found.0
     (shows_crashed c.args.layout.now state w c.in-Some.brick (found.1.up w shows.bricks) (c.stop_brick.ensures.shows c.args.layout.now w shows.bricks
     (and_parts (is_brick c.args.layout.now c.in-Some.brick) (w.up c.in-Some.brick.0) (found.1.up w shows.bricks)).1)

@@ -6,7 +6,8 @@ use Rattle.fab_base.specs.declared.identities.BrickId.{BrickId}
 use Rattle.stripe_code.specs.Codes.{coding}
 use Rattle.protocol.specs.Worlds.{World, Invokes, is_up, happens}
 use Rattle.world.specs.Runs.{brick_of, ask_of, op_of, refusal_at}
-use Rattle.world.specs.Shown.{Shows}
+use Rattle.world.specs.Ledgers.{Notes}
+use Rattle.world.specs.Shown.{Shows, IsReachedBy}
 use Rattle.world.specs.Texts.{refused_or_begun}
 use Rattle.world.proofs.MachineBegins.{refusal_down, refusal_here, happens_down, happens_refused}
 use Rattle.world.proofs.BrickListLemmas.{down_at, up_at}
@@ -56,6 +57,29 @@ returns-clause-shows c =
     (subst (λ (brick : BrickId). OnOk c.begin.result ((w : World) → Shows c.args.layout.now c.args.self.now w
     → Shows c.args.layout.now c.begin.new.self (happens (coding c.args.layout.now) w (Invokes brick ask)))) found.0
     c.begin.ensures.shows)
+
+pub returns-clause-notes : goal.returns-clause-notes
+returns-clause-notes c =
+    let found =
+    up_at c.args.layout.now _ _ c.args.brick (brick_of c.args.brick) c.in-Some.brick c.deref.ensures.value refl c.in-Some.ensures
+    in
+    let ask : Ask = record { group = c.in-Some-place_of.place.0; stripe = c.in-Some-place_of.place.1; op = c.in_ok-op.op } in
+    subst (λ (x : Ask). OnOk c.begin.result ((w : World) → IsReachedBy c.args.layout.now w → Shows c.args.layout.now c.args.self.now w → Notes c.args.self.now.ledger w
+    → Notes c.begin.new.self.ledger (happens (coding c.args.layout.now) w (Invokes (brick_of c.args.brick) x))))
+    (ask_is ask c.args.group c.args.stripe (op_of c.args.access.now) c.in-Some-place_of.ensures.some.0 c.in-Some-place_of.ensures.some.1 c.in_ok-op.ensures.value)
+    (subst (λ (brick : BrickId). OnOk c.begin.result ((w : World) → IsReachedBy c.args.layout.now w → Shows c.args.layout.now c.args.self.now w → Notes c.args.self.now.ledger w
+    → Notes c.begin.new.self.ledger (happens (coding c.args.layout.now) w (Invokes brick ask)))) found.0
+    c.begin.ensures.notes)
+
+pub returns-in-None-clause-notes : goal.returns-in-None-clause-notes
+returns-in-None-clause-notes c w reached shows notes =
+    subst (λ (v : World). Notes c.args.self.now.ledger v) (sym (happens_down (coding c.args.layout.now) w _ _
+    (down_at c.args.layout.now _ _ c.args.brick (brick_of c.args.brick) c.deref.ensures.value refl c.in-None.ensures w shows.bricks))) notes
+
+pub returns-in-None-place_of-clause-notes : goal.returns-in-None-place_of-clause-notes
+returns-in-None-place_of-clause-notes c w reached shows notes =
+    subst (λ (v : World). Notes c.args.self.now.ledger v)
+    (sym (happens_refused (coding c.args.layout.now) w _ _ _ (c.in-None-place_of.ensures.none _ _))) notes
 
 pub returns-clause-outcome : goal.returns-clause-outcome
 returns-clause-outcome c =

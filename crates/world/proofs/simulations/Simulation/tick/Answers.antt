@@ -40,7 +40,7 @@ returns-clause-shows c w shows =
     let found =
     up_at c.args.layout.now _ _ c.args.brick (brick_of c.args.brick) c.in-Some.brick c.deref.ensures.value refl c.in-Some.ensures
     in
-    let state : Simulation = record { bricks = c.args.self.now.bricks; history = c.send_more.new.self } in
+    let state : Simulation = record { bricks = c.args.self.now.bricks; history = c.send_more.new.self; ledger = c.args.self.now.ledger } in
     subst (λ (brick : BrickId). Shows c.args.layout.now state (happens (coding c.args.layout.now) w (Ticks brick))) found.0
     (shows_ticked c.args.layout.now state w c.in-Some.brick (found.1.up w shows.bricks) shows.bricks
     (subst (λ (sent : List Packet). Tells c.send_more.new.self (record w { packets = w.packets ++ sent }))

@@ -11,4 +11,4 @@ returns-clause-disks c =
     disks_shown c.args.layout state c.new-2.result.steps
     (subst (λ (steps : List Step). Shows c.args.layout state
     (world_of (record { layout = c.args.layout; steps = steps; disks = disks_of state.bricks.items })))
-    (sym c.new-2.ensures) c.in_ok-simulation.ensures)
+    (sym c.new-2.ensures) c.in_ok-simulation.ensures.shows)

@@ -1,0 +1,315 @@
+-- The number of a call is that of an operation of this very call, in every world that a schedule reaches.
+use Rattle.std.proofs.Common.{◌≡◌, ◌≢◌, ℕ, ◌+◌, ◌<◌, ◌≤◌, Bool, true, false, cond, nat_eq, List, [], ◌∷◌, Option, Some, None, refl, sym, ap, ◌∙◌, subst, arith}
+use Rattle.std.proofs.lemmas.Bool.{and_parts, cond_both, eqb-true, eqb-false}
+use Rattle.std.proofs.lemmas.Option.{same_Some}
+use Rattle.fab_base.specs.declared.answers.Answer.{Answer}
+use Rattle.fab_base.specs.declared.stamps.Stamp.{Stamp}
+use Rattle.fab_base.specs.declared.asks.Ask.{Ask}
+use Rattle.fab_base.specs.declared.identities.BrickId.{BrickId}
+use Rattle.messages.specs.declared.packets.Packet.{Packet}
+use Rattle.fab_base.specs.Layouts.{Layout}
+use Rattle.stripe_code.specs.Codes.{coding}
+use Rattle.protocol.specs.Settings.{Setting}
+use Rattle.protocol.specs.declared.tellings.Answered.{Answered}
+use Rattle.protocol.specs.declared.tellings.Told.{Told}
+use Rattle.protocol.specs.declared.tellings.Told.TheVariants.{Made, Seen}
+use Rattle.protocol.specs.Nodes.{NodeStep, put, invoked, received}
+use Rattle.protocol.specs.Worlds.{World, Operation, Event, Invokes, Delivers, Sets, Ticks, Stops, Starts, Found, Before, After, first_world, is_brick, is_up, may_begin, may_start, delivered, number_of, packet_of, replies_with, reached_during, with_made, with_seen, with_answer, with_number, world_began, world_told, world_tells, world_answered, world_answers, world_stepped, world_ticked, world_stopped, world_found, world_started, happens, run}
+use Rattle.world.proofs.Places.{value_here, value_elsewhere}
+
+-- the operation is of this call
+abbrev pub IsOfCallAt : ℕ → ℕ → ℕ → Operation → Type 0
+IsOfCallAt i b k o = (o.brick.0 ≡ i) × (o.boot ≡ b) × (o.seq ≡ k)
+
+-- a call that has a number has that of an operation of it
+abbrev pub NumbersSay : World → Type 0
+NumbersSay w =
+    (i b k : ℕ) → w.numbers i b k ≢ 0
+    → (w.numbers i b k ≤ w.begun) × ((o : Operation) × (w.operations (w.numbers i b k) ≡ Some o) × IsOfCallAt i b k o)
+
+-- the same operations, of the same calls
+abbrev pub SameCall : Operation → Operation → Type 0
+SameCall o p = (p.brick ≡ o.brick) × (p.boot ≡ o.boot) × (p.seq ≡ o.seq)
+
+pub record SameCalls (w v : World) : Type 0 where
+  pub begun : v.begun ≡ w.begun
+  pub numbers : v.numbers ≡ w.numbers
+  pub operations : (n : ℕ) (o : Operation) → w.operations n ≡ Some o → (p : Operation) × (v.operations n ≡ Some p) × SameCall o p
+
+pub same_calls : (w v : World) → v.begun ≡ w.begun → v.numbers ≡ w.numbers → v.operations ≡ w.operations → SameCalls w v
+same_calls w v begun numbers operations = record {
+  begun = begun;
+  numbers = numbers;
+  operations = λ n o is. (o, ap (λ (f : ℕ → Option Operation). f n) operations ∙ is, (refl, refl, refl));
+}
+
+pub same_trans : (w v u : World) → SameCalls w v → SameCalls v u → SameCalls w u
+same_trans w v u first second = record {
+  begun = second.begun ∙ first.begun;
+  numbers = second.numbers ∙ first.numbers;
+  operations = λ n o is.
+      (let mid = first.operations n o is in
+      let last = second.operations n mid.0 mid.1 in
+      (last.0, last.1, (last.2.0 ∙ mid.2.0, last.2.1 ∙ mid.2.1, last.2.2 ∙ mid.2.2)));
+}
+
+-- one operation changed, but not its call
+one_changed : (operations : ℕ → Option Operation) (at : ℕ) (change : Option Operation → Option Operation)
+    → ((o : Operation) → (p : Operation) × (change (Some o) ≡ Some p) × SameCall o p)
+    → (n : ℕ) (o : Operation) → operations n ≡ Some o → (p : Operation) × (put operations at (change (operations at)) n ≡ Some p) × SameCall o p
+one_changed operations at change same n o is =
+    cond_both (nat_eq n at) (change (operations at)) (operations n) (λ (x : Option Operation). (p : Operation) × (x ≡ Some p) × SameCall o p)
+    (λ here.
+    let becomes = same o in
+    let was : operations at ≡ Some o = ap operations (sym (eqb-true n at here)) ∙ is in
+    (becomes.0, ap change was ∙ becomes.1, becomes.2))
+    (λ there. (o, is, (refl, refl, refl)))
+
+-- what is told and answered
+told_same : (setting : Setting) (w : World) (brick : BrickId) (one : Told) → SameCalls w (world_told setting w brick one)
+told_same setting w brick (Made seq t base) = record {
+  begun = refl;
+  numbers = refl;
+  operations = one_changed w.operations (number_of w brick.0 seq) (with_made t base) (λ o. (_, refl, (refl, refl, refl)));
+}
+told_same setting w brick (Seen seq v) = record {
+  begun = refl;
+  numbers = refl;
+  operations = one_changed w.operations (number_of w brick.0 seq) (with_seen v) (λ o. (_, refl, (refl, refl, refl)));
+}
+
+tells_same_calls : (setting : Setting) (w : World) (brick : BrickId) (told : List Told) → SameCalls w (world_tells setting w brick told)
+tells_same_calls setting w brick [] = same_calls w w refl refl refl
+tells_same_calls setting w brick (one ∷ more) =
+    same_trans w (world_told setting w brick one) (world_tells setting w brick (one ∷ more)) (told_same setting w brick one)
+    (tells_same_calls setting (world_told setting w brick one) brick more)
+
+answers_same_calls : (w : World) (brick : BrickId) (answers : List Answered) → SameCalls w (world_answers w brick answers)
+answers_same_calls w brick [] = same_calls w w refl refl refl
+answers_same_calls w brick (one ∷ more) =
+    same_trans w (world_answered w brick one) (world_answers w brick (one ∷ more))
+    (record {
+      begun = refl;
+      numbers = refl;
+      operations = one_changed w.operations (number_of w brick.0 one.seq) (with_answer one.answer) (λ o. (_, refl, (refl, refl, refl)));
+    })
+    (answers_same_calls (world_answered w brick one) brick more)
+
+-- a brick's step
+pub stepped_same : (setting : Setting) (w : World) (brick : BrickId) (step : NodeStep) → SameCalls w (world_stepped setting w brick step)
+stepped_same setting w brick step =
+    let told : World = world_tells setting w brick step.told in
+    let heard : World = world_answers told brick step.answers in
+    same_trans w heard (world_stepped setting w brick step)
+    (same_trans w told heard (tells_same_calls setting w brick step.told) (answers_same_calls told brick step.answers))
+    (same_calls heard (world_stepped setting w brick step) refl refl refl)
+
+-- so a delivery, of a message that there is or is not
+delivered_same : (setting : Setting) (w : World) (number : ℕ) (found : Option Packet) → SameCalls w (delivered setting w number found)
+delivered_same setting w number None = same_calls w w refl refl refl
+delivered_same setting w number (Some packet) =
+    cond_both (is_up setting.layout w packet.to) _ w (λ (v : World). SameCalls w v)
+    (λ up.
+    let v : World = record w { replies = replies_with setting w packet; reached = put w.reached number true } in
+    same_trans w v _ (same_calls w v refl refl refl)
+    (stepped_same setting v packet.to (received setting packet.to (w.clocks packet.to.0) (w.nodes packet.to.0) packet)))
+    (λ down. same_calls w w refl refl refl)
+
+pub deliver_same : (setting : Setting) (w : World) (number : ℕ) → SameCalls w (happens setting w (Delivers number))
+unfolding happens
+deliver_same setting w number = delivered_same setting w number (packet_of w.packets number)
+
+-- the same operations keep what the numbers say
+numbers_kept : (w v : World) → SameCalls w v → NumbersSay w → NumbersSay v
+numbers_kept w v same says i b k some =
+    let number : v.numbers i b k ≡ w.numbers i b k = ap (λ (f : ℕ → ℕ → ℕ → ℕ). f i b k) same.numbers in
+    let was = says i b k (λ none. some (number ∙ none)) in
+    let now = same.operations (w.numbers i b k) was.1.0 was.1.1 in (
+      subst (λ (n : ℕ). n ≤ v.begun) (sym number) (subst (λ (n : ℕ). w.numbers i b k ≤ n) (sym same.begun) was.0),
+      (
+        now.0,
+        ap v.operations number ∙ now.1,
+        (ap (λ (brick : BrickId). brick.0) now.2.0 ∙ was.1.2.0, now.2.1 ∙ was.1.2.1, now.2.2 ∙ was.1.2.2),
+      ),
+    )
+
+-- a call more
+numbers_began : (w : World) (brick : BrickId) (ask : Ask) (step : NodeStep) → NumbersSay w → NumbersSay (world_began w brick ask step)
+numbers_began w brick ask step says i b k = by_brick (nat_eq i brick.0) refl
+  where
+    v : World
+    v = world_began w brick ask step
+
+    n : ℕ
+    n = w.begun + 1
+
+    -- an older one stays
+    older : (w.numbers i b k ≢ 0) → (w.numbers i b k ≤ n) × ((o : Operation) × (v.operations (w.numbers i b k) ≡ Some o) × IsOfCallAt i b k o)
+    older some =
+        let was = says i b k some in
+        let apart : w.numbers i b k ≢ n = (λ e. omega (arith, was.0, e)) in
+        (omega (arith, was.0), (was.1.0, value_elsewhere w.operations n (w.numbers i b k) _ apart ∙ was.1.1, was.1.2))
+
+    Fits : ℕ → Type 0
+    Fits number = number ≢ 0 → (number ≤ n) × ((o : Operation) × (v.operations number ≡ Some o) × IsOfCallAt i b k o)
+
+    by_seq : (x : Bool) → nat_eq k step.node.seq ≡ x → i ≡ brick.0 → b ≡ step.node.boot → Fits (cond x n (w.numbers brick.0 step.node.boot k))
+    by_seq true same at boot some = (omega arith, (_, value_here w.operations n n _ refl, (sym at, sym boot, sym (eqb-true k step.node.seq same))))
+    by_seq false other at boot some =
+        let same : w.numbers brick.0 step.node.boot k ≡ w.numbers i b k = ap (λ j. w.numbers j step.node.boot k) (sym at) ∙ ap (λ c. w.numbers i c k) (sym boot) in
+        subst (λ number. (number ≤ n) × ((o : Operation) × (v.operations number ≡ Some o) × IsOfCallAt i b k o)) (sym same)
+        (older (λ none. some (same ∙ none)))
+
+    by_boot : (x : Bool) → nat_eq b step.node.boot ≡ x → i ≡ brick.0
+        → Fits (cond x (put (w.numbers brick.0 step.node.boot) step.node.seq n) (w.numbers brick.0 b) k)
+    by_boot true same at = by_seq (nat_eq k step.node.seq) refl at (eqb-true b step.node.boot same)
+    by_boot false other at =
+        let same : w.numbers brick.0 b k ≡ w.numbers i b k = ap (λ j. w.numbers j b k) (sym at) in
+        (λ some. subst (λ number. (number ≤ n) × ((o : Operation) × (v.operations number ≡ Some o) × IsOfCallAt i b k o)) (sym same)
+        (older (λ none. some (same ∙ none))))
+
+    by_brick : (x : Bool) → nat_eq i brick.0 ≡ x
+        → Fits (cond x (put (w.numbers brick.0) step.node.boot (put (w.numbers brick.0 step.node.boot) step.node.seq n)) (w.numbers i) b k)
+    by_brick true same = by_boot (nat_eq b step.node.boot) refl (eqb-true i brick.0 same)
+    by_brick false other = older
+
+-- an event
+numbers_event : (setting : Setting) (w : World) (event : Event) → NumbersSay w → NumbersSay (happens setting w event)
+unfolding happens
+numbers_event setting w (Invokes brick ask) says =
+    cond_both (may_begin setting w brick ask) (world_began w brick ask (invoked setting brick (w.clocks brick.0) (w.nodes brick.0) ask)) w NumbersSay
+    (λ may. numbers_began w brick ask (invoked setting brick (w.clocks brick.0) (w.nodes brick.0) ask) says) (λ not. says)
+numbers_event setting w (Delivers number) says =
+    numbers_kept w (delivered setting w number (packet_of w.packets number)) (delivered_same setting w number (packet_of w.packets number)) says
+numbers_event setting w (Sets brick time) says =
+    cond_both (is_brick setting.layout brick) (record w { clocks = put w.clocks brick.0 time }) w NumbersSay (λ may. says) (λ not. says)
+numbers_event setting w (Ticks brick) says =
+    cond_both (is_up setting.layout w brick) (world_ticked setting w brick) w NumbersSay (λ may. says) (λ not. says)
+numbers_event setting w (Stops brick during) says =
+    cond_both (is_up setting.layout w brick) (world_stopped setting w brick during) w NumbersSay (λ may. says) (λ not. says)
+numbers_event setting w (Starts brick openings Before) says =
+    cond_both (may_start setting.layout w brick openings) (world_started (world_found w brick Before) brick openings) w NumbersSay (λ may. says) (λ not. says)
+numbers_event setting w (Starts brick openings After) says =
+    cond_both (may_start setting.layout w brick openings) (world_started (world_found w brick After) brick openings) w NumbersSay (λ may. says) (λ not. says)
+
+numbers_run : (setting : Setting) (events : List Event) (w : World) → NumbersSay w → NumbersSay (run setting events w)
+numbers_run setting [] w says = says
+numbers_run setting (event ∷ events) w says = numbers_run setting events (happens setting w event) (numbers_event setting w event says)
+
+-- every world that a schedule reaches
+pub numbers_say : (layout : Layout) (events : List Event) → NumbersSay (run (coding layout) events (first_world layout))
+numbers_say layout events = numbers_run (coding layout) events (first_world layout) (λ i b k some. absurd (some refl))
+
+-- each operation is of a brick of the layout
+abbrev pub AreOfBricks : Layout → World → Type 0
+AreOfBricks layout w = (n : ℕ) (o : Operation) → w.operations n ≡ Some o → is_brick layout o.brick ≡ true
+
+-- an operation of the world after is one of the world before, where the same are there
+pub record SameOperations (w v : World) : Type 0 where
+  pub each : (n : ℕ) (p : Operation) → v.operations n ≡ Some p → (o : Operation) × (w.operations n ≡ Some o) × SameCall o p
+
+same_operations : (w v : World) → v.operations ≡ w.operations → SameOperations w v
+same_operations w v same = record { each = λ n p is. (p, ap (λ (f : ℕ → Option Operation). f n) (sym same) ∙ is, (refl, refl, refl)) }
+
+operations_trans : (w v u : World) → SameOperations w v → SameOperations v u → SameOperations w u
+operations_trans w v u first second = record {
+  each = λ n p is.
+      (let mid = second.each n p is in
+      let old = first.each n mid.0 mid.1 in
+      (old.0, old.1, (mid.2.0 ∙ old.2.0, mid.2.1 ∙ old.2.1, mid.2.2 ∙ old.2.2)));
+}
+
+-- one operation changed, but not its call
+one_before : (operations : ℕ → Option Operation) (at : ℕ) (change : Option Operation → Option Operation)
+    → ((found : Option Operation) (p : Operation) → change found ≡ Some p → (o : Operation) × (found ≡ Some o) × SameCall o p)
+    → (n : ℕ) (p : Operation) → put operations at (change (operations at)) n ≡ Some p → (o : Operation) × (operations n ≡ Some o) × SameCall o p
+one_before operations at change same n p =
+    cond_both (nat_eq n at) (change (operations at)) (operations n)
+    (λ (x : Option Operation). x ≡ Some p → (o : Operation) × (operations n ≡ Some o) × SameCall o p)
+    (λ here is. (let was = same (operations at) p is in (was.0, ap operations (eqb-true n at here) ∙ was.1, was.2)))
+    (λ there is. (p, is, (refl, refl, refl)))
+
+made_before : (t : Stamp) (base : Option Stamp) (found : Option Operation) (p : Operation) → with_made t base found ≡ Some p
+    → (o : Operation) × (found ≡ Some o) × SameCall o p
+made_before t base None p is = absurd (let never : None ≡ Some p = is in cc)
+made_before t base (Some o) p is = (o, refl, subst (SameCall o) (same_Some _ p is) (refl, refl, refl))
+
+seen_before : (v : Stamp) (found : Option Operation) (p : Operation) → with_seen v found ≡ Some p → (o : Operation) × (found ≡ Some o) × SameCall o p
+seen_before v None p is = absurd (let never : None ≡ Some p = is in cc)
+seen_before v (Some o) p is = (o, refl, subst (SameCall o) (same_Some _ p is) (refl, refl, refl))
+
+answer_before : (answer : Answer) (found : Option Operation) (p : Operation) → with_answer answer found ≡ Some p
+    → (o : Operation) × (found ≡ Some o) × SameCall o p
+answer_before answer None p is = absurd (let never : None ≡ Some p = is in cc)
+answer_before answer (Some o) p is = (o, refl, subst (SameCall o) (same_Some _ p is) (refl, refl, refl))
+
+tells_before : (setting : Setting) (w : World) (brick : BrickId) (told : List Told) → SameOperations w (world_tells setting w brick told)
+tells_before setting w brick [] = same_operations w w refl
+tells_before setting w brick (Made seq t base ∷ more) =
+    operations_trans w (world_told setting w brick (Made seq t base)) (world_tells setting w brick (Made seq t base ∷ more))
+    (record { each = one_before w.operations (number_of w brick.0 seq) (with_made t base) (made_before t base) })
+    (tells_before setting (world_told setting w brick (Made seq t base)) brick more)
+tells_before setting w brick (Seen seq v ∷ more) =
+    operations_trans w (world_told setting w brick (Seen seq v)) (world_tells setting w brick (Seen seq v ∷ more))
+    (record { each = one_before w.operations (number_of w brick.0 seq) (with_seen v) (seen_before v) })
+    (tells_before setting (world_told setting w brick (Seen seq v)) brick more)
+
+answers_before : (w : World) (brick : BrickId) (answers : List Answered) → SameOperations w (world_answers w brick answers)
+answers_before w brick [] = same_operations w w refl
+answers_before w brick (one ∷ more) =
+    operations_trans w (world_answered w brick one) (world_answers w brick (one ∷ more))
+    (record { each = one_before w.operations (number_of w brick.0 one.seq) (with_answer one.answer) (answer_before one.answer) })
+    (answers_before (world_answered w brick one) brick more)
+
+bricks_kept : (layout : Layout) (w v : World) → SameOperations w v → AreOfBricks layout w → AreOfBricks layout v
+bricks_kept layout w v same are n p is =
+    let was = same.each n p is in ap (is_brick layout) was.2.0 ∙ are n was.0 was.1
+
+bricks_delivered : (setting : Setting) (w : World) (number : ℕ) (found : Option Packet) → AreOfBricks setting.layout w
+    → AreOfBricks setting.layout (delivered setting w number found)
+bricks_delivered setting w number None are = are
+bricks_delivered setting w number (Some packet) are =
+    let v : World = record w { replies = replies_with setting w packet; reached = put w.reached number true } in
+    let step : NodeStep = received setting packet.to (w.clocks packet.to.0) (w.nodes packet.to.0) packet in
+    let told : World = world_tells setting v packet.to step.told in
+    let heard : World = world_answers told packet.to step.answers in
+    cond_both (is_up setting.layout w packet.to) (world_stepped setting v packet.to step) w (λ (u : World). AreOfBricks setting.layout u)
+    (λ up. bricks_kept setting.layout v (world_stepped setting v packet.to step)
+    (operations_trans v heard (world_stepped setting v packet.to step)
+    (operations_trans v told heard (tells_before setting v packet.to step.told) (answers_before told packet.to step.answers))
+    (same_operations heard (world_stepped setting v packet.to step) refl)) are)
+    (λ down. are)
+
+bricks_began : (layout : Layout) (w : World) (brick : BrickId) (ask : Ask) (step : NodeStep) → is_brick layout brick ≡ true → AreOfBricks layout w
+    → AreOfBricks layout (world_began w brick ask step)
+bricks_began layout w brick ask step there are n o =
+    cond_both (nat_eq n (w.begun + 1)) _ (w.operations n) (λ (x : Option Operation). x ≡ Some o → is_brick layout o.brick ≡ true)
+    (λ here is. subst (λ (x : Operation). is_brick layout x.brick ≡ true) (same_Some _ o is) there)
+    (λ elsewhere is. are n o is)
+
+bricks_event : (setting : Setting) (w : World) (event : Event) → AreOfBricks setting.layout w → AreOfBricks setting.layout (happens setting w event)
+unfolding happens
+bricks_event setting w (Invokes brick ask) are =
+    cond_both (may_begin setting w brick ask) (world_began w brick ask (invoked setting brick (w.clocks brick.0) (w.nodes brick.0) ask)) w
+    (AreOfBricks setting.layout)
+    (λ may. bricks_began setting.layout w brick ask (invoked setting brick (w.clocks brick.0) (w.nodes brick.0) ask)
+    (and_parts (is_brick setting.layout brick) (w.up brick.0) (and_parts (is_up setting.layout w brick) _ may).0).0 are) (λ not. are)
+bricks_event setting w (Delivers number) are = bricks_delivered setting w number (packet_of w.packets number) are
+bricks_event setting w (Sets brick time) are =
+    cond_both (is_brick setting.layout brick) (record w { clocks = put w.clocks brick.0 time }) w (AreOfBricks setting.layout) (λ may. are) (λ not. are)
+bricks_event setting w (Ticks brick) are =
+    cond_both (is_up setting.layout w brick) (world_ticked setting w brick) w (AreOfBricks setting.layout) (λ may. are) (λ not. are)
+bricks_event setting w (Stops brick during) are =
+    cond_both (is_up setting.layout w brick) (world_stopped setting w brick during) w (AreOfBricks setting.layout) (λ may. are) (λ not. are)
+bricks_event setting w (Starts brick openings Before) are =
+    cond_both (may_start setting.layout w brick openings) (world_started (world_found w brick Before) brick openings) w (AreOfBricks setting.layout) (λ may. are) (λ not. are)
+bricks_event setting w (Starts brick openings After) are =
+    cond_both (may_start setting.layout w brick openings) (world_started (world_found w brick After) brick openings) w (AreOfBricks setting.layout) (λ may. are) (λ not. are)
+
+bricks_run : (setting : Setting) (events : List Event) (w : World) → AreOfBricks setting.layout w → AreOfBricks setting.layout (run setting events w)
+bricks_run setting [] w are = are
+bricks_run setting (event ∷ events) w are = bricks_run setting events (happens setting w event) (bricks_event setting w event are)
+
+-- so in every world that a schedule reaches
+pub of_bricks : (layout : Layout) (events : List Event) → AreOfBricks layout (run (coding layout) events (first_world layout))
+of_bricks layout events = bricks_run (coding layout) events (first_world layout) (λ n o is. absurd (let never : None ≡ Some o = is in cc))

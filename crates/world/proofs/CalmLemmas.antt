@@ -1,0 +1,353 @@
+-- When an operation may run alone: as the bricks and the ledger tell.
+use Rattle.std.proofs.Common.{◌≡◌, ◌≢◌, ℕ, zero, suc, ◌+◌, ◌<◌, ◌≤◌, Bool, true, false, not, cond, nat_eq, nat_lt, nat_le, ◌&&◌, ◌||◌, ◌-◌, ◌⊎◌, inl, inr, ⊎_elim, List, [], ◌∷◌, length, map, take, drop, take_all, get_or, Option, Some, None, is_some, refl, sym, ap, ◌∙◌, subst, arith}
+use Rattle.std.specs.Prelude.{slice_get, slice_index_or, filter}
+use Rattle.std.specs.Bool.{Decides}
+use Rattle.std.specs.List.{IsDistinct, AllByRecursion, list_any}
+use Rattle.std.proofs.lemmas.Bool.{and_parts, eqb-true, eq-eqb}
+use Rattle.std.proofs.lemmas.Bool.Decides.{nat_tests}
+use Rattle.std.proofs.lemmas.Option.{same_Some, slice_get-map}
+use Rattle.fab_base.specs.declared.identities.BrickId.{BrickId}
+use Rattle.fab_base.specs.declared.asks.Ask.{Ask}
+use Rattle.fab_base.specs.Layouts.{Layout, group_of, seat_in}
+use Rattle.fab_disk.specs.declared.mem_disk.MemDisk.{MemDisk}
+use Rattle.brick_state.specs.States.{live}
+use Rattle.node.specs.Running.{Running, state_of}
+use Rattle.protocol.specs.Calms.{IsCalm, IsReady, IsEarly, IsUntouched, early, open_at, open_call}
+use Rattle.stripe_code.specs.Codes.{coding}
+use Rattle.quorum.specs.Quorums.{quorum_of}
+use Rattle.std.specs.Option.{option_map}
+use Rattle.protocol.specs.Nodes.{Node}
+use Rattle.protocol.specs.Coordinators.{Coordinator}
+use Rattle.protocol.specs.Settings.{Setting}
+use Rattle.protocol.specs.Worlds.{World, Operation, is_brick, is_up, number_of}
+use Rattle.protocol_laws.proofs.Books.{Books, OperationBooks}
+use Rattle.protocol_laws.proofs.FirstViews.{view_first}
+use Rattle.world.specs.Ledgers.{Notes, NotesOrigin, origin_at}
+use Rattle.world.specs.declared.ledgers.Ledger.{Ledger}
+use Rattle.world.specs.declared.ledgers.Origin.{Origin}
+use Rattle.world.proofs.LedgerLemmas.{slice_get_not_none}
+use Rattle.world.specs.Runs.{brick_of}
+use Rattle.world.specs.Shown.{ShowsBricks, IsRunning, IsAble, IsInTime}
+use Rattle.world.specs.declared.bricks.Brick.{Brick}
+use Rattle.world.specs.declared.bricks.Power.TheVariants.{Up, Down}
+use Rattle.world.proofs.BrickListLemmas.{runs_at, rests_at}
+
+-- a brick that runs is up, in any layout that it shows
+up_within : (layout : Layout) (bricks : List Brick) (w : World) (b : ℕ) → b < length bricks
+    → ShowsBricks layout bricks w.nodes w.after w.up w.clocks → nat_lt b layout.bricks ≡ true
+up_within layout bricks w b within shows = (let less : b < layout.bricks = omega (arith, shows.count) in grind (arith, nat_tests))
+
+pub running_there : (layout : Layout) (bricks : List Brick) (w : World) (b : ℕ) (brick : Brick) (node : Running MemDisk) → b < length bricks
+    → brick ≡ get_or bricks b brick → brick.power ≡ Up node → ShowsBricks layout bricks w.nodes w.after w.up w.clocks
+    → (is_up layout w (brick_of b) ≡ true) × IsRunning layout (brick_of b) (w.nodes b) node
+running_there layout bricks w b brick node within is on shows =
+    let runs = runs_at layout bricks w b brick node within is on shows in
+    (ap (λ (x : Bool). x && w.up b) (up_within layout bricks w b within shows) ∙ runs.0, runs.1)
+
+pub running_not : (layout : Layout) (bricks : List Brick) (w : World) (b : ℕ) (brick : Brick) (disk : MemDisk) → b < length bricks
+    → brick ≡ get_or bricks b brick → brick.power ≡ Down disk → ShowsBricks layout bricks w.nodes w.after w.up w.clocks
+    → is_up layout w (brick_of b) ≡ false
+running_not layout bricks w b brick disk within is off shows =
+    let rests = rests_at layout bricks w b brick disk within is off shows in
+    ap (λ (x : Bool). x && w.up b) (up_within layout bricks w b within shows) ∙ rests.0
+
+-- what is read of a brick that runs is the machine's
+state_live : (node : Running MemDisk) → (state_of node).live ≡ live node.brick.state
+unfolding state_of
+state_live node = refl
+
+pub running_live : (layout : Layout) (me : BrickId) (state : Node) (node : Running MemDisk) → IsRunning layout me state node
+    → state.live ≡ live node.brick.state
+running_live layout me state node is = ap (λ (x : Node). x.live) (sym is.state_is) ∙ state_live node
+
+-- a brick that is up and has room is able where its times are early
+pub able_early : (layout : Layout) (w : World) (number : ℕ) (b : Bool) (node : Running MemDisk) → is_up layout w (brick_of number) ≡ true
+    → IsRunning layout (brick_of number) (w.nodes number) node → (w.nodes number).live + 2 ≤ layout.records
+    → Decides b (IsEarly (state_of node)) → Decides b (IsAble layout w number)
+able_early layout w number b node up is room decides = (
+  λ on. record { up = up; room = room; times = subst IsEarly is.state_is (decides.0 on) },
+  λ able. decides.1 (subst IsEarly (sym is.state_is) able.times),
+)
+
+-- one without room is not
+pub full_unable : (layout : Layout) (w : World) (number used records : ℕ) → (w.nodes number).live ≡ used → records ≡ layout.records → records < used + 2
+    → Decides (nat_le (used + 2) records) (IsAble layout w number)
+full_unable layout w number used records same are full = (
+  λ on. absurd (let fits : used + 2 ≤ records = grind (arith, nat_tests, on) in omega arith),
+  λ able. absurd (omega (arith, able.room, same, are)),
+)
+
+-- a brick that is up is in time where its clock and its times are early
+pub in_time_early : (layout : Layout) (w : World) (number time : ℕ) (b : Bool) (node : Running MemDisk) → is_up layout w (brick_of number) ≡ true
+    → IsRunning layout (brick_of number) (w.nodes number) node → time ≡ w.clocks number → time < early
+    → Decides b (IsEarly (state_of node)) → Decides b (IsInTime layout w number)
+in_time_early layout w number time b node up is same less decides = (
+  λ on. record { up = up; clock = subst (λ (t : ℕ). t < early) same less; times = subst IsEarly is.state_is (decides.0 on) },
+  λ within. decides.1 (subst IsEarly (sym is.state_is) within.times),
+)
+
+pub late_not_in_time : (layout : Layout) (w : World) (number time : ℕ) → time ≡ w.clocks number → early ≤ time
+    → Decides (nat_lt time early) (IsInTime layout w number)
+late_not_in_time layout w number time same late = (
+  λ on. absurd (let less : time < early = grind (arith, nat_tests, on) in omega arith),
+  λ within. absurd (omega (arith, within.clock, same)),
+)
+
+-- a number that stands again among others, or does not
+none_again : (x : ℕ) (ys : List ℕ) → list_any (λ y. nat_eq y x) ys ≡ false → AllByRecursion (λ y. nat_eq x y ≡ false) ys
+none_again x [] none = tt
+none_again x (y ∷ ys) none = (
+  (let other : nat_eq y x ≡ false = (or_parts (nat_eq y x) (list_any (λ y. nat_eq y x) ys) none).0 in grind (arith, nat_tests)),
+  none_again x ys (or_parts (nat_eq y x) (list_any (λ y. nat_eq y x) ys) none).1,
+)
+  where
+    or_parts : (a b : Bool) → a || b ≡ false → (a ≡ false) × (b ≡ false)
+    or_parts true b none = absurd (let never : true ≡ false = none in cc)
+    or_parts false b none = (refl, none)
+
+again : (x : ℕ) (ys : List ℕ) → AllByRecursion (λ y. nat_eq x y ≡ false) ys → list_any (λ y. nat_eq y x) ys ≡ false
+again x [] all = refl
+again x (y ∷ ys) all = both (nat_eq y x) (list_any (λ y. nat_eq y x) ys) (let other : nat_eq x y ≡ false = all.0 in grind (arith, nat_tests)) (again x ys all.1)
+  where
+    both : (a b : Bool) → a ≡ false → b ≡ false → a || b ≡ false
+    both a b first second = rw (first, second) refl
+
+pub distinct_none : (xs : List ℕ) → length xs < 1 → Decides true (IsDistinct nat_eq xs)
+unfolding IsDistinct
+distinct_none [] none = (λ on. tt, λ all. refl)
+distinct_none (x ∷ xs) none = absurd (omega arith)
+
+-- the first number stands no second time, and the others are distinct; or it does
+pub distinct_first : (xs : List ℕ) (b : Bool) → 1 ≤ length xs
+    → list_any (λ y. nat_eq y (slice_index_or xs 0 0)) (take (length xs - 1) (drop 1 xs)) ≡ false
+    → Decides b (IsDistinct nat_eq (take (length xs - 1) (drop 1 xs))) → Decides b (IsDistinct nat_eq xs)
+unfolding IsDistinct
+distinct_first [] b some none decides = absurd (omega arith)
+distinct_first (x ∷ xs) b some none decides =
+    let behind : take (length (x ∷ xs) - 1) xs ≡ xs = take_all _ _ (omega arith) in
+    let others : Decides b (IsDistinct nat_eq xs) = subst (λ (l : List ℕ). Decides b (IsDistinct nat_eq l)) behind decides in (
+      λ on. (none_again x xs (ap (list_any (λ y. nat_eq y x)) (sym behind) ∙ none), others.0 on),
+      λ all. others.1 all.1,
+    )
+
+pub distinct_not : (xs : List ℕ) (b : Bool) → 1 ≤ length xs
+    → list_any (λ y. nat_eq y (slice_index_or xs 0 0)) (take (length xs - 1) (drop 1 xs)) ≡ true → b ≡ true → Decides (not b) (IsDistinct nat_eq xs)
+unfolding IsDistinct
+distinct_not [] b some twice is = absurd (omega arith)
+distinct_not (x ∷ xs) b some twice is =
+    let behind : take (length (x ∷ xs) - 1) xs ≡ xs = take_all _ _ (omega arith) in (
+      λ on. absurd (let never : false ≡ true = sym (ap not is) ∙ on in cc),
+      λ all. absurd (let never : true ≡ false = sym twice ∙ ap (list_any (λ y. nat_eq y x)) behind ∙ again x xs all.0 in cc),
+    )
+
+-- the operation of a number that the ledger has none of is not open
+pub open_nowhere : (setting : Setting) (w : World) (ledger : Ledger) (n : ℕ) → Books setting w → Notes ledger w → origin_at ledger.origins.items n ≡ None
+    → open_call w n ≡ None
+open_nowhere setting w ledger n books notes none = by_operation (w.operations n) refl
+  where
+    at_place : (k : ℕ) → origin_at ledger.origins.items k ≡ None → 1 ≤ k → k ≤ w.begun → ⊥
+    at_place zero is least most = omega arith
+    at_place (suc k) is least most = slice_get_not_none ledger.origins.items k (omega (arith, notes.count)) is
+
+    by_operation : (found : Option Operation) → w.operations n ≡ found → open_at w found ≡ None
+    by_operation None is = refl
+    by_operation (Some o) is = (let its = books.operations n o is in absurd (at_place n none its.from_one its.begun))
+
+-- what is noted of the operation of a number
+pub noted_at : (w : World) (ledger : Ledger) (n : ℕ) (origin : Origin) → Notes ledger w → origin_at ledger.origins.items n ≡ Some origin
+    → (o : Operation) × (w.operations n ≡ Some o) × NotesOrigin w origin o × (n ≢ 0)
+noted_at w ledger zero origin notes is = absurd (let never : None ≡ Some origin = is in cc)
+noted_at w ledger (suc n) origin notes is =
+    let its = notes.origins n origin is in
+    (its.0, ap w.operations (let same : suc n ≡ n + 1 = omega arith in same) ∙ its.1, its.2, λ e. omega arith)
+
+-- an operation whose brick is not up, or was started since, or that has ended, is not open
+pub open_shut : (w : World) (n : ℕ) (o : Operation) (origin : Origin) → w.operations n ≡ Some o → NotesOrigin w origin o
+    → (w.up origin.brick.0 ≡ false) ⊎ ((origin.ended ≡ true) ⊎ ((w.nodes origin.brick.0).boot ≢ origin.boot)) → open_call w n ≡ None
+open_shut w n o origin is its why =
+    ap (open_at w) is ∙ by_up (w.up o.brick.0) refl
+  where
+    by_boot : (x : Bool) → w.up o.brick.0 ≡ true → nat_eq (w.nodes o.brick.0).boot o.boot ≡ x → cond x ((w.nodes o.brick.0).calls o.seq) None ≡ None
+    by_boot true up same = ⊎_elim
+        (λ (down : w.up origin.brick.0 ≡ false). absurd (let never : true ≡ false = sym up ∙ ap (λ (b : BrickId). w.up b.0) (sym its.brick) ∙ down in cc))
+        (λ (other : (origin.ended ≡ true) ⊎ ((w.nodes origin.brick.0).boot ≢ origin.boot)). ⊎_elim
+        (λ (ended : origin.ended ≡ true). none_of ((w.nodes o.brick.0).calls o.seq) (its.ended up (eqb-true _ _ same) ∙ ap not ended))
+        (λ (later : (w.nodes origin.brick.0).boot ≢ origin.boot).
+        absurd (later (ap (λ (b : BrickId). (w.nodes b.0).boot) its.brick ∙ eqb-true _ _ same ∙ sym its.boot))) other) why
+      where
+        none_of : (found : Option Coordinator) → is_some found ≡ false → found ≡ None
+        none_of None is_none = refl
+        none_of (Some c) is_none = absurd (let never : true ≡ false = is_none in cc)
+    by_boot false up other = refl
+
+    by_up : (x : Bool) → w.up o.brick.0 ≡ x
+        → cond (x && nat_eq (w.nodes o.brick.0).boot o.boot) ((w.nodes o.brick.0).calls o.seq) None ≡ None
+    by_up true up = by_boot (nat_eq (w.nodes o.brick.0).boot o.boot) up refl
+    by_up false down = refl
+
+-- else it is
+pub open_there : (w : World) (n : ℕ) (o : Operation) (origin : Origin) → w.operations n ≡ Some o → NotesOrigin w origin o → w.up origin.brick.0 ≡ true
+    → origin.ended ≡ false → (w.nodes origin.brick.0).boot ≡ origin.boot → is_some (open_call w n) ≡ true
+open_there w n o origin is its up ended boot =
+    let here : w.up o.brick.0 ≡ true = ap (λ (b : BrickId). w.up b.0) (sym its.brick) ∙ up in
+    let same : (w.nodes o.brick.0).boot ≡ o.boot = ap (λ (b : BrickId). (w.nodes b.0).boot) (sym its.brick) ∙ boot ∙ its.boot in
+    ap (λ (found : Option Operation). is_some (open_at w found)) is
+    ∙ ap (λ (b : Bool). is_some (cond (b && nat_eq (w.nodes o.brick.0).boot o.boot) ((w.nodes o.brick.0).calls o.seq) None)) here
+    ∙ ap (λ (b : Bool). is_some (cond b ((w.nodes o.brick.0).calls o.seq) None)) (eq-eqb (w.nodes o.brick.0).boot o.boot same)
+    ∙ its.ended here same ∙ ap not ended
+
+-- a brick of the layout that is not found up is down
+pub down_is : (layout : Layout) (w : World) (brick : BrickId) → is_brick layout brick ≡ true → is_up layout w brick ≡ false → w.up brick.0 ≡ false
+down_is layout w brick there down = ap (λ (b : Bool). b && w.up brick.0) (sym there) ∙ down
+
+-- one that is up is up
+pub up_of : (layout : Layout) (w : World) (brick : BrickId) → is_up layout w brick ≡ true → w.up brick.0 ≡ true
+up_of layout w brick up = (and_parts (is_brick layout brick) (w.up brick.0) up).1
+
+-- the boot of a brick that runs is the machine's
+pub running_boot : (layout : Layout) (me : BrickId) (state : Node) (node : Running MemDisk) → IsRunning layout me state node
+    → state.boot ≡ (state_of node).boot
+running_boot layout me state node is = ap (λ (x : Node). x.boot) (sym is.state_is)
+
+-- an open operation: what it asks is what its coordinator was asked, of the group that the coordinator knows
+pub record IsOpenAt (setting : Setting) (w : World) (n : ℕ) (c : Coordinator) : Type 0 where
+  pub operation : Operation
+  pub is : w.operations n ≡ Some operation
+  pub call : (w.nodes operation.brick.0).calls operation.seq ≡ Some c
+  pub up : w.up operation.brick.0 ≡ true
+  pub ask : c.ask ≡ operation.ask
+  pub group_is : group_of setting.layout operation.ask.group.0 ≡ Some c.group
+  pub view : c.call.view.0 ≡ 1
+  pub group : c.call.group ≡ c.ask.group
+  pub numbers : (1 ≤ n) × (n ≤ w.begun)
+
+pub open_parts : (setting : Setting) (w : World) (n : ℕ) (c : Coordinator) → Books setting w → open_call w n ≡ Some c → IsOpenAt setting w n c
+open_parts setting w n c books is = by_operation (w.operations n) refl is
+  where
+    by_operation : (found : Option Operation) → w.operations n ≡ found → open_at w found ≡ Some c → IsOpenAt setting w n c
+    by_operation None none e = absurd (let never : None ≡ Some c = e in cc)
+    by_operation (Some o) at e = by_up (w.up o.brick.0) refl (nat_eq (w.nodes o.brick.0).boot o.boot) refl e
+      where
+        by_up : (x : Bool) → w.up o.brick.0 ≡ x → (y : Bool) → nat_eq (w.nodes o.brick.0).boot o.boot ≡ y
+            → cond (x && y) ((w.nodes o.brick.0).calls o.seq) None ≡ Some c → IsOpenAt setting w n c
+        by_up true up true boot call =
+            let its = books.operations n o at in
+            let own = books.calls o.brick.0 o.seq c call in
+            let same_boot : (w.nodes o.brick.0).boot ≡ o.boot = eqb-true (w.nodes o.brick.0).boot o.boot boot in
+            let number : number_of w o.brick.0 o.seq ≡ n = ap (λ (b : ℕ). w.numbers o.brick.0 b o.seq) same_boot ∙ its.number in
+            let same : own.operation ≡ o = same_Some own.operation o (sym own.operation_is ∙ ap w.operations number ∙ at) in
+            let ask : c.ask ≡ o.ask = own.ask ∙ ap (λ (x : Operation). x.ask) same in
+            record {
+              operation = o;
+              is = at;
+              call = call;
+              up = up;
+              ask = ask;
+              group_is = ap (λ (a : Ask). group_of setting.layout a.group.0) (sym ask) ∙ own.group_is;
+              view = own.call_view;
+              group = own.call_group;
+              numbers = (its.from_one, its.begun);
+            }
+        by_up true up false boot e' = absurd (let never : None ≡ Some c = e' in cc)
+        by_up false down y boot e' = absurd (let never : None ≡ Some c = e' in cc)
+
+-- what decides whether an operation may run alone among the bricks of these numbers
+pub record CalmParts (layout : Layout) (w : World) (n : ℕ) (numbers : List ℕ) (o : Operation) (c : Coordinator) : Type 0 where
+  pub distinct : IsDistinct nat_eq numbers
+  pub members : quorum_of c.group ≤ length (filter (λ number. list_any (λ member. nat_eq member.0 number) c.group.members) numbers)
+  pub in_time : IsInTime layout w o.brick.0
+  pub able : (k number : ℕ) → slice_get numbers k ≡ Some number → IsAble layout w number
+  pub untouched : IsUntouched w n
+
+-- the numbers of the bricks of numbers
+numbers_back : (numbers : List ℕ) → map (λ (brick : BrickId). brick.0) (map brick_of numbers) ≡ numbers
+numbers_back [] = refl
+numbers_back (n ∷ numbers) = ap (λ (l : List ℕ). n ∷ l) (numbers_back numbers)
+
+-- a brick has a seat where it is a member
+seated : (members : List BrickId) (n : ℕ) → is_some (seat_in members n) ≡ list_any (λ member. nat_eq member.0 n) members
+seated [] n = refl
+seated (member ∷ members) n = by_first (seated members n) (nat_eq member.0 n) refl
+  where
+    later : (found : Option ℕ) → is_some (option_map (λ seat. seat + 1) found) ≡ is_some found
+    later None = refl
+    later (Some seat) = refl
+
+    by_first : is_some (seat_in members n) ≡ list_any (λ one. nat_eq one.0 n) members → (x : Bool) → nat_eq member.0 n ≡ x
+        → is_some (cond x (Some 0) (option_map (λ seat. seat + 1) (seat_in members n))) ≡ x || list_any (λ one. nat_eq one.0 n) members
+    by_first more true is = refl
+    by_first more false is = later (seat_in members n) ∙ more
+
+counted_members : (members : List BrickId) (numbers : List ℕ)
+    → length (filter (λ (brick : BrickId). is_some (seat_in members brick.0)) (map brick_of numbers))
+    ≡ length (filter (λ number. list_any (λ member. nat_eq member.0 number) members) numbers)
+counted_members members [] = refl
+counted_members members (n ∷ numbers) = by_seat (counted_members members numbers) (is_some (seat_in members n)) (list_any (λ member. nat_eq member.0 n) members) (seated members n)
+  where
+    by_seat : length (filter (λ (brick : BrickId). is_some (seat_in members brick.0)) (map brick_of numbers))
+        ≡ length (filter (λ number. list_any (λ member. nat_eq member.0 number) members) numbers) → (x y : Bool) → x ≡ y
+        → length (cond x (brick_of n ∷ filter (λ (brick : BrickId). is_some (seat_in members brick.0)) (map brick_of numbers))
+        (filter (λ (brick : BrickId). is_some (seat_in members brick.0)) (map brick_of numbers)))
+        ≡ length (cond y (n ∷ filter (λ number. list_any (λ member. nat_eq member.0 number) members) numbers)
+        (filter (λ number. list_any (λ member. nat_eq member.0 number) members) numbers))
+    by_seat more true true same = ap suc more
+    by_seat more false false same = more
+    by_seat more true false same = absurd (let never : true ≡ false = same in cc)
+    by_seat more false true same = absurd (let never : false ≡ true = same in cc)
+
+-- the brick at a place, where there is its number
+brick_there : (numbers : List ℕ) (k : ℕ) (brick : BrickId) → slice_get (map brick_of numbers) k ≡ Some brick
+    → (number : ℕ) × (slice_get numbers k ≡ Some number) × (brick_of number ≡ brick)
+brick_there numbers k brick at = by_found (slice_get numbers k) refl (sym (slice_get-map brick_of numbers k) ∙ at)
+  where
+    by_found : (found : Option ℕ) → slice_get numbers k ≡ found → option_map brick_of found ≡ Some brick
+        → (number : ℕ) × (slice_get numbers k ≡ Some number) × (brick_of number ≡ brick)
+    by_found None is e = absurd (let never : None ≡ Some brick = e in cc)
+    by_found (Some number) is e = (number, is, same_Some (brick_of number) brick e)
+
+-- so it may where all of them hold, and only there
+pub calm_of : (layout : Layout) (w : World) (n : ℕ) (numbers : List ℕ) (c : Coordinator) → Books (coding layout) w → open_call w n ≡ Some c
+    → (at : IsOpenAt (coding layout) w n c) → CalmParts layout w n numbers at.operation c → IsCalm (coding layout) w n (map brick_of numbers)
+calm_of layout w n numbers c books opens at parts = record {
+  operation = at.operation;
+  is = at.is;
+  coordinator = c;
+  open_is = opens;
+  untouched = parts.untouched;
+  distinct = subst (λ (l : List ℕ). IsDistinct nat_eq l) (sym (numbers_back numbers)) parts.distinct;
+  ready = λ k brick found.
+      (let there = brick_there numbers k brick found in
+      let able = parts.able k there.0 there.1 in
+      subst (λ (b : BrickId). IsReady (coding layout) w c b) there.2 (record {
+        up = able.up;
+        view = view_first layout (w.nodes there.0) c.call.group.0 (books.first there.0) ∙ sym at.view;
+        serves = ap (λ (f : ℕ → Bool). f c.call.group.0) (books.first there.0).accepted;
+        room = able.room;
+        times = able.times;
+      }));
+  members = subst (λ (x : ℕ). quorum_of c.group ≤ x) (sym (counted_members c.group.members numbers)) parts.members;
+  clock = parts.in_time.clock;
+  times = parts.in_time.times;
+}
+
+pub parts_of : (layout : Layout) (w : World) (n : ℕ) (numbers : List ℕ) (c : Coordinator) → open_call w n ≡ Some c
+    → (at : IsOpenAt (coding layout) w n c) → is_up layout w at.operation.brick ≡ true → IsCalm (coding layout) w n (map brick_of numbers)
+    → CalmParts layout w n numbers at.operation c
+parts_of layout w n numbers c opens at up calm =
+    let same : calm.operation ≡ at.operation = same_Some calm.operation at.operation (sym calm.is ∙ at.is) in
+    let coordinator : calm.coordinator ≡ c = same_Some calm.coordinator c (sym calm.open_is ∙ opens) in
+    record {
+      distinct = subst (λ (l : List ℕ). IsDistinct nat_eq l) (numbers_back numbers) calm.distinct;
+      members = subst (λ (d : Coordinator). quorum_of d.group ≤ length (filter (λ number. list_any (λ member. nat_eq member.0 number) d.group.members) numbers))
+          coordinator
+          (subst (λ (x : ℕ). quorum_of calm.coordinator.group ≤ x) (counted_members calm.coordinator.group.members numbers) calm.members);
+      in_time = record {
+        up = up;
+        clock = subst (λ (o : Operation). w.clocks o.brick.0 < early) same calm.clock;
+        times = subst (λ (o : Operation). IsEarly (w.nodes o.brick.0)) same calm.times;
+      };
+      able = λ k number found.
+          (let ready = calm.ready k (brick_of number) (slice_get-map brick_of numbers k ∙ ap (option_map brick_of) found) in
+          record { up = ready.up; room = ready.room; times = ready.times });
+      untouched = calm.untouched;
+    }

@@ -1,0 +1,195 @@
+//! Whether an operation may run alone among some bricks.
+
+ghost use Rattle.std.specs.Prelude.{◌≡◌, ◌&&◌, ℕ, map, nat_lt, nat_le, nat_eq, length, filter, is_some, slice_get, Some};
+ghost use Rattle.std.specs.List.{IsDistinct, list_any};
+ghost use Rattle.std.specs.Bool.{Decides};
+ghost use Rattle.std.specs.Option.{option_copied};
+ghost use Rattle.quorum.specs.Quorums.{quorum_of};
+ghost use Rattle.fab_base.specs.Layouts.{seat_in};
+ghost use Rattle.protocol.specs.Worlds.{World};
+ghost use Rattle.protocol.specs.Calms.{IsEarly};
+ghost use Rattle.node.specs.Running.{state_of};
+ghost use Rattle.world.specs.Shown.{ShowsBricks, FindsRunning, ClockIs, IsAble, IsInTime, AreNodesOf};
+
+use crate::bricks::{Brick, Power};
+use crate::ledgers::Origin;
+use crate::simulations::Simulation;
+use fab_base::BrickId;
+use fab_disk::MemDisk;
+use layout::{Group, Layout};
+use node::Node;
+
+/// The times at which an operation may run alone are below this one.
+const LATE: u64 = 1 << 63;
+
+/// A brick that runs, by its number. None where there is none.
+pub fn running<'b>(bricks: &'b [Brick], number: u64) -> Option<&'b Node<MemDisk>>
+    ensures { FindsRunning bricks.now number (option_copied result) }
+{
+    if number >= bricks.len() as u64 {
+        return None;
+    }
+    match &bricks[number as usize].power {
+        Power::Up(node) => Some(node),
+        Power::Down(_) => None,
+    }
+}
+
+/// Whether every time that a brick knows, or keeps in a stamp, is early.
+#[tactic(auto, unfolding(node::specs::Running::state_of))]
+fn is_early(node: &Node<MemDisk>) -> bool
+    ensures { Decides result (IsEarly (state_of node.now)) }
+{
+    let store = node.store();
+    // It tells that the stripes stand in order.
+    let _ = store.is_halted();
+    node.known_time().max(store.top_time()) < LATE
+}
+
+/// Whether a brick is up, has room for two records more, and its times are early.
+fn is_able(bricks: &[Brick], layout: &Layout, number: u64) -> bool
+    ensures { (w : World) → ShowsBricks layout.now bricks.now w.nodes w.after w.up w.clocks → Decides result (IsAble layout.now w number) }
+{
+    match running(bricks, number) {
+        Some(node) => {
+            u64::from(node.store().live()) + 2 <= u64::from(layout.records()) && is_early(node)
+        }
+        None => false,
+    }
+}
+
+/// Whether all these bricks are up, have room, and their times are early.
+fn are_able(bricks: &[Brick], layout: &Layout, numbers: &[u64]) -> bool
+    ensures { (w : World) → ShowsBricks layout.now bricks.now w.nodes w.after w.up w.clocks
+        → Decides result ((k number : ℕ) → slice_get numbers.now k ≡ Some number → IsAble layout.now w number) }
+{
+    for number in numbers {
+        if !is_able(bricks, layout, *number) {
+            return false;
+        }
+    }
+    true
+}
+
+/// What the clock of a brick reads, 0 where there is none.
+fn clock_of(bricks: &[Brick], number: u64) -> u64
+    ensures { ClockIs bricks.now number result }
+{
+    if number >= bricks.len() as u64 {
+        return 0;
+    }
+    bricks[number as usize].clock
+}
+
+/// Whether the clock of a brick that is up, and all its times, are early.
+fn is_in_time(bricks: &[Brick], number: u64) -> bool
+    ensures { (layout : _) (w : World) → ShowsBricks layout bricks.now w.nodes w.after w.up w.clocks → Decides result (IsInTime layout w number) }
+{
+    match running(bricks, number) {
+        Some(node) => clock_of(bricks, number) < LATE && is_early(node),
+        None => false,
+    }
+}
+
+/// Whether no number stands twice.
+fn are_distinct(numbers: &[u64]) -> bool
+    ensures { Decides result (IsDistinct nat_eq numbers.now) }
+{
+    match numbers {
+        [] => true,
+        [first, rest @ ..] => !rest.contains(first) && are_distinct(rest),
+    }
+}
+
+/// Whether a brick of this number is a member of the group.
+fn is_member(group: &Group, number: u64) -> bool
+    ensures { result ≡ list_any (λ member. nat_eq member.0 number) group.now.members }
+{
+    group
+        .members()
+        .as_slice()
+        .iter()
+        .any(|member| u64::from(member.0) == number)
+}
+
+/// How many of these bricks are members of the group.
+fn members_among(group: &Group, numbers: &[u64]) -> usize
+    ensures { result ≡ length (filter (λ number. list_any (λ member. nat_eq member.0 number) group.now.members) numbers.now) }
+{
+    numbers
+        .iter()
+        .filter(|number| is_member(group, **number))
+        .count()
+}
+
+impl Simulation {
+    ghost use Rattle.std.specs.Prelude.{◌≡◌, map, is_some};
+    ghost use Rattle.std.specs.Bool.{Decides};
+    ghost use Rattle.protocol.specs.Worlds.{World};
+    ghost use Rattle.protocol.specs.Calms.{IsCalm, open_call};
+    ghost use Rattle.stripe_code.specs.Codes.{coding};
+    ghost use Rattle.world.specs.Ledgers.{Notes, origin_at};
+    ghost use Rattle.world.specs.Runs.{brick_of};
+    ghost use Rattle.std.specs.Option.{option_copied};
+    ghost use Rattle.world.specs.Shown.{Shows, IsReachedBy, OpensAs, GroupIs};
+
+    /// Where an operation began, if it is open.
+    pub fn open_origin(&self, operation: u64) -> Option<Origin>
+        ensures { (layout : _) (w : World) → IsReachedBy layout w → Shows layout self.now w → Notes self.now.ledger w → OpensAs self.now w operation result }
+    {
+        let Some(origin) = self.ledger.origin(operation) else {
+            return None;
+        };
+        let Some(node) = running(&self.bricks, u64::from(origin.brick.0)) else {
+            return None;
+        };
+        if origin.ended {
+            return None;
+        }
+        if node.boot() != origin.boot {
+            return None;
+        }
+        Some(origin)
+    }
+
+    /// Whether an operation may run alone among these bricks.
+    pub fn is_calm(&self, layout: &Layout, operation: u64, bricks: &[u64]) -> bool
+        ensures { (w : World) → IsReachedBy layout.now w → Shows layout.now self.now w → Notes self.now.ledger w
+            → Decides result (IsCalm (coding layout.now) w operation (map brick_of bricks.now)) }
+    {
+        let Some(origin) = self.open_origin(operation) else {
+            return false;
+        };
+        let Some(group) = self.group_of(layout, operation) else {
+            return false;
+        };
+        if !are_distinct(bricks) {
+            return false;
+        }
+        if members_among(group, bricks) < group.quorum() as usize {
+            return false;
+        }
+        if !is_in_time(&self.bricks, u64::from(origin.brick.0)) {
+            return false;
+        }
+        if !are_able(&self.bricks, layout, bricks) {
+            return false;
+        }
+        self.ledger.is_untouched(&self.history.sent, origin)
+    }
+
+    /// The group of an operation.
+    fn group_of<'l>(&self, layout: &'l Layout, operation: u64) -> Option<&'l Group>
+        ensures { (w : World) → IsReachedBy layout.now w → Shows layout.now self.now w → GroupIs layout.now w operation (option_copied result) }
+    {
+        if operation == 0 {
+            return None;
+        }
+        let place = (operation - 1) as usize;
+        if place >= self.history.operations.len() {
+            return None;
+        }
+        let kept = self.history.operations[place];
+        layout.group(kept.group)
+    }
+}
