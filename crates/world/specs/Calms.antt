@@ -4,12 +4,14 @@ use Rattle.fab_base.specs.declared.identities.BrickId.{BrickId}
 use Rattle.protocol.specs.Settings.{Setting}
 use Rattle.protocol.specs.Worlds.{World, Event, Delivers, happens}
 use Rattle.protocol.specs.Calms.{IsCalm, RunsAlone, open_call, next_delivery}
+use Rattle.calm_laws.specs.Laws.{IsOver}
 
--- an operation may run alone among these bricks, and does
+-- An operation may run alone among these bricks, and does. It is over then: it was answered data, or that it is done.
 pub record RunsCalm (setting : Setting) (w : World) (n : ℕ) (bricks : List BrickId) (events : List Event) : Type 0 where
   pub calm : IsCalm setting w n bricks
   pub last : World
   pub runs : RunsAlone setting n bricks w events last
+  pub over : IsOver last n
 
 -- so it does where it may, and else nothing happens
 abbrev pub IsCalmRun : Setting → World → ℕ → List BrickId → List Event → Type 0
