@@ -31,6 +31,7 @@ use Rattle.world.specs.Shown.{ShowsBricks, IsRunning, IsAble, IsInTime}
 use Rattle.world.specs.declared.bricks.Brick.{Brick}
 use Rattle.world.specs.declared.bricks.Power.TheVariants.{Up, Down}
 use Rattle.world.proofs.BrickListLemmas.{runs_at, rests_at}
+use Rattle.world.proofs.CallNumbers.{AreOfBricks}
 
 -- a brick that runs is up, in any layout that it shows
 up_within : (layout : Layout) (bricks : List Brick) (w : World) (b : ℕ) → b < length bricks
@@ -351,3 +352,31 @@ parts_of layout w n numbers c opens at up calm =
           record { up = ready.up; room = ready.room; times = ready.times });
       untouched = calm.untouched;
     }
+
+-- an operation that is open, as the ledger notes it
+pub record Here (layout : Layout) (w : World) (n : ℕ) (origin : Origin) : Type 0 where
+  pub coordinator : Coordinator
+  pub opens : open_call w n ≡ Some coordinator
+  pub at : IsOpenAt (coding layout) w n coordinator
+  pub up : is_up layout w at.operation.brick ≡ true
+  pub noted : NotesOrigin w origin at.operation
+  pub some : n ≢ 0
+
+pub open_here : (layout : Layout) (w : World) (n : ℕ) (ledger : Ledger) (origin : Origin) → Books (coding layout) w → AreOfBricks layout w → Notes ledger w
+    → is_some (open_call w n) ≡ true → origin_at ledger.origins.items n ≡ Some origin → Here layout w n origin
+open_here layout w n ledger origin books there notes goes is = by_call (open_call w n) refl goes
+  where
+    by_call : (found : Option Coordinator) → open_call w n ≡ found → is_some found ≡ true → Here layout w n origin
+    by_call None none e = absurd (let never : false ≡ true = e in cc)
+    by_call (Some c) opens e =
+        let at = open_parts (coding layout) w n c books opens in
+        let its = noted_at w ledger n origin notes is in
+        let same : its.0 ≡ at.operation = same_Some its.0 at.operation (sym its.1 ∙ at.is) in
+        record {
+          coordinator = c;
+          opens = opens;
+          at = at;
+          up = ap (λ (b : Bool). b && w.up at.operation.brick.0) (there n at.operation at.is) ∙ at.up;
+          noted = subst (λ (o : Operation). NotesOrigin w origin o) same its.2;
+          some = its.3;
+        }

@@ -1,0 +1,113 @@
+-- All that is asked holds, or something does not.
+use Rattle.std.proofs.Common.{◌≡◌, ℕ, ◌<◌, ◌≤◌, Bool, true, false, List, map, Option, Some, None, is_some, refl, sym, ap, ◌∙◌, subst, arith, length, filter, nat_eq}
+use Rattle.std.specs.Bool.{Decides}
+use Rattle.std.proofs.lemmas.Option.{same_Some}
+use Rattle.fab_base.specs.declared.identities.BrickId.{BrickId}
+use Rattle.fab_base.specs.Layouts.{Group}
+use Rattle.messages.specs.declared.packets.Packet.{Packet}
+use Rattle.stripe_code.specs.Codes.{coding}
+use Rattle.protocol.specs.Worlds.{World}
+use Rattle.protocol.specs.Calms.{IsCalm, IsUntouched}
+use Rattle.world.specs.Ledgers.{Notes, IsUntouchedAt}
+use Rattle.world.specs.Runs.{brick_of}
+use Rattle.world.specs.Shown.{Shows, ShowsBricks, IsReachedBy, IsInTime}
+use Rattle.world.specs.declared.bricks.Brick.{Brick}
+use Rattle.world.specs.declared.ledgers.Origin.{Origin}
+use Rattle.quorum.specs.Quorums.{quorum_of}
+use Rattle.std.specs.List.{list_any}
+use Rattle.world.proofs.CalmLemmas.{Here, CalmParts, calm_of, parts_of, open_here}
+use Rattle.world.proofs.CalmRuns.{untouched_as, touched_as}
+use Rattle.world.proofs.RunLaws.{reached_books, reached_bricks, reached_knows, reached_numbers}
+use Rattle.world.proofs.simulations.Simulation.is_calm.Goals as goal
+
+-- what does not hold of an operation that may run alone decides against it
+against : (P : Type 0) (b : Bool) → b ≡ false → (P → b ≡ true) → Decides false P
+against P b off on = (λ e. absurd (let never : false ≡ true = e in cc), λ holds. absurd (let never : true ≡ false = sym (on holds) ∙ off in cc))
+
+-- an operation that is not open may not
+pub returns-in_default : goal.returns-in_default
+returns-in_default c w reached shows notes = (
+  λ on. absurd (let never : false ≡ true = on in cc),
+  λ calm. absurd (let never : None ≡ Some calm.coordinator = sym (c.in_default.ensures c.args.layout.now w reached shows notes) ∙ calm.open_is in cc),
+)
+
+pub returns-then-not-are_distinct : goal.returns-then-not-are_distinct
+returns-then-not-are_distinct c w reached shows notes =
+    let opened = c.in-Some.ensures c.args.layout.now w reached shows notes in
+    let here = open_here c.args.layout.now w c.args.operation c.args.self.now.ledger c.in-Some.origin (reached_books c.args.layout.now w reached)
+    (reached_bricks c.args.layout.now w reached) notes opened.0 opened.1 in
+    against _ c.are_distinct.result c.if-not-are_distinct.true
+    (λ calm. c.are_distinct.ensures.1 (parts_of c.args.layout.now w c.args.operation c.args.bricks.now here.coordinator here.opens here.at here.up calm).distinct)
+
+pub returns-then-members_among-quorum : goal.returns-then-members_among-quorum
+returns-then-members_among-quorum c w reached shows notes =
+    let opened = c.in-Some.ensures c.args.layout.now w reached shows notes in
+    let here = open_here c.args.layout.now w c.args.operation c.args.self.now.ledger c.in-Some.origin (reached_books c.args.layout.now w reached)
+    (reached_bricks c.args.layout.now w reached) notes opened.0 opened.1 in
+    let group : c.in-Some-group_of.group.now ≡ here.coordinator.group =
+    same_Some _ _ (c.in-Some-group_of.ensures w reached shows here.coordinator here.opens) in (
+      λ on. absurd (let never : false ≡ true = on in cc),
+      λ calm.
+          (let parts = parts_of c.args.layout.now w c.args.operation c.args.bricks.now here.coordinator here.opens here.at here.up calm in
+          let enough = subst (λ (g : Group). quorum_of g ≤ length (filter (λ number. list_any (λ member. nat_eq member.0 number) g.members) c.args.bricks.now))
+          (sym group) parts.members in
+          absurd (omega (arith, enough, c.members_among.ensures, c.quorum.ensures, c.if-members_among-quorum.true))),
+    )
+
+pub returns-then-not-is_in_time : goal.returns-then-not-is_in_time
+returns-then-not-is_in_time c w reached shows notes =
+    let opened = c.in-Some.ensures c.args.layout.now w reached shows notes in
+    let here = open_here c.args.layout.now w c.args.operation c.args.self.now.ledger c.in-Some.origin (reached_books c.args.layout.now w reached)
+    (reached_bricks c.args.layout.now w reached) notes opened.0 opened.1 in
+    let bricks : ShowsBricks c.args.layout.now c.deref.result.now w.nodes w.after w.up w.clocks =
+    subst (λ (l : List Brick). ShowsBricks c.args.layout.now l w.nodes w.after w.up w.clocks) (sym c.deref.ensures.value) shows.bricks in
+    against _ c.is_in_time.result c.if-not-is_in_time.true
+    (λ calm. (c.is_in_time.ensures c.args.layout.now w bricks).1
+    (subst (λ (b : ℕ). IsInTime c.args.layout.now w b) (sym (c.from.ensures ∙ ap (λ (b : BrickId). b.0) here.noted.brick))
+    (parts_of c.args.layout.now w c.args.operation c.args.bricks.now here.coordinator here.opens here.at here.up calm).in_time))
+
+pub returns-then-not-are_able : goal.returns-then-not-are_able
+returns-then-not-are_able c w reached shows notes =
+    let opened = c.in-Some.ensures c.args.layout.now w reached shows notes in
+    let here = open_here c.args.layout.now w c.args.operation c.args.self.now.ledger c.in-Some.origin (reached_books c.args.layout.now w reached)
+    (reached_bricks c.args.layout.now w reached) notes opened.0 opened.1 in
+    let bricks : ShowsBricks c.args.layout.now c.deref-2.result.now w.nodes w.after w.up w.clocks =
+    subst (λ (l : List Brick). ShowsBricks c.args.layout.now l w.nodes w.after w.up w.clocks) (sym c.deref-2.ensures.value) shows.bricks in
+    against _ c.are_able.result c.if-not-are_able.true
+    (λ calm. (c.are_able.ensures w bricks).1
+    (parts_of c.args.layout.now w c.args.operation c.args.bricks.now here.coordinator here.opens here.at here.up calm).able)
+
+pub returns : goal.returns
+returns c w reached shows notes =
+    let opened = c.in-Some.ensures c.args.layout.now w reached shows notes in
+    let here = open_here c.args.layout.now w c.args.operation c.args.self.now.ledger c.in-Some.origin (reached_books c.args.layout.now w reached)
+    (reached_bricks c.args.layout.now w reached) notes opened.0 opened.1 in
+    let group : c.in-Some-group_of.group.now ≡ here.coordinator.group =
+    same_Some _ _ (c.in-Some-group_of.ensures w reached shows here.coordinator here.opens) in
+    let first : ShowsBricks c.args.layout.now c.deref.result.now w.nodes w.after w.up w.clocks =
+    subst (λ (l : List Brick). ShowsBricks c.args.layout.now l w.nodes w.after w.up w.clocks) (sym c.deref.ensures.value) shows.bricks in
+    let second : ShowsBricks c.args.layout.now c.deref-2.result.now w.nodes w.after w.up w.clocks =
+    subst (λ (l : List Brick). ShowsBricks c.args.layout.now l w.nodes w.after w.up w.clocks) (sym c.deref-2.ensures.value) shows.bricks in
+    let sent : c.deref-3.result.now ≡ w.packets = c.deref-3.ensures.value ∙ shows.history.packets in (
+      λ on. calm_of c.args.layout.now w c.args.operation c.args.bricks.now here.coordinator (reached_books c.args.layout.now w reached) here.opens here.at
+          (record {
+            distinct = c.are_distinct.ensures.0 c.if-not-are_distinct.false;
+            members = subst (λ (g : Group). quorum_of g ≤ length (filter (λ number. list_any (λ member. nat_eq member.0 number) g.members) c.args.bricks.now))
+                group (omega (arith, c.members_among.ensures, c.quorum.ensures, c.if-members_among-quorum.false));
+            in_time = subst (λ (b : ℕ). IsInTime c.args.layout.now w b) (c.from.ensures ∙ ap (λ (b : BrickId). b.0) here.noted.brick)
+                ((c.is_in_time.ensures c.args.layout.now w first).0 c.if-not-is_in_time.false);
+            able = (c.are_able.ensures w second).0 c.if-not-are_able.false;
+            untouched = untouched_as w c.args.operation here.at.operation (reached_numbers c.args.layout.now w reached) (reached_knows c.args.layout.now w reached)
+                here.some here.at.is c.args.self.now.ledger c.in-Some.origin c.deref-3.result.now notes sent here.noted.brick here.noted.boot here.noted.seq
+                (subst (λ (b : Bool). IsUntouchedAt c.args.self.now.ledger.reached.items c.deref-3.result.now c.in-Some.origin b) on c.is_untouched.ensures);
+          }),
+      λ calm. by_untouched c.args.self.now.ledger.reached.items c.deref-3.result.now c.in-Some.origin c.is_untouched.result c.is_untouched.ensures
+          (λ touched. touched_as w c.args.operation here.at.operation (reached_numbers c.args.layout.now w reached) (reached_knows c.args.layout.now w reached)
+          here.some here.at.is c.args.self.now.ledger c.in-Some.origin c.deref-3.result.now notes sent here.noted.brick here.noted.boot here.noted.seq touched
+          calm.untouched),
+    )
+  where
+    by_untouched : (reached : List Bool) (packets : List Packet) (origin : Origin) (b : Bool) → IsUntouchedAt reached packets origin b
+        → (IsUntouchedAt reached packets origin false → ⊥) → b ≡ true
+    by_untouched reached packets origin true is never = refl
+    by_untouched reached packets origin false is never = absurd (never is)
