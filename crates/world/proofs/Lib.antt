@@ -22,3 +22,4 @@ pub mod LedgerLemmas
 pub mod LedgerLists
 pub mod CalmLemmas
 pub mod CalmRuns
+pub mod CalmEnds
