@@ -113,8 +113,8 @@ none_of (suc n) zero = refl
 none_of (suc n) (suc g) = none_of n g
 
 -- nor of any stripe, but the version that it begins with in view 1
-fresh_part : (block e : ℕ) (b : Bool) → cond b (first_replica block) (record { order = first_stamp; log = [] })
-    ≡ part_of first_stamp (cond b (version first_stamp (replicate block 0) ∷ []) [] ++ [])
+fresh_part : (block e : ℕ) (b : Bool) → cond b (first_replica block) (record { order = first_stamp; log = []; from_start = false })
+    ≡ part_of first_stamp (cond b (version first_stamp (replicate block 0) ∷ []) [] ++ []) b
 fresh_part block e true = refl
 fresh_part block e false = refl
 

@@ -81,7 +81,7 @@ fn print(alloc: Global, outcome: Outcome, marks: &[Mark]) -> Result<Bytes, NoMem
 impl World {
     ghost use Rattle.std.specs.Prelude.{◌≡◌, ◌≤◌, [], None, IfOk, OnOk, OnErr, IsErrOf, length};
     ghost use Rattle.std.specs.Option.{option_map};
-    ghost use Rattle.replica.specs.Parts.{part_seen};
+    ghost use Rattle.replica.specs.Parts.{log_seen};
     ghost use Rattle.lines.specs.Grammar.{line_of};
     ghost use Rattle.stripe_code.specs.Codes.{coding};
     ghost use Rattle.protocol.specs.Happenings.{happenings_of};
@@ -179,7 +179,7 @@ impl World {
         group: GroupId,
         stripe: StripeNo,
     ) -> Option<brick_store::State<'_>>
-        ensures { option_map (λ seen. (part_seen seen).log) result ≡ log_at self.now brick.0 group.0 stripe.0 }
+        ensures { option_map log_seen result ≡ log_at self.now brick.0 group.0 stripe.0 }
     {
         let stripes = self.layout.group(group)?.stripes();
         if stripe.0 >= stripes {
