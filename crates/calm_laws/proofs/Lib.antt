@@ -16,8 +16,10 @@ pub mod FirstRounds
 pub mod Floors
 pub mod Hearing
 pub mod Hears
+pub mod Kept
 pub mod Known
 pub mod Looking
+pub mod Once
 pub mod OrderPhases
 pub mod OrderRuns
 pub mod Ordering
