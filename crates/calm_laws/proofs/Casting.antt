@@ -4,9 +4,8 @@ use Rattle.std.proofs.lemmas.Bool.{cases_eq, cond_both, eq-eqb, ne_eqb}
 use Rattle.std.specs.List.{AllByRecursion, IsDistinct}
 use Rattle.std.specs.Option.{option_map}
 use Rattle.std.specs.Prelude.{filter, if◌then◌else◌, is_some, nat_eq, slice_get}
-use Rattle.calm_laws.proofs.Counts.{AreApart}
 use Rattle.calm_laws.proofs.Decided.{in_this}
-use Rattle.calm_laws.proofs.Scenes.{Each, Seated, Stage, asking}
+use Rattle.calm_laws.proofs.Scenes.{Each, Seated, Stage, asking, AreApart}
 use Rattle.fab_base.specs.Layouts.{seat_in}
 use Rattle.fab_base.specs.declared.identities.BrickId.{BrickId}
 use Rattle.messages.specs.declared.packets.Message.{Message}

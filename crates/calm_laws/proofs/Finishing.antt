@@ -43,7 +43,7 @@ plays stage n _ (Begins s from call reply rest d next is same closes) w shows =
 plays stage n _ (Creates s from call reply rest d next is same closes) w shows =
     create_plays stage n w s from call reply rest shows next d is same
     (λ later shows_later. plays stage n (made stage (heard s reply rest) d) closes later shows_later)
-plays stage n _ (Answers s from call reply rest answer seen stored next is well) w shows =
+plays stage n _ (Answers s from call reply rest answer seen stored next is well ends) w shows =
     answer_plays stage n w s from call reply rest shows next answer seen stored is well
 
 -- an operation that is open is not closed

@@ -4,7 +4,7 @@ use Rattle.std.specs.Prelude.{◌-◌, ◌^◌}
 use Rattle.calm_laws.proofs.Asking.{Holds, each_then}
 use Rattle.calm_laws.proofs.Counts.{Carries, counted_of}
 use Rattle.calm_laws.proofs.Decided.{order_decides, recover_decides}
-use Rattle.calm_laws.proofs.Descending.{IsSet, Lore, after_replies, down_phase, having, read_back_goes, told_fits}
+use Rattle.calm_laws.proofs.Descending.{are_taking, IsSet, Lore, after_replies, down_phase, having, read_back_goes, told_fits}
 use Rattle.calm_laws.proofs.Finds.{Has, finding, some_of, total_below}
 use Rattle.protocol_laws.proofs.Logs.{LogAscends}
 use Rattle.calm_laws.proofs.OrderRuns.{IsOrdering, IsUnheld, held_below}
@@ -83,9 +83,7 @@ module _ (stage : Stage) (cast : Cast stage) (logs : ℕ → List Version) (lore
         (made stage (after_replies stage s known parts others before) (in_phase (having s.c (map (counted_of (λ x. Ordered)) cast.xs)) Stores)) group
         (after_in_phase s.c (map (counted_of (λ x. Ordered)) cast.xs) Stores) refl refl)
         refl early (λ x seated. lore.encodes s.c.group.m s.c.content x.seat)
-        (each_then (λ (x : Seated). TameWith stage s.c.stamp logs x.brick.0 (parts x.brick.0))
-        (λ (x : Seated). (stamp_below s.c.stamp (top_of (parts x.brick.0).replica) ≡ false) × Room stage (parts x.brick.0)) cast.xs
-        (λ x h. (h.tame, h.room)) tame),
+        (are_taking stage s.c.stamp logs parts cast.xs lore.ascends tame),
   )
 
   -- a recovery reads back what it finds

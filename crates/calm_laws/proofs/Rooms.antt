@@ -120,8 +120,3 @@ order_read_accepts t full replica look wanted tame roomy =
     ap (λ (b : Bool). cond b (stays replica (Later (top_of replica)))
     (unless_full full replica (promised replica t (OrderedRead (told_version wanted (looked_up look replica.log)))))) tame
     ∙ ap (λ (z : Option ℕ). unless_full z replica (promised replica t (OrderedRead (told_version wanted (looked_up look replica.log))))) roomy
-
--- a version that was added is held
-pub added_held : (t : Stamp) (block : List ℕ) (log : List Version) → is_held t (log ++ (record { stamp = t; block = block } ∷ [])) ≡ true
-added_held t block [] = ap (λ (b : Bool). b || false) (stamp_same_refl t)
-added_held t block (version ∷ log) = or_right (stamp_same version.stamp t) (is_held t (log ++ (record { stamp = t; block = block } ∷ []))) (added_held t block log)
