@@ -85,7 +85,14 @@ module _ (setting : Setting) (sound : IsSound setting) (lengths : EncodesBlocks 
   c = calm.coordinator
 
   abbrev stage : Stage
-  stage = record { setting = setting; bricks = bricks; me = o.brick; now = w.clocks o.brick.0; group = c.group }
+  stage = record {
+    setting = setting;
+    bricks = bricks;
+    me = o.brick;
+    now = w.clocks o.brick.0;
+    group = c.group;
+    quorum = take (quorum_of c.group) (chosen bricks 0 c.group.members);
+  }
 
   limits : IsWithinLimits c.group.m (length c.group.members)
   limits = sound.limits c.ask.group.0 c.group known.call.group_is
@@ -118,6 +125,7 @@ module _ (setting : Setting) (sound : IsSound setting) (lengths : EncodesBlocks 
   cast = record {
     xs = take q all;
     rest = drop q all;
+    counts = refl;
     seated = each_take (IsSeated stage) q all all_seated;
     rest_seated = each_drop (IsSeated stage) q all all_seated;
     apart = apart_take q all (apart_chosen bricks 0 c.group.members);
@@ -338,5 +346,5 @@ module _ (setting : Setting) (sound : IsSound setting) (lengths : EncodesBlocks 
         over = λ others other runs.
             let same = runs_once setting n bricks w finish.events finish.last finish.alone others other runs in
             subst (λ (z : World). IsOver z n) same.1
-            (record { closed = finish.closed; operation = finish.operation; is = finish.is; answered = finish.answered });
+            (record { closed = finish.end.closed; operation = finish.end.operation; is = finish.end.is; answered = finish.end.answered });
       }

@@ -18,9 +18,10 @@ use Rattle.quorum.specs.Tallies.{fits}
 use Rattle.protocol.specs.Calms.{Next as Goes_on, Stuck}
 
 -- each step of the scene is a delivery
-pub plays : (stage : Stage) (n : ℕ) (s : Scene) → Closes stage s → (w : World) → Shows stage n w s → Finishes stage n w
+pub plays : (stage : Stage) (n : ℕ) (s : Scene) → Closes stage s → (w : World) → Shows stage n w s → Finishes stage n s.c w
 plays stage n _ (Asks s x rest queue seated fits closes) w shows =
-    finishes_by stage n w s (asking stage s.c x) rest shows queue (shows.members x.brick seated.1).up
+    finishes_by stage n w s s.c (asking stage s.c x) rest shows
+    (record { group = refl; boot = refl; seq = refl; of_group = refl; view = refl; stripe = refl }) queue (shows.members x.brick seated.1).up
     (reacted x.brick stage.me (w.nodes x.brick.0) s.c.call (reaction stage s.c (s.parts x.brick.0) x))
     (asked_step stage n w s x shows seated fits)
     (λ head.
@@ -44,7 +45,7 @@ plays stage n _ (Creates s from call reply rest d next is same closes) w shows =
     create_plays stage n w s from call reply rest shows next d is same
     (λ later shows_later. plays stage n (made stage (heard s reply rest) d) closes later shows_later)
 plays stage n _ (Answers s from call reply rest answer seen stored next is well ends) w shows =
-    answer_plays stage n w s from call reply rest shows next answer seen stored is well
+    answer_plays stage n w s from call reply rest shows next answer seen stored is well ends
 
 -- an operation that is open is not closed
 not_both : (setting : Setting) (n : ℕ) (w : World) → is_some (open_call w n) ≡ true → open_call w n ≡ None → ⊥

@@ -93,6 +93,7 @@ module _ (stage : Stage) (s : Scene) (Inv After : ℕ → Part → Type 0) (f : 
 pub record Cast (stage : Stage) : Type 0 where
   pub xs : List Seated
   pub rest : List Seated
+  pub counts : xs ≡ stage.quorum
   pub seated : Each (IsSeated stage) xs
   pub rest_seated : Each (IsSeated stage) rest
   pub apart : AreApart xs

@@ -1,6 +1,6 @@
 -- An operation alone, seen from its coordinator: a small machine of the coordinator, what its members keep of its stripe, and the queue of its
 -- messages. What it does, the disk does with the operation's messages alone.
-use Rattle.std.proofs.Common.{List, None, Option, Some, [], false, length, refl, subst, sym, true, ℕ, ◌++◌, ◌+◌, ◌∷◌, ◌≡◌}
+use Rattle.std.proofs.Common.{List, None, Option, Some, [], false, refl, subst, sym, true, ℕ, ◌++◌, ◌+◌, ◌∷◌, ◌≡◌}
 use Rattle.std.specs.Prelude.{filter, max, nat_eq, ◌-◌}
 use Rattle.fab_base.specs.Layouts.{Group, seat_in}
 use Rattle.fab_base.specs.declared.answers.Answer.{Answer}
@@ -20,15 +20,21 @@ use Rattle.protocol.specs.Settings.{Setting}
 use Rattle.protocol.specs.declared.phases.Phase.{Phase}
 use Rattle.protocol.specs.Worlds.{is_answer}
 use Rattle.protocol_laws.proofs.Outcomes.{IsLook}
-use Rattle.quorum.specs.Quorums.{quorum_of}
 
--- what stays as it is meanwhile: the setting, the bricks that hear one another, the coordinator's brick and its clock, and the group
+-- a member at its seat
+pub record Seated : Type 0 where
+  pub seat : ℕ
+  pub brick : BrickId
+
+-- what stays as it is meanwhile: the setting, the bricks that hear one another, the coordinator's brick and its clock, the group, and the members
+-- whose replies count: the first quorum that hears the coordinator
 pub record Stage : Type 0 where
   pub setting : Setting
   pub bricks : List BrickId
   pub me : BrickId
   pub now : ℕ
   pub group : Group
+  pub quorum : List Seated
 
 -- what a brick keeps of the stripe, and how many live records it keeps in all
 pub record Part : Type 0 where
@@ -41,11 +47,6 @@ pub record Scene : Type 0 where
   pub known : ℕ
   pub parts : ℕ → Part
   pub queue : List Packet
-
--- a member at its seat
-pub record Seated : Type 0 where
-  pub seat : ℕ
-  pub brick : BrickId
 
 -- a member that hears the coordinator, at its seat
 abbrev pub IsSeated : Stage → Seated → Type 0
@@ -65,18 +66,10 @@ AreApart (x ∷ xs) = Each (λ y. nat_eq x.seat y.seat ≡ false) xs × AreApart
 abbrev pub IsNewest : Stamp → List Version → Type 0
 IsNewest t log = (version : Version) × (newest_of log ≡ Some version) × (version.stamp ≡ t)
 
--- a quorum of members hear the coordinator, and have the version of this stamp as their newest
-pub record HaveStored (stage : Stage) (parts : ℕ → Part) (t : Stamp) : Type 0 where
-  pub members : List Seated
-  pub seated : Each (IsSeated stage) members
-  pub apart : AreApart members
-  pub quorum : length members ≡ quorum_of stage.group
-  pub newest : Each (λ x. IsNewest t (parts x.brick.0).replica.log) members
-
--- how an operation is answered that is in this phase, with this stamp: with its version stored, or at a look
+-- how an operation is answered that is in this phase, with this stamp: at a look, or with its version the newest at the members whose replies count
 abbrev pub EndsAt : Stage → Phase → Stamp → (ℕ → Part) → Option Stamp → Option Stamp → Type 0
 EndsAt stage phase stamp parts seen None = IsLook phase
-EndsAt stage phase stamp parts None (Some t) = (t ≡ stamp) × HaveStored stage parts t
+EndsAt stage phase stamp parts None (Some t) = (t ≡ stamp) × Each (λ x. IsNewest t (parts x.brick.0).replica.log) stage.quorum
 EndsAt stage phase stamp parts (Some v) (Some t) = ⊥
 
 -- what a coordinator asks of a member

@@ -110,5 +110,5 @@ storing_ends stage cast s P open_is so early fits storable answers ends =
     let end = ends (fresh_at stage s.c known) in
     subst (λ (z : Next). Carries stage (record s { known = known; parts = parts; queue = told_all stage s.c open_is.others before }) z) (sym end.2) (
       end.1,
-      (refl, record { members = cast.xs; seated = cast.seated; apart = cast.apart; quorum = cast.quorum; newest = newest }),
+      (refl, subst (λ (xs : List Seated). Each (λ x. IsNewest s.c.stamp (parts x.brick.0).replica.log) xs) cast.counts newest),
     ))
