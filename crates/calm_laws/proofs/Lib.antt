@@ -7,6 +7,7 @@ pub mod Beginnings
 pub mod BlockWrites
 pub mod Calmness
 pub mod Casting
+pub mod Collecting
 pub mod Counts
 pub mod Decided
 pub mod Descending

@@ -148,19 +148,19 @@ ends_by stage n w s packet rest shows queue up step step_is then =
     }
 
 -- a member handles a request that fits
-pub member_step : (stage : Stage) (w : World) (call : Call) (x : Seated) (request : Request) → IsMember stage w call x.brick
+pub member_step : (stage : Stage) (w : World) (from : BrickId) (call : Call) (x : Seated) (request : Request) → IsMember stage w call x.brick
     → seat_in stage.group.members x.brick.0 ≡ Some x.seat → fits_block stage.setting.layout.block stage.group.m x.seat request ≡ true
-    → requested stage.setting x.brick stage.me (w.nodes x.brick.0) call request
-    ≡ reacted x.brick stage.me (w.nodes x.brick.0) call (handle stage.setting.code stage.group.m
+    → requested stage.setting x.brick from (w.nodes x.brick.0) call request
+    ≡ reacted x.brick from (w.nodes x.brick.0) call (handle stage.setting.code stage.group.m
     (full_at stage.setting.layout.records (w.nodes x.brick.0).live) x.seat (replica_at (w.nodes x.brick.0) call) request)
 unfolding requested
-member_step stage w call x request member seat fits =
-    ap (λ (z : Option Group). requested_in stage.setting x.brick stage.me (w.nodes x.brick.0) call request z) member.group
-    ∙ ap (λ (b : Bool). requested_at stage.setting stage.group.m x.brick stage.me (w.nodes x.brick.0) call request
+member_step stage w from call x request member seat fits =
+    ap (λ (z : Option Group). requested_in stage.setting x.brick from (w.nodes x.brick.0) call request z) member.group
+    ∙ ap (λ (b : Bool). requested_at stage.setting stage.group.m x.brick from (w.nodes x.brick.0) call request
     (cond b (fitting_seat stage.setting.layout.block stage.group.m request (seat_in stage.group.members x.brick.0)) None)) member.served
-    ∙ ap (λ (z : Option ℕ). requested_at stage.setting stage.group.m x.brick stage.me (w.nodes x.brick.0) call request
+    ∙ ap (λ (z : Option ℕ). requested_at stage.setting stage.group.m x.brick from (w.nodes x.brick.0) call request
     (fitting_seat stage.setting.layout.block stage.group.m request z)) seat
-    ∙ ap (λ (b : Bool). requested_at stage.setting stage.group.m x.brick stage.me (w.nodes x.brick.0) call request
+    ∙ ap (λ (b : Bool). requested_at stage.setting stage.group.m x.brick from (w.nodes x.brick.0) call request
     (cond b (Some x.seat) None)) fits
 
 -- and so what it is asked
@@ -170,7 +170,7 @@ pub asked_step : (stage : Stage) (n : ℕ) (w : World) (s : Scene) (x : Seated) 
 unfolding received
 asked_step stage n w s x shows seated fits =
     let part = shows.parts x.brick seated.1 in
-    member_step stage w s.c.call x (asked_of stage s.c x) (shows.members x.brick seated.1) seated.0 fits
+    member_step stage w stage.me s.c.call x (asked_of stage s.c x) (shows.members x.brick seated.1) seated.0 fits
     ∙ ap (λ (l : ℕ). reacted x.brick stage.me (w.nodes x.brick.0) s.c.call (handle stage.setting.code stage.group.m
     (full_at stage.setting.layout.records l) x.seat (replica_at (w.nodes x.brick.0) s.c.call) (asked_of stage s.c x))) part.live
     ∙ ap (λ (r : Replica). reacted x.brick stage.me (w.nodes x.brick.0) s.c.call (handle stage.setting.code stage.group.m
