@@ -178,7 +178,7 @@ filter_one (b ∷ bricks) member distinct = go (filter_one bricks member distinc
         omega (arith, rest, left, right)
 
 -- a brick has a seat where it is the first member, or has one among the others
-seat_some : (member : BrickId) (members : List BrickId) (brick : ℕ)
+pub seat_some : (member : BrickId) (members : List BrickId) (brick : ℕ)
     → is_some (seat_in (member ∷ members) brick) ≡ (nat_eq member.0 brick || is_some (seat_in members brick))
 seat_some member members brick =
     cond_both (nat_eq member.0 brick) (Some 0) (option_map (λ seat. seat + 1) (seat_in members brick))

@@ -13,7 +13,7 @@ use Rattle.protocol.specs.Coordinators.{Coordinator}
 use Rattle.protocol.specs.Nodes.{reacted}
 use Rattle.protocol.specs.Replicas.{stored}
 use Rattle.protocol.specs.Settings.{Setting}
-use Rattle.protocol.specs.Worlds.{Delivers, Event, World, happens}
+use Rattle.protocol.specs.Worlds.{Delivers, Event, World, happens, run}
 use Rattle.quorum.specs.Tallies.{fits}
 use Rattle.protocol.specs.Calms.{Next as Goes_on, Stuck}
 
@@ -68,3 +68,11 @@ runs_once setting n bricks _ _ _ (Goes_on w last number events some next runs) _
     let rest = runs_once setting n bricks (happens setting w (Delivers number)) events last runs others other
     (subst (λ (k : ℕ). RunsAlone setting n bricks (happens setting w (Delivers k)) others other) same more) in
     (ap₂ (λ (k : ℕ) (l : List Event). Delivers k ∷ l) (sym same) rest.0, rest.1)
+
+-- it leads to the world of its deliveries
+pub runs_to : (setting : Setting) (n : ℕ) (bricks : List BrickId) (w : World) (events : List Event) (last : World)
+    → RunsAlone setting n bricks w events last → run setting events w ≡ last
+runs_to setting n bricks _ _ _ (Ended w closed) = refl
+runs_to setting n bricks _ _ _ (Stuck w some none) = refl
+runs_to setting n bricks _ _ _ (Goes_on w last number events some next runs) =
+    runs_to setting n bricks (happens setting w (Delivers number)) events last runs

@@ -19,6 +19,7 @@ pub mod Hearing
 pub mod Hears
 pub mod Kept
 pub mod Known
+pub mod Leaving
 pub mod Looking
 pub mod Once
 pub mod OrderPhases

@@ -73,7 +73,7 @@ pub record IsMove (stage : Stage) (n : ℕ) (w later : World) (s next : Scene) (
   pub same : SameCall s.c next.c
 
 -- a call of the same operation, in another phase
-call_same_but : (c d : Coordinator) → SameCall c d → d.call ≡ record c.call { phase = d.call.phase }
+pub call_same_but : (c d : Coordinator) → SameCall c d → d.call ≡ record c.call { phase = d.call.phase }
 call_same_but c d same = λ i. record {
   boot = same.boot i;
   seq = same.seq i;

@@ -40,7 +40,7 @@ added_newest (y ∷ []) x = refl
 added_newest (y ∷ (z ∷ log)) x = added_newest (z ∷ log) x
 
 -- a newest version is held
-held_newest : (t : Stamp) (log : List Version) → IsNewest t log → is_held t log ≡ true
+pub held_newest : (t : Stamp) (log : List Version) → IsNewest t log → is_held t log ≡ true
 held_newest t log newest = subst (λ (z : Stamp). is_held z log ≡ true) newest.2 (newest_held log newest.0 newest.1)
 
 -- what a part holds that has come to nothing above it is the newest there
