@@ -1,5 +1,5 @@
 -- Collects are delivered, and nothing else: a brick that keeps their version as its newest is left with that only.
-use Rattle.std.proofs.Common.{◌≡◌, ℕ, zero, suc, Bool, true, false, not, ◌||◌, cond, List, [], ◌∷◌, ◌++◌, map, ◌≢◌, ◌⊎◌, inl, inr, ⊎_elim, Option, Some, None, refl, sym, ap, ◌∙◌, subst}
+use Rattle.std.proofs.Common.{◌≡◌, ℕ, zero, suc, Bool, true, false, not, ◌||◌, cond, List, [], ◌∷◌, ◌++◌, map, ◌≢◌, ◌⊎◌, inl, inr, ⊎_elim, Option, Some, refl, sym, ap, ◌∙◌, subst}
 use Rattle.std.specs.Prelude.{slice_get}
 use Rattle.std.proofs.lemmas.Bool.{cond_both, cases_eq, false≢true}
 use Rattle.fab_base.proofs.StampOrder.{stamp_below_irrefl, stamp_same_refl}
@@ -23,7 +23,7 @@ use Rattle.protocol_laws.proofs.Served.{request_each}
 use Rattle.protocol_laws.proofs.Tables.{put_same}
 use Rattle.calm_laws.proofs.Fresh.{packet_kept}
 use Rattle.calm_laws.proofs.Plays.{member_step, part_put}
-use Rattle.calm_laws.proofs.Scenes.{Seated, Stage}
+use Rattle.calm_laws.proofs.Scenes.{Stage}
 use Rattle.calm_laws.proofs.Shows.{IsMember, put_field, serves_on}
 use Rattle.calm_laws.specs.Laws.{IsCollect}
 

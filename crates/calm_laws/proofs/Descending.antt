@@ -9,7 +9,6 @@ use Rattle.calm_laws.proofs.Finds.{Has, IsMost, filter_more, finding, greatest_h
 use Rattle.protocol_laws.proofs.Logs.{IsWithin, LogAscends, newest_among}
 use Rattle.calm_laws.proofs.Ordering.{TameWith, descends_ask, looking, orders_keep, orders_reply, read_fits, reads_so, told_below, told_facts, told_then}
 use Rattle.calm_laws.proofs.PhaseRuns.{Cast, IsOpen, known_then, next_open, open_run}
-use Rattle.calm_laws.proofs.Rooms.{Room}
 use Rattle.calm_laws.proofs.Scenes.{Closes, Each, Part, Scene, Seated, Stage, made, sent}
 use Rattle.calm_laws.proofs.StorePhases.{AreTaking, store_phase}
 use Rattle.fab_base.proofs.StampOrder.{stamp_neither_below, stamp_not_below_trans, stamp_same_refl}
@@ -22,7 +21,7 @@ use Rattle.messages.specs.declared.requests.Version.{Version}
 use Rattle.messages.specs.declared.requests.Want.{Want}
 use Rattle.protocol.specs.Calms.{early}
 use Rattle.protocol.specs.Coordinators.{Coordinator, Makes, Next, Sends, answers_phase, finds, greatest_found, in_phase, may_be_found, pieces_at, read_back, restoring}
-use Rattle.protocol.specs.Replicas.{below, is_held, is_wanted, newest_of, told_version, top_of}
+use Rattle.protocol.specs.Replicas.{below, is_held, is_wanted, newest_of, told_version}
 use Rattle.protocol.specs.declared.phases.Counted.{Counted}
 use Rattle.protocol.specs.declared.phases.Phase.{Phase}
 use Rattle.protocol.specs.declared.phases.Phase.TheVariants.{Descends}

@@ -16,7 +16,7 @@ use Rattle.messages.specs.declared.calls.Call.{Call}
 use Rattle.messages.specs.declared.packets.Packet.{Packet}
 use Rattle.messages.specs.declared.replies.Reply.{Reply}
 use Rattle.messages.specs.declared.requests.Request.{Request}
-use Rattle.protocol.specs.Calms.{Ended, goes_among, is_left, open_at, open_call, operation_of}
+use Rattle.protocol.specs.Calms.{goes_among, is_left, open_at, operation_of}
 use Rattle.protocol.specs.Coordinators.{Coordinator, Ends, Ignores, Makes, Next, Sends, Waits, on_reply, request_of}
 use Rattle.protocol.specs.Nodes.{Node, carried_out, fresh_stamp, known_after, phase_packets, put, received, replica_at, replied, replied_at, to_members, with_call, with_known, collect_packets}
 use Rattle.protocol.specs.Replicas.{Replica}

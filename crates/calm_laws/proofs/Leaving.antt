@@ -1,6 +1,6 @@
 -- Where just a quorum of an operation's members hear one another, its Collects leave each of them its version only.
-use Rattle.std.proofs.Common.{◌≡◌, ℕ, zero, suc, ◌+◌, ◌≤◌, true, false, List, [], ◌∷◌, ◌++◌, length, map, Option, Some, None, refl, sym, ap, ◌∙◌, subst, ⊎_elim, take, eqb-true, inl}
-use Rattle.std.specs.Prelude.{filter, is_some, nat_eq, slice_get}
+use Rattle.std.proofs.Common.{◌≡◌, ℕ, suc, ◌+◌, ◌≤◌, true, List, [], ◌∷◌, ◌++◌, map, Option, Some, None, refl, sym, ap, ◌∙◌, subst, ⊎_elim, take, eqb-true, inl}
+use Rattle.std.specs.Prelude.{is_some, nat_eq, slice_get}
 use Rattle.std.proofs.lemmas.Bool.{false≢true, or_cases}
 use Rattle.std.proofs.lemmas.Option.{same_Some}
 use Rattle.fab_base.specs.Layouts.{seat_in}
@@ -11,32 +11,32 @@ use Rattle.messages.specs.declared.packets.Message.{Message}
 use Rattle.messages.specs.declared.packets.Packet.{Packet}
 use Rattle.messages.specs.declared.requests.Request.{Request}
 use Rattle.messages.specs.declared.requests.Version.{Version}
-use Rattle.protocol.specs.Calms.{IsCalm, RunsAlone, is_one_of}
+use Rattle.protocol.specs.Calms.{IsCalm}
 use Rattle.protocol.specs.Coordinators.{Coordinator}
 use Rattle.protocol.specs.Nodes.{Node, collect_packets, replica_at, to_members}
 use Rattle.protocol.specs.Replicas.{Replica, not_below}
 use Rattle.protocol.specs.Settings.{IsSound, Setting}
-use Rattle.protocol.specs.Worlds.{Delivers, Event, Operation, World, first_world, happens, packet_of, run}
+use Rattle.protocol.specs.Worlds.{Delivers, Event, Operation, World, first_world, happens, run}
 use Rattle.protocol.specs.declared.phases.Phase.{Phase}
 use Rattle.protocol.specs.declared.phases.Phase.TheVariants.{Bases, Descends, Looks, LooksAt, Modifies, Orders, OrdersAt, Recovers, Stores}
 use Rattle.protocol_laws.proofs.Books.{Books, CallBooks, IsMade, MadeInPhase, version_after}
 use Rattle.protocol_laws.proofs.BooksEvents.{books, brick_of}
 use Rattle.protocol_laws.proofs.Falls.{always_logged}
-use Rattle.protocol_laws.proofs.Logs.{LogAscends, newest_held}
+use Rattle.protocol_laws.proofs.Logs.{LogAscends}
 use Rattle.protocol_laws.proofs.Outcomes.{IsLook}
 use Rattle.protocol_laws.proofs.Tables.{get_added}
 use Rattle.calm_laws.proofs.Calmness.{each_counts, finishes}
 use Rattle.calm_laws.proofs.Casting.{chosen, seat_some}
-use Rattle.calm_laws.proofs.Collecting.{Keeps, all_leave}
+use Rattle.calm_laws.proofs.Collecting.{all_leave}
 use Rattle.calm_laws.proofs.Discharge.{known_of}
 use Rattle.calm_laws.proofs.Finishing.{runs_once, runs_to}
 use Rattle.calm_laws.proofs.Known.{Known}
 use Rattle.calm_laws.proofs.Once.{IsOnce, always_once, only_newest}
 use Rattle.calm_laws.proofs.Plays.{Finishes, HasEnded}
-use Rattle.calm_laws.proofs.Scenes.{Each, EndsAt, IsNewest, Part, SameCall, Seated, Stage}
+use Rattle.calm_laws.proofs.Scenes.{Each, EndsAt, IsNewest, Part, Stage}
 use Rattle.calm_laws.proofs.Shows.{IsMember, call_same_but}
 use Rattle.calm_laws.proofs.Storing.{held_newest}
-use Rattle.calm_laws.specs.Laws.{AreCollects, AreNoMore, CollectsLeaveOne, EncodesBlocks, HasOnly, IsCollect, IsMemberAmong, LeavesOne, most_records}
+use Rattle.calm_laws.specs.Laws.{AreCollects, AreJustQuorum, CollectsLeaveOne, EncodesBlocks, HasOnly, IsCollect, IsMemberAmong, LeavesOne, most_records}
 use Rattle.quorum.specs.Quorums.{quorum_of}
 
 -- one schedule after another
@@ -95,7 +95,7 @@ ends_stored stage c o parts t None (Some u) its made version ends =
 
 module _ (setting : Setting) (events : List Event) (n : ℕ) (bricks : List BrickId) (sound : IsSound setting) (encodes : EncodesBlocks setting)
     (small : setting.layout.records ≤ most_records) (calm : IsCalm setting (run setting events (first_world setting.layout)) n bricks)
-    (exactly : AreNoMore calm.coordinator bricks) (t : Stamp) where
+    (exactly : AreJustQuorum calm.coordinator bricks) (t : Stamp) where
   abbrev w : World
   w = run setting events (first_world setting.layout)
 

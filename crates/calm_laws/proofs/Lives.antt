@@ -18,18 +18,11 @@ use Rattle.messages.specs.declared.replies.Reply.TheVariants.{Later, Stored, Ord
 use Rattle.protocol.specs.Settings.{Code}
 use Rattle.protocol.specs.Replicas.{Replica, Reaction, top_of, is_held, is_wanted, told_version, looked_up, stays, unless_full, promised, stored, below, not_below, drops_start, collected, ignored, handle, modified_block, first_replica, modified_on, newest_of}
 use Rattle.messages.specs.declared.calls.Call.{Call}
-use Rattle.messages.specs.declared.packets.Message.{Message}
-use Rattle.messages.specs.declared.packets.Packet.{Packet}
-use Rattle.protocol.specs.Coordinators.{Coordinator, Next, Ignores, Waits, Sends, Makes, Ends, on_reply}
-use Rattle.protocol.specs.Nodes.{Node, NodeStep, put, requested, replied, replied_at, received, absorbed, carried_out, known_after, fresh_stamp, with_replica, replica_at, full_at, seat_served, is_served, fitting_seat, view_at, group_at, invoked, began, stopped, restarted}
-use Rattle.protocol.specs.Worlds.{World, Event, Invokes, Delivers, Sets, Ticks, Stops, Starts, Found, Before, After, first_world, may_begin, may_start, is_brick, is_up, packet_of, delivered, world_ticked, world_stopped, world_found, world_started, happens, run}
+use Rattle.protocol.specs.Nodes.{Node, NodeStep, put, requested, with_replica, replica_at, full_at, seat_served, is_served, fitting_seat, view_at}
+use Rattle.protocol.specs.Worlds.{World, Event, first_world, run}
 use Rattle.fab_base.specs.Layouts.{seat_in}
 use Rattle.protocol.specs.Settings.{Setting}
-use Rattle.protocol_laws.specs.Laws.{WasSent}
-use Rattle.protocol_laws.proofs.Books.{Books}
-use Rattle.protocol_laws.proofs.BooksEvents.{books, start_fits}
 use Rattle.protocol_laws.proofs.FirstViews.{IsInFirst, group_first, view_first}
-use Rattle.protocol_laws.proofs.Left.{IsLeft, Leaves, always_leaves, leaves_happens}
 use Rattle.protocol_laws.proofs.Served.{request_each}
 use Rattle.protocol_laws.proofs.Tables.{put_each, put_same}
 use Rattle.protocol_laws.proofs.Puts.{put_other}

@@ -1,7 +1,7 @@
 -- No stamp stands twice in a log. So a log that drops what is below its newest version has only that.
-use Rattle.std.proofs.Common.{◌≡◌, ℕ, Bool, true, false, cond, List, [], ◌∷◌, ◌++◌, Option, Some, None, ◌||◌, refl, sym, ap, subst, ◌∙◌, ⊎_elim, not}
-use Rattle.std.proofs.lemmas.Bool.{cond_both, cases_Bool, false≢true, or_cases, or_parts, or_from}
-use Rattle.std.specs.Prelude.{nat_eq, nat_lt, filter}
+use Rattle.std.proofs.Common.{◌≡◌, ℕ, Bool, true, false, cond, List, [], ◌∷◌, ◌++◌, Option, Some, None, refl, sym, ap, subst, ◌∙◌, ⊎_elim, not}
+use Rattle.std.proofs.lemmas.Bool.{cond_both, cases_Bool, false≢true, or_parts, or_from}
+use Rattle.std.specs.Prelude.{nat_eq, nat_lt}
 use Rattle.fab_base.proofs.StampOrder.{stamp_below_irrefl, stamp_neither_below, stamp_same_refl, stamp_same_true}
 use Rattle.fab_base.specs.declared.identities.BrickId.{BrickId}
 use Rattle.fab_base.specs.declared.stamps.Stamp.{Stamp}
@@ -13,7 +13,7 @@ use Rattle.messages.specs.declared.requests.Request.{Request}
 use Rattle.messages.specs.declared.requests.Request.TheVariants.{Read, Order, OrderRead, Write, Modify, Collect, OldRead, Prepare, Accept}
 use Rattle.messages.specs.declared.requests.Version.{Version}
 use Rattle.protocol.specs.Nodes.{Node, first_node, full_at, replica_at, requested}
-use Rattle.protocol.specs.Replicas.{Replica, Reaction, top_of, is_held, newest_of, first_replica, not_below, stays, unless_full, promised, stored, collected, ignored, handle, modified, modified_block, modified_on, is_wanted, told_version, looked_up}
+use Rattle.protocol.specs.Replicas.{Replica, Reaction, top_of, is_held, newest_of, first_replica, not_below, stays, unless_full, promised, stored, ignored, handle, modified_block, modified_on, is_wanted, told_version, looked_up}
 use Rattle.protocol.specs.Settings.{Code, Setting}
 use Rattle.protocol.specs.Worlds.{Event, first_world, run}
 use Rattle.protocol_laws.proofs.FirstViews.{IsInFirst}

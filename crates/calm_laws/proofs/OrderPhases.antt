@@ -10,7 +10,6 @@ use Rattle.protocol_laws.proofs.Logs.{LogAscends}
 use Rattle.calm_laws.proofs.OrderRuns.{IsOrdering, IsUnheld, held_below}
 use Rattle.calm_laws.proofs.Ordering.{TameWith, looking, order_fits, orders_ask, read_fits, recovers_ask, told_below}
 use Rattle.calm_laws.proofs.PhaseRuns.{Cast, IsAfter, next_open}
-use Rattle.calm_laws.proofs.Rooms.{Room}
 use Rattle.calm_laws.proofs.Rounds.{order_whole, reads_whole}
 use Rattle.calm_laws.proofs.Scenes.{Closes, Each, Part, Scene, Seated, Stage, made, sent}
 use Rattle.calm_laws.proofs.StorePhases.{each_so, store_phase}
@@ -21,7 +20,7 @@ use Rattle.messages.specs.declared.requests.Look.TheVariants.{Below}
 use Rattle.messages.specs.declared.requests.Version.{Version}
 use Rattle.messages.specs.declared.requests.Want.{Want}
 use Rattle.protocol.specs.Coordinators.{Coordinator, Makes, Next, answers_phase, greatest_found, in_phase, may_be_found, read_back}
-use Rattle.protocol.specs.Replicas.{is_held, top_of}
+use Rattle.protocol.specs.Replicas.{is_held}
 use Rattle.protocol.specs.declared.phases.Counted.{Counted}
 use Rattle.protocol.specs.declared.phases.Phase.{Phase}
 use Rattle.protocol.specs.declared.phases.Phase.TheVariants.{Descends, Orders, Recovers, Stores}

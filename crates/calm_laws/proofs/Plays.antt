@@ -163,7 +163,7 @@ member_step stage w from call x request member seat fits =
     ∙ ap (λ (b : Bool). requested_at stage.setting stage.group.m x.brick from (w.nodes x.brick.0) call request
     (cond b (Some x.seat) None)) fits
 
--- and so what it is asked
+-- and so what the coordinator asks of it
 pub asked_step : (stage : Stage) (n : ℕ) (w : World) (s : Scene) (x : Seated) → Shows stage n w s → IsSeated stage x → Fits stage s.c x
     → received stage.setting x.brick (w.clocks x.brick.0) (w.nodes x.brick.0) (asking stage s.c x)
     ≡ reacted x.brick stage.me (w.nodes x.brick.0) s.c.call (reaction stage s.c (s.parts x.brick.0) x)

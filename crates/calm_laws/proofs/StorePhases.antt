@@ -7,7 +7,7 @@ use Rattle.calm_laws.proofs.Asking.{each_then}
 use Rattle.calm_laws.proofs.Counts.{counted_of}
 use Rattle.calm_laws.proofs.Decided.{asked_in_phase, in_this, modify_decides, none_full, none_refuses, store_decides}
 use Rattle.calm_laws.proofs.PhaseRuns.{Cast, IsOpen}
-use Rattle.calm_laws.proofs.Rooms.{Room, not_full}
+use Rattle.calm_laws.proofs.Rooms.{not_full}
 use Rattle.calm_laws.proofs.Scenes.{Closes, Each, Fits, IsNewest, IsSeated, Part, Scene, Seated, Stage, reaction}
 use Rattle.calm_laws.proofs.Storing.{IsStorable, StoresSo, Takes, storing_ends}
 use Rattle.fab_base.proofs.StampOrder.{stamp_same_refl}

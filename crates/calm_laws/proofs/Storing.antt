@@ -1,5 +1,5 @@
 -- A store phase alone: every member of the quorum stores the version, so the operation is answered.
-use Rattle.std.proofs.Common.{List, None, Option, Some, [], refl, ◌++◌, ◌∷◌, ap, false, inl, inr, map, subst, sym, true, ℕ, ⊎_elim, ◌+◌, ◌<◌, ◌∙◌, ◌≡◌, ◌⊎◌}
+use Rattle.std.proofs.Common.{List, None, Option, Some, [], refl, ◌++◌, ◌∷◌, ap, false, inl, inr, map, subst, sym, true, ℕ, ⊎_elim, ◌+◌, ◌<◌, ◌≡◌, ◌⊎◌}
 use Rattle.std.proofs.lemmas.Bool.{cases_Bool}
 use Rattle.std.specs.Prelude.{◌-◌, ◌^◌}
 use Rattle.calm_laws.proofs.Asking.{Gives, Keeps, Replies, told_all}

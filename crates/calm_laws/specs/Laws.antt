@@ -2,7 +2,6 @@
 use Rattle.quorum.specs.Quorums.{quorum_of}
 use Rattle.protocol.specs.Nodes.{replica_at}
 use Rattle.protocol.specs.Coordinators.{Coordinator}
-use Rattle.messages.specs.declared.packets.Packet.{Packet}
 use Rattle.messages.specs.declared.requests.Request.{Request}
 use Rattle.messages.specs.declared.packets.Message.{Message}
 use Rattle.fab_base.specs.declared.stamps.Stamp.{Stamp}
@@ -43,7 +42,7 @@ CalmOperationsEnd =
     → setting.layout.records ≤ most_records → IsCalm setting (run setting events (first_world setting.layout)) n bricks
     → EndsAlone setting (run setting events (first_world setting.layout)) n bricks
 
--- the packet of this number is a Collect of version t to this brick, of the call of this coordinator
+-- the packet of this number is a Collect of version t, which brick me sent to this brick under the call of this coordinator, in some phase
 pub record IsCollect (w : World) (me : BrickId) (c : Coordinator) (t : Stamp) (brick : BrickId) (number : ℕ) : Type 0 where
   pub phase : ℕ
   pub is : packet_of w.packets number ≡ Some (record {
@@ -56,11 +55,11 @@ pub record IsCollect (w : World) (me : BrickId) (c : Coordinator) (t : Stamp) (b
 abbrev pub IsMemberAmong : Coordinator → List BrickId → BrickId → Type 0
 IsMemberAmong c bricks brick = (is_one_of bricks brick ≡ true) × (is_some (seat_in c.group.members brick.0) ≡ true)
 
--- no more than a quorum of the members of the operation's view are among these bricks
-abbrev pub AreNoMore : Coordinator → List BrickId → Type 0
-AreNoMore c bricks = length (filter (λ brick. is_some (seat_in c.group.members brick.0)) bricks) ≡ quorum_of c.group
+-- just a quorum of the members of the operation's view are among these bricks
+abbrev pub AreJustQuorum : Coordinator → List BrickId → Type 0
+AreJustQuorum c bricks = length (filter (λ brick. is_some (seat_in c.group.members brick.0)) bricks) ≡ quorum_of c.group
 
--- the numbers of Collects of version t, to each member among these bricks one at least
+-- the numbers of Collects of version t, in any order and as often as may be: one at least to each member among these bricks
 pub record AreCollects (w : World) (me : BrickId) (c : Coordinator) (t : Stamp) (bricks : List BrickId) (numbers : List ℕ) : Type 0 where
   pub each : (k number : ℕ) → slice_get numbers k ≡ Some number → (brick : BrickId) × IsCollect w me c t brick number
   pub all : (brick : BrickId) → IsMemberAmong c bricks brick → (k : ℕ) × (number : ℕ) × (slice_get numbers k ≡ Some number) × IsCollect w me c t brick number
@@ -69,7 +68,8 @@ pub record AreCollects (w : World) (me : BrickId) (c : Coordinator) (t : Stamp) 
 abbrev pub HasOnly : World → Coordinator → Stamp → BrickId → Type 0
 HasOnly w c t brick = (block : List ℕ) × ((replica_at (w.nodes brick.0) c.call).log ≡ record { stamp = t; block = block } ∷ [])
 
--- A Collect of version t was sent to each member among these bricks; and once such were delivered to all of them, each has only that version.
+-- A Collect of version t was sent to each member among these bricks; and once such were delivered, to each of them and nothing else, each has only
+-- that version.
 pub record LeavesOne (setting : Setting) (w : World) (me : BrickId) (c : Coordinator) (t : Stamp) (bricks : List BrickId) : Type 0 where
   pub sent : (brick : BrickId) → IsMemberAmong c bricks brick → (number : ℕ) × IsCollect w me c t brick number
   pub left : (numbers : List ℕ) → AreCollects w me c t bricks numbers → (brick : BrickId) → IsMemberAmong c bricks brick
@@ -81,7 +81,7 @@ abbrev pub CollectsLeaveOne : Type 0
 CollectsLeaveOne =
     (setting : Setting) (events : List Event) (n : ℕ) (bricks : List BrickId) → IsSound setting → EncodesBlocks setting
     → setting.layout.records ≤ most_records → (calm : IsCalm setting (run setting events (first_world setting.layout)) n bricks)
-    → AreNoMore calm.coordinator bricks → (alone : List Event) (last : World)
+    → AreJustQuorum calm.coordinator bricks → (alone : List Event) (last : World)
     → RunsAlone setting n bricks (run setting events (first_world setting.layout)) alone last → (operation : Operation) (t : Stamp)
     → last.operations n ≡ Some operation → operation.made ≡ true → operation.version ≡ Some t
     → LeavesOne setting last calm.operation.brick calm.coordinator t bricks
