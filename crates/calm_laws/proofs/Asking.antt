@@ -9,6 +9,7 @@ use Rattle.messages.specs.declared.packets.Packet.{Packet}
 use Rattle.messages.specs.declared.replies.Reply.{Reply}
 use Rattle.protocol.specs.Coordinators.{Coordinator}
 use Rattle.protocol.specs.Nodes.{put, reply_packets}
+use Rattle.protocol_laws.proofs.Tables.{put_same}
 use Rattle.quorum.specs.Tallies.{fits}
 
 -- the parts after these members were asked, in order
@@ -78,6 +79,26 @@ pub holds_on : (stage : Stage) (c : Coordinator) (Inv : ℕ → Part → Type 0)
 holds_on stage c Inv keeps xs ys parts holds =
     each_then (λ (x : Seated). Inv x.brick.0 (parts x.brick.0)) (λ (x : Seated). Inv x.brick.0 (reacted_all stage c ys parts x.brick.0)) xs
     (λ x h. all_keep stage c Inv keeps ys parts x.brick.0 h) holds
+
+-- a request to a member of which the one fact holds gives the other
+abbrev pub Gives : Stage → Coordinator → (ℕ → Part → Type 0) → (ℕ → Part → Type 0) → Type 0
+Gives stage c Inv After = (x : Seated) (part : Part) → Inv x.brick.0 part → After x.brick.0 (part_after stage c part x)
+
+-- so once all were asked it holds of all
+pub all_given : (stage : Stage) (c : Coordinator) (Inv After : ℕ → Part → Type 0) → Keeps stage c Inv → Keeps stage c After → Gives stage c Inv After
+    → (xs : List Seated) (parts : ℕ → Part) → Holds Inv parts xs → Holds After (reacted_all stage c xs parts) xs
+all_given stage c Inv After keeps after_keeps gives [] parts holds = tt
+all_given stage c Inv After keeps after_keeps gives (x ∷ xs) parts holds = (
+  all_keep stage c After after_keeps xs next x.brick.0
+      (subst (λ (p : Part). After x.brick.0 p) (sym (put_same parts x.brick.0 (part_after stage c (parts x.brick.0) x)))
+      (gives x (parts x.brick.0) holds.0)),
+  all_given stage c Inv After keeps after_keeps gives xs next
+      (each_then (λ (y : Seated). Inv y.brick.0 (parts y.brick.0)) (λ (y : Seated). Inv y.brick.0 (next y.brick.0)) xs
+      (λ y h. one_keeps stage c Inv keeps x parts y.brick.0 h) holds.1),
+)
+  where
+    next : ℕ → Part
+    next = put parts x.brick.0 (part_after stage c (parts x.brick.0) x)
 
 -- what a member replies is told by the fact about its part
 abbrev pub Replies : Stage → Coordinator → (ℕ → Part → Type 0) → (Seated → Reply) → Type 0

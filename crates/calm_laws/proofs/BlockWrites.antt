@@ -118,6 +118,7 @@ module _ (stage : Stage) (cast : Cast stage) (logs : ℕ → List Version) (lore
         (
           tame.0.tame,
           tame.0.room,
+          subst (λ (l : List Version). LogAscends l) (sym tame.0.log_is) ascends.0,
           (
             told.inner,
             ap (λ (l : List Version). newest_of l) (tame.0.log_is ∙ sym whole) ∙ told.newest,

@@ -1,12 +1,13 @@
 -- A calm operation, of whose world this is known, is answered alone.
-use Rattle.std.proofs.Common.{Bool, List, None, Option, Some, [], ap, ap₂, arith, drop, false, inl, le_of_lt, le_trans, length, map, not, refl, subst, suc, sym, take, true, zero-add, ℕ, ⊎_elim, ◌&&◌, ◌++◌, ◌+◌, ◌<◌, ◌∙◌, ◌∷◌, ◌≡◌, ◌≤◌}
+use Rattle.calm_laws.proofs.Plays.{Finishes}
+use Rattle.std.proofs.Common.{Bool, List, None, Option, Some, [], ap, ap₂, arith, drop, false, inl, le_of_lt, le_trans, length, map, not, refl, subst, suc, sym, take, true, zero-add, ℕ, ⊎_elim, ◌&&◌, ◌++◌, ◌+◌, ◌<◌, ◌∙◌, ◌∷◌, ◌≡◌, ◌≤◌, is_some, take_all}
 use Rattle.std.proofs.lemmas.Bool.{and_from, and_parts, cond_both, eq-eqb, eqb-true, false≢true, ltb-true}
 use Rattle.std.proofs.lemmas.Bool.Decides.{nat_tests}
 use Rattle.std.proofs.lemmas.List.{append_assoc, length-take-le, take-append-drop}
 use Rattle.std.specs.Prelude.{filter, nat_eq, nat_lt, slice_get, ◌*◌}
 use Rattle.calm_laws.proofs.Asking.{each_append, each_then}
 use Rattle.calm_laws.proofs.Beginnings.{OpenFacts, each_repeated, map_append, one_stands, open_facts, repeated_sends, waiting_untouched}
-use Rattle.calm_laws.proofs.Casting.{apart_chosen, apart_take, chosen, chosen_many, each_chosen, each_drop, each_take, sends_chosen}
+use Rattle.calm_laws.proofs.Casting.{apart_chosen, apart_take, chosen, chosen_many, each_chosen, each_drop, each_take, sends_chosen, chosen_few, has_chosen}
 use Rattle.calm_laws.proofs.Descending.{Lore}
 use Rattle.calm_laws.proofs.Finds.{total_below}
 use Rattle.calm_laws.proofs.Finishing.{plays, runs_once}
@@ -25,7 +26,7 @@ use Rattle.calm_laws.proofs.Starts.{AreFew, block_first, write_first}
 use Rattle.calm_laws.proofs.StorePhases.{each_so}
 use Rattle.calm_laws.specs.Laws.{EncodesBlocks, EndsAlone, IsOver, most_records}
 use Rattle.fab_base.proofs.Seats.{brick_at_seat, seat_of_member, seat_within}
-use Rattle.fab_base.specs.Layouts.{Group, brick_at}
+use Rattle.fab_base.specs.Layouts.{Group, brick_at, seat_in}
 use Rattle.fab_base.specs.Stamps.{first_stamp, stamp_below}
 use Rattle.fab_base.specs.declared.asks.Op.{Op}
 use Rattle.fab_base.specs.declared.asks.Op.TheVariants.{ReadBlock, ReadStripe, WriteBlock, WriteStripe}
@@ -85,7 +86,14 @@ module _ (setting : Setting) (sound : IsSound setting) (lengths : EncodesBlocks 
   c = calm.coordinator
 
   abbrev stage : Stage
-  stage = record { setting = setting; bricks = bricks; me = o.brick; now = w.clocks o.brick.0; group = c.group }
+  stage = record {
+    setting = setting;
+    bricks = bricks;
+    me = o.brick;
+    now = w.clocks o.brick.0;
+    group = c.group;
+    quorum = take (quorum_of c.group) (chosen bricks 0 c.group.members);
+  }
 
   limits : IsWithinLimits c.group.m (length c.group.members)
   limits = sound.limits c.ask.group.0 c.group known.call.group_is
@@ -118,6 +126,7 @@ module _ (setting : Setting) (sound : IsSound setting) (lengths : EncodesBlocks 
   cast = record {
     xs = take q all;
     rest = drop q all;
+    counts = refl;
     seated = each_take (IsSeated stage) q all all_seated;
     rest_seated = each_drop (IsSeated stage) q all all_seated;
     apart = apart_take q all (apart_chosen bricks 0 c.group.members);
@@ -327,10 +336,27 @@ module _ (setting : Setting) (sound : IsSound setting) (lengths : EncodesBlocks 
     unsent = known.messages.unsent;
   }
 
+  -- its deliveries come to their end
+  pub finishes : Finishes stage n c w
+  finishes = plays stage n scene closes w shows
+
+  -- where no more than a quorum of its members hear one another, what holds of those whose replies count holds of all these
+  pub each_counts : length (filter (λ brick. is_some (seat_in c.group.members brick.0)) bricks) ≡ quorum_of c.group → (P : BrickId → Type 0)
+      → Each (λ x. P x.brick) (take q all) → (brick : BrickId) → is_one_of bricks brick ≡ true → is_some (seat_in c.group.members brick.0) ≡ true
+      → P brick
+  each_counts exactly P each =
+      has_chosen P bricks 0 c.group.members
+      (subst (λ (l : List Seated). Each (λ x. P x.brick) l) (take_all q all most) each)
+    where
+      most : length all ≤ q
+      most =
+          let few = chosen_few bricks 0 c.group.members (sound.distinct c.ask.group.0 c.group known.call.group_is) in
+          omega (arith, few, exactly)
+
   -- the operation comes to its end alone, and is answered
   pub ends_alone : EndsAlone setting w n bricks
   ends_alone =
-      let finish = plays stage n scene closes w shows in
+      let finish = finishes in
       record {
         events = finish.events;
         last = finish.last;
@@ -338,5 +364,5 @@ module _ (setting : Setting) (sound : IsSound setting) (lengths : EncodesBlocks 
         over = λ others other runs.
             let same = runs_once setting n bricks w finish.events finish.last finish.alone others other runs in
             subst (λ (z : World). IsOver z n) same.1
-            (record { closed = finish.closed; operation = finish.operation; is = finish.is; answered = finish.answered });
+            (record { closed = finish.end.closed; operation = finish.end.operation; is = finish.end.is; answered = finish.end.answered });
       }

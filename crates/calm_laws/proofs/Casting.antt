@@ -1,12 +1,12 @@
 -- The members among the bricks, in the order of seats, and the first quorum of them.
-use Rattle.std.proofs.Common.{Bool, List, None, Option, Some, [], add-zero, ap, ap₂, arith, cond, drop, false, inl, inr, length, map, refl, subst, suc, sym, take, true, zero, ℕ, ◌+◌, ◌||◌, ◌∙◌, ◌∷◌, ◌≡◌, ◌≤◌, ◌⊎◌}
-use Rattle.std.proofs.lemmas.Bool.{cases_eq, cond_both, eq-eqb, ne_eqb}
+use Rattle.protocol_laws.proofs.BooksEvents.{brick_of}
+use Rattle.std.proofs.Common.{Bool, List, None, Option, Some, [], add-zero, ap, ap₂, arith, cond, drop, false, inl, inr, length, map, refl, subst, suc, sym, take, true, zero, ℕ, ◌+◌, ◌||◌, ◌∙◌, ◌∷◌, ◌≡◌, ◌≤◌, ◌⊎◌, ⊎_elim}
+use Rattle.std.proofs.lemmas.Bool.{cases_eq, cond_both, eq-eqb, ne_eqb, eqb-true, false≢true, or_cases, or_from}
 use Rattle.std.specs.List.{AllByRecursion, IsDistinct}
 use Rattle.std.specs.Option.{option_map}
 use Rattle.std.specs.Prelude.{filter, if◌then◌else◌, is_some, nat_eq, slice_get}
-use Rattle.calm_laws.proofs.Counts.{AreApart}
 use Rattle.calm_laws.proofs.Decided.{in_this}
-use Rattle.calm_laws.proofs.Scenes.{Each, Seated, Stage, asking}
+use Rattle.calm_laws.proofs.Scenes.{Each, Seated, Stage, asking, AreApart}
 use Rattle.fab_base.specs.Layouts.{seat_in}
 use Rattle.fab_base.specs.declared.identities.BrickId.{BrickId}
 use Rattle.messages.specs.declared.packets.Message.{Message}
@@ -178,7 +178,7 @@ filter_one (b ∷ bricks) member distinct = go (filter_one bricks member distinc
         omega (arith, rest, left, right)
 
 -- a brick has a seat where it is the first member, or has one among the others
-seat_some : (member : BrickId) (members : List BrickId) (brick : ℕ)
+pub seat_some : (member : BrickId) (members : List BrickId) (brick : ℕ)
     → is_some (seat_in (member ∷ members) brick) ≡ (nat_eq member.0 brick || is_some (seat_in members brick))
 seat_some member members brick =
     cond_both (nat_eq member.0 brick) (Some 0) (option_map (λ seat. seat + 1) (seat_in members brick))
@@ -190,6 +190,16 @@ seat_some member members brick =
     mapped None = refl
     mapped (Some k) = refl
 
+-- one more is chosen where the first member is one of the bricks
+chosen_long : (bricks : List BrickId) (seat : ℕ) (member : BrickId) (members : List BrickId)
+    → length (chosen bricks seat (member ∷ members)) ≡ one_if (is_one_of bricks member) + length (chosen bricks (suc seat) members)
+chosen_long bricks seat member members = count_so (is_one_of bricks member)
+  where
+    count_so : (b : Bool) → length (cond b (record { seat = seat; brick = member } ∷ chosen bricks (suc seat) members) (chosen bricks (suc seat) members))
+        ≡ one_if b + length (chosen bricks (suc seat) members)
+    count_so true = omega arith
+    count_so false = omega arith
+
 -- as many members are chosen as bricks are members
 pub chosen_many : (bricks : List BrickId) (seat : ℕ) (members : List BrickId) → IsDistinct nat_eq (map (λ (b : BrickId). b.0) bricks)
     → length (filter (λ b. is_some (seat_in members b.0)) bricks) ≤ length (chosen bricks seat members)
@@ -200,11 +210,106 @@ chosen_many bricks seat (member ∷ members) distinct =
     (λ (b : BrickId). nat_eq member.0 b.0 || is_some (seat_in members b.0)) (λ b. seat_some member members b.0) bricks in
     let either = filter_either BrickId (λ (b : BrickId). nat_eq member.0 b.0) (λ (b : BrickId). is_some (seat_in members b.0)) bricks in
     let one = filter_one bricks member distinct in
-    let long : length (chosen bricks seat (member ∷ members)) ≡ one_if (is_one_of bricks member) + length (chosen bricks (suc seat) members)
-    = count_so (is_one_of bricks member) in
+    let long = chosen_long bricks seat member members in
     omega (arith, rest, same, either, one, long)
+
+-- at least as many pass one of two tests as pass each, where none passes both
+filter_apart : (p r : BrickId → Bool) → ((b : BrickId) → p b ≡ true → r b ≡ false) → (bricks : List BrickId)
+    → length (filter p bricks) + length (filter r bricks) ≤ length (filter (λ b. p b || r b) bricks)
+filter_apart p r apart [] = omega arith
+filter_apart p r apart (x ∷ xs) = go (filter_apart p r apart xs) (p x) (r x) refl refl
   where
-    count_so : (b : Bool) → length (cond b (record { seat = seat; brick = member } ∷ chosen bricks (suc seat) members) (chosen bricks (suc seat) members))
-        ≡ one_if b + length (chosen bricks (suc seat) members)
-    count_so true = omega arith
-    count_so false = omega arith
+    go : length (filter p xs) + length (filter r xs) ≤ length (filter (λ b. p b || r b) xs) → (a b : Bool) → p x ≡ a → r x ≡ b
+        → length (filter p (x ∷ xs)) + length (filter r (x ∷ xs)) ≤ length (filter (λ b. p b || r b) (x ∷ xs))
+    go rest true true p_is r_is = absurd (false≢true (sym (apart x p_is) ∙ r_is))
+    go rest true false p_is r_is =
+        let both : length (filter (λ b. p b || r b) (x ∷ xs)) ≡ suc (length (filter (λ b. p b || r b) xs))
+        = ap (λ (z : Bool). length (cond (z || r x) (x ∷ filter (λ b. p b || r b) xs) (filter (λ b. p b || r b) xs))) p_is in
+        let left : length (filter p (x ∷ xs)) ≡ suc (length (filter p xs)) = ap (λ (z : Bool). length (cond z (x ∷ filter p xs) (filter p xs))) p_is in
+        let right : length (filter r (x ∷ xs)) ≡ length (filter r xs) = ap (λ (z : Bool). length (cond z (x ∷ filter r xs) (filter r xs))) r_is in
+        omega (arith, rest, both, left, right)
+    go rest false b p_is r_is =
+        let both : length (filter (λ b. p b || r b) (x ∷ xs)) ≡ length (cond b (x ∷ filter (λ b. p b || r b) xs) (filter (λ b. p b || r b) xs))
+        = ap₂ (λ (y z : Bool). length (cond (y || z) (x ∷ filter (λ b. p b || r b) xs) (filter (λ b. p b || r b) xs))) p_is r_is in
+        let left : length (filter p (x ∷ xs)) ≡ length (filter p xs) = ap (λ (z : Bool). length (cond z (x ∷ filter p xs) (filter p xs))) p_is in
+        let right : length (filter r (x ∷ xs)) ≡ length (cond b (x ∷ filter r xs) (filter r xs))
+        = ap (λ (z : Bool). length (cond z (x ∷ filter r xs) (filter r xs))) r_is in
+        let more = counted b in
+        omega (arith, rest, both, left, right, more)
+      where
+        counted : (b : Bool) → length (filter p xs) + length (cond b (x ∷ filter r xs) (filter r xs))
+            ≤ length (cond b (x ∷ filter (λ b. p b || r b) xs) (filter (λ b. p b || r b) xs))
+        counted true = omega (arith, rest)
+        counted false = omega (arith, rest)
+
+-- a member that is one of the bricks is there once at least
+one_filter : (bricks : List BrickId) (member : BrickId) → one_if (is_one_of bricks member) ≤ length (filter (λ b. nat_eq member.0 b.0) bricks)
+one_filter [] member = omega arith
+one_filter (b ∷ bricks) member = go (one_filter bricks member) (cases_eq member.0 b.0)
+  where
+    most_one : (z : Bool) → one_if z ≤ 1
+    most_one true = omega arith
+    most_one false = omega arith
+
+    go : one_if (is_one_of bricks member) ≤ length (filter (λ (b : BrickId). nat_eq member.0 b.0) bricks) → (member.0 ≡ b.0) ⊎ (member.0 ≡ b.0 → ⊥)
+        → one_if (is_one_of (b ∷ bricks) member) ≤ length (filter (λ (b : BrickId). nat_eq member.0 b.0) (b ∷ bricks))
+    go rest (inl same) =
+        let left : length (filter (λ (b : BrickId). nat_eq member.0 b.0) (b ∷ bricks)) ≡ suc (length (filter (λ (b : BrickId). nat_eq member.0 b.0) bricks))
+        = ap (λ (z : Bool). length (cond z (b ∷ filter (λ (b : BrickId). nat_eq member.0 b.0) bricks) (filter (λ (b : BrickId). nat_eq member.0 b.0) bricks)))
+        (eq-eqb member.0 b.0 same) in
+        let right = most_one (is_one_of (b ∷ bricks) member) in
+        omega (arith, left, right)
+    go rest (inr other) =
+        let left : length (filter (λ (b : BrickId). nat_eq member.0 b.0) (b ∷ bricks)) ≡ length (filter (λ (b : BrickId). nat_eq member.0 b.0) bricks)
+        = ap (λ (z : Bool). length (cond z (b ∷ filter (λ (b : BrickId). nat_eq member.0 b.0) bricks) (filter (λ (b : BrickId). nat_eq member.0 b.0) bricks)))
+        (ne_eqb member.0 b.0 other) in
+        let right : one_if (is_one_of (b ∷ bricks) member) ≡ one_if (is_one_of bricks member)
+        = ap (λ (z : Bool). one_if (z || is_one_of bricks member)) (ne_eqb b.0 member.0 (λ e. other (sym e))) in
+        omega (arith, rest, left, right)
+
+-- a brick that is not among the members has no seat
+seat_none : (members : List BrickId) (brick : ℕ) → AllByRecursion (λ y. nat_eq brick y ≡ false) (map (λ (b : BrickId). b.0) members)
+    → is_some (seat_in members brick) ≡ false
+seat_none [] brick all = refl
+seat_none (member ∷ members) brick all =
+    seat_some member members brick
+    ∙ or_from (nat_eq member.0 brick) (is_some (seat_in members brick))
+    (ne_eqb member.0 brick (λ e. false≢true (sym all.0 ∙ eq-eqb brick member.0 (sym e))))
+    (seat_none members brick all.1)
+
+-- no more members are chosen than bricks are members
+pub chosen_few : (bricks : List BrickId) (seat : ℕ) (members : List BrickId) → IsDistinct nat_eq (map (λ (b : BrickId). b.0) members)
+    → length (chosen bricks seat members) ≤ length (filter (λ b. is_some (seat_in members b.0)) bricks)
+unfolding IsDistinct
+chosen_few bricks seat [] distinct = omega arith
+chosen_few bricks seat (member ∷ members) distinct =
+    let rest = chosen_few bricks (suc seat) members distinct.1 in
+    let same = filter_same (λ (b : BrickId). is_some (seat_in (member ∷ members) b.0))
+    (λ (b : BrickId). nat_eq member.0 b.0 || is_some (seat_in members b.0)) (λ b. seat_some member members b.0) bricks in
+    let apart = filter_apart (λ (b : BrickId). nat_eq member.0 b.0) (λ (b : BrickId). is_some (seat_in members b.0))
+    (λ b is. ap (λ (k : ℕ). is_some (seat_in members k)) (sym (eqb-true member.0 b.0 is)) ∙ seat_none members member.0 distinct.0) bricks in
+    let one = one_filter bricks member in
+    let long = chosen_long bricks seat member members in
+    omega (arith, rest, same, apart, one, long)
+
+-- what holds of those that are chosen holds of each of the bricks that is a member
+pub has_chosen : (P : BrickId → Type 0) (bricks : List BrickId) (seat : ℕ) (members : List BrickId)
+    → Each (λ x. P x.brick) (chosen bricks seat members) → (brick : BrickId) → is_one_of bricks brick ≡ true
+    → is_some (seat_in members brick.0) ≡ true → P brick
+has_chosen P bricks seat [] each brick one seated = absurd (false≢true seated)
+has_chosen P bricks seat (member ∷ members) each brick one seated =
+    cond_both (is_one_of bricks member) (record { seat = seat; brick = member } ∷ chosen bricks (suc seat) members)
+    (chosen bricks (suc seat) members) (λ (l : List Seated). Each (λ x. P x.brick) l → P brick)
+    (λ is all. ⊎_elim
+    (λ (here : nat_eq member.0 brick.0 ≡ true). subst P (brick_of member brick (eqb-true member.0 brick.0 here)) all.0)
+    (λ (there : is_some (seat_in members brick.0) ≡ true). has_chosen P bricks (suc seat) members all.1 brick one there)
+    cases)
+    (λ isnt all. ⊎_elim
+    (λ (here : nat_eq member.0 brick.0 ≡ true).
+    absurd (false≢true (sym isnt ∙ ap (λ (b : BrickId). is_one_of bricks b) (brick_of member brick (eqb-true member.0 brick.0 here)) ∙ one)))
+    (λ (there : is_some (seat_in members brick.0) ≡ true). has_chosen P bricks (suc seat) members all brick one there)
+    cases)
+    each
+  where
+    cases : (nat_eq member.0 brick.0 ≡ true) ⊎ (is_some (seat_in members brick.0) ≡ true)
+    cases = or_cases (nat_eq member.0 brick.0) (is_some (seat_in members brick.0)) (sym (seat_some member members brick.0) ∙ seated)

@@ -5,7 +5,7 @@ use Rattle.std.proofs.lemmas.Bool.Decides.{nat_tests}
 use Rattle.std.proofs.lemmas.List.{append_assoc, length-append}
 use Rattle.std.specs.Prelude.{nat_eq, nat_lt, ◌-◌, ◌^◌}
 use Rattle.calm_laws.proofs.Hearing.{known_through}
-use Rattle.calm_laws.proofs.Scenes.{Closes, Each, IsSeated, Outcome, SameCall, Scene, Seated, Stage, decision, heard, hears, made, replying, sent, waits}
+use Rattle.calm_laws.proofs.Scenes.{Closes, Each, IsSeated, Outcome, SameCall, Scene, Seated, Stage, decision, heard, hears, made, replying, sent, waits, AreApart, EndsAt}
 use Rattle.fab_base.specs.Layouts.{Group, seat_in}
 use Rattle.fab_base.specs.declared.stamps.Stamp.{Stamp}
 use Rattle.messages.specs.declared.calls.Call.{Call}
@@ -23,11 +23,6 @@ use Rattle.quorum.specs.Quorums.{quorum_of}
 -- the reply of a member, as it counts
 abbrev pub counted_of : (Seated → Reply) → Seated → Counted
 counted_of f x = record { seat = x.seat; brick = x.brick; reply = f x }
-
--- no two of these members sit at one seat
-abbrev pub AreApart : List Seated → Type 0
-AreApart [] = Unit {0}
-AreApart (x ∷ xs) = Each (λ y. nat_eq x.seat y.seat ≡ false) xs × AreApart xs
 
 -- none of these members has a reply that counts, nor does one have it once those before it have theirs
 abbrev pub AreNew : (Seated → Reply) → List Counted → List Seated → Type 0
@@ -61,7 +56,7 @@ Carries stage s Ignores = ⊥
 Carries stage s (Waits d) = SameCall s.c d × Closes stage (waits s d)
 Carries stage s (Sends d) = SameCall s.c d × Closes stage (sent stage s d)
 Carries stage s (Makes d) = SameCall s.c d × Closes stage (made stage s d)
-Carries stage s (Ends answer seen stored) = is_answer answer ≡ true
+Carries stage s (Ends answer seen stored) = (is_answer answer ≡ true) × EndsAt stage s.c.phase s.c.stamp s.parts seen stored
 
 same_counted : (c d : Coordinator) (counted : List Counted) → SameCall c d → SameCall (record c { counted = counted }) d
 same_counted c d counted same =

@@ -9,9 +9,8 @@ use Rattle.calm_laws.proofs.Finds.{Has, IsMost, filter_more, finding, greatest_h
 use Rattle.protocol_laws.proofs.Logs.{IsWithin, LogAscends, newest_among}
 use Rattle.calm_laws.proofs.Ordering.{TameWith, descends_ask, looking, orders_keep, orders_reply, read_fits, reads_so, told_below, told_facts, told_then}
 use Rattle.calm_laws.proofs.PhaseRuns.{Cast, IsOpen, known_then, next_open, open_run}
-use Rattle.calm_laws.proofs.Rooms.{Room}
 use Rattle.calm_laws.proofs.Scenes.{Closes, Each, Part, Scene, Seated, Stage, made, sent}
-use Rattle.calm_laws.proofs.StorePhases.{store_phase}
+use Rattle.calm_laws.proofs.StorePhases.{AreTaking, store_phase}
 use Rattle.fab_base.proofs.StampOrder.{stamp_neither_below, stamp_not_below_trans, stamp_same_refl}
 use Rattle.fab_base.specs.Layouts.{Group}
 use Rattle.fab_base.specs.Stamps.{first_stamp, stamp_below, stamp_same}
@@ -22,7 +21,7 @@ use Rattle.messages.specs.declared.requests.Version.{Version}
 use Rattle.messages.specs.declared.requests.Want.{Want}
 use Rattle.protocol.specs.Calms.{early}
 use Rattle.protocol.specs.Coordinators.{Coordinator, Makes, Next, Sends, answers_phase, finds, greatest_found, in_phase, may_be_found, pieces_at, read_back, restoring}
-use Rattle.protocol.specs.Replicas.{below, is_held, is_wanted, newest_of, told_version, top_of}
+use Rattle.protocol.specs.Replicas.{below, is_held, is_wanted, newest_of, told_version}
 use Rattle.protocol.specs.declared.phases.Counted.{Counted}
 use Rattle.protocol.specs.declared.phases.Phase.{Phase}
 use Rattle.protocol.specs.declared.phases.Phase.TheVariants.{Descends}
@@ -38,6 +37,15 @@ pub record Lore (stage : Stage) (cast : Cast stage) (logs : ℕ → List Version
   pub blocks : Each (λ x. (k : ℕ) (version : Version) → slice_get (logs x.brick.0) k ≡ Some version
       → length version.block ≡ stage.setting.layout.block) cast.xs
   pub encodes : (m : ℕ) (content : List ℕ) (seat : ℕ) → length (stage.setting.code.encode m content seat) ≡ stage.setting.layout.block
+
+-- parts that have come to nothing above a stamp take its version
+pub are_taking : (stage : Stage) (t : Stamp) (logs : ℕ → List Version) (parts : ℕ → Part) (xs : List Seated)
+    → Each (λ x. LogAscends (logs x.brick.0)) xs → Holds (TameWith stage t logs) parts xs → AreTaking stage t parts xs
+are_taking stage t logs parts [] ascends tame = tt
+are_taking stage t logs parts (x ∷ xs) ascends tame = (
+  (tame.0.tame, tame.0.room, subst (λ (l : List Version). LogAscends l) (sym tame.0.log_is) ascends.0, tt),
+  are_taking stage t logs parts xs ascends.1 tame.1,
+)
 
 -- a phase begins at parts that have come to nothing above its stamp
 pub record IsSet (stage : Stage) (cast : Cast stage) (logs : ℕ → List Version) (s : Scene) : Type 0 where
@@ -242,9 +250,7 @@ module _ (stage : Stage) (cast : Cast stage) (logs : ℕ → List Version) (lore
                 refl refl)
                 refl early (λ x seated. lore.encodes s.c.group.m
                 (after_op stage.setting.layout.block s.c.ask.op (stage.setting.code.decode s.c.group.m (pieces_at v counted))) x.seat)
-                (each_then (λ (x : Seated). TameWith stage s.c.stamp logs x.brick.0 (parts x.brick.0))
-                (λ (x : Seated). (stamp_below s.c.stamp (top_of (parts x.brick.0).replica) ≡ false) × Room stage (parts x.brick.0)) cast.xs
-                (λ x h. (h.tame, h.room)) tame),
+                (are_taking stage s.c.stamp logs parts cast.xs lore.ascends tame),
           ))
 
 -- a phase that looks below this bound closes, whose versions below are this many at most

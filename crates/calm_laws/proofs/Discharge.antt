@@ -1,4 +1,5 @@
 -- What is known of the world in which an operation begins to run alone holds in every world that a run reaches.
+use Rattle.protocol.specs.Calms.{IsCalm}
 use Rattle.protocol.specs.declared.phases.Phase.{Phase}
 use Rattle.fab_base.specs.declared.asks.Op.{Op}
 use Rattle.calm_laws.proofs.Calmness.{ends_alone}
@@ -21,7 +22,7 @@ use Rattle.protocol.specs.Settings.{Setting, IsSound}
 use Rattle.protocol.specs.Replicas.{Replica, is_held, top_of}
 use Rattle.protocol.specs.Coordinators.{Coordinator}
 use Rattle.protocol.specs.Nodes.{has_block, has_length, replica_at, phase_packets, first_phase}
-use Rattle.protocol.specs.Worlds.{World, Operation, first_world, number_of, run, is_brick}
+use Rattle.protocol.specs.Worlds.{World, Operation, first_world, number_of, run, is_brick, Event}
 use Rattle.protocol_laws.proofs.Books.{Books, CallBooks, OperationBooks, IsOperation, MadeInPhase}
 use Rattle.protocol_laws.proofs.BooksEvents.{books}
 use Rattle.protocol_laws.proofs.Blocking.{was_kept}
@@ -223,14 +224,21 @@ module _ (setting : Setting) (sound : IsSound setting) (encodes : EncodesBlocks 
   known : Known setting w n o c
   known = record { call = known_call; messages = known_messages; logs = known_logs }
 
--- an operation that may run alone ends so
-pub calm_ends : CalmOperationsEnd
-calm_ends setting events n bricks sound encodes small calm =
+-- what is known of an operation that may run alone
+pub known_of : (setting : Setting) (events : List Event) (n : ℕ) (bricks : List BrickId) → IsSound setting → EncodesBlocks setting
+    → setting.layout.records ≤ most_records → (calm : IsCalm setting (run setting events (first_world setting.layout)) n bricks)
+    → Known setting (run setting events (first_world setting.layout)) n calm.operation calm.coordinator
+known_of setting events n bricks sound encodes small calm =
     let w : World = run setting events (first_world setting.layout) in
     let said = always_said setting events sound in
     let always = always_fresh setting events in
     let at : IsOpenAt w n calm.coordinator = opens_at w n calm.coordinator calm.open_is in
     let fresh : IsFresh setting w n calm.coordinator = always.1 n calm.coordinator calm.open_is calm.untouched in
-    ends_alone setting sound encodes w n bricks calm
-    (known setting sound encodes small w said.0 (books setting events) said.1 n calm.operation calm.coordinator calm.is at fresh always.0
-    (always_count setting events))
+    known setting sound encodes small w said.0 (books setting events) said.1 n calm.operation calm.coordinator calm.is at fresh always.0
+    (always_count setting events)
+
+-- so it ends
+pub calm_ends : CalmOperationsEnd
+calm_ends setting events n bricks sound encodes small calm =
+    ends_alone setting sound encodes (run setting events (first_world setting.layout)) n bricks calm
+    (known_of setting events n bricks sound encodes small calm)

@@ -13,14 +13,15 @@ use Rattle.protocol.specs.Coordinators.{Coordinator}
 use Rattle.protocol.specs.Nodes.{reacted}
 use Rattle.protocol.specs.Replicas.{stored}
 use Rattle.protocol.specs.Settings.{Setting}
-use Rattle.protocol.specs.Worlds.{Delivers, Event, World, happens}
+use Rattle.protocol.specs.Worlds.{Delivers, Event, World, happens, run}
 use Rattle.quorum.specs.Tallies.{fits}
 use Rattle.protocol.specs.Calms.{Next as Goes_on, Stuck}
 
 -- each step of the scene is a delivery
-pub plays : (stage : Stage) (n : ℕ) (s : Scene) → Closes stage s → (w : World) → Shows stage n w s → Finishes stage n w
+pub plays : (stage : Stage) (n : ℕ) (s : Scene) → Closes stage s → (w : World) → Shows stage n w s → Finishes stage n s.c w
 plays stage n _ (Asks s x rest queue seated fits closes) w shows =
-    finishes_by stage n w s (asking stage s.c x) rest shows queue (shows.members x.brick seated.1).up
+    finishes_by stage n w s s.c (asking stage s.c x) rest shows
+    (record { group = refl; boot = refl; seq = refl; of_group = refl; view = refl; stripe = refl }) queue (shows.members x.brick seated.1).up
     (reacted x.brick stage.me (w.nodes x.brick.0) s.c.call (reaction stage s.c (s.parts x.brick.0) x))
     (asked_step stage n w s x shows seated fits)
     (λ head.
@@ -43,8 +44,8 @@ plays stage n _ (Begins s from call reply rest d next is same closes) w shows =
 plays stage n _ (Creates s from call reply rest d next is same closes) w shows =
     create_plays stage n w s from call reply rest shows next d is same
     (λ later shows_later. plays stage n (made stage (heard s reply rest) d) closes later shows_later)
-plays stage n _ (Answers s from call reply rest answer seen stored next is well) w shows =
-    answer_plays stage n w s from call reply rest shows next answer seen stored is well
+plays stage n _ (Answers s from call reply rest answer seen stored next is well ends) w shows =
+    answer_plays stage n w s from call reply rest shows next answer seen stored is well ends
 
 -- an operation that is open is not closed
 not_both : (setting : Setting) (n : ℕ) (w : World) → is_some (open_call w n) ≡ true → open_call w n ≡ None → ⊥
@@ -67,3 +68,11 @@ runs_once setting n bricks _ _ _ (Goes_on w last number events some next runs) _
     let rest = runs_once setting n bricks (happens setting w (Delivers number)) events last runs others other
     (subst (λ (k : ℕ). RunsAlone setting n bricks (happens setting w (Delivers k)) others other) same more) in
     (ap₂ (λ (k : ℕ) (l : List Event). Delivers k ∷ l) (sym same) rest.0, rest.1)
+
+-- it leads to the world of its deliveries
+pub runs_to : (setting : Setting) (n : ℕ) (bricks : List BrickId) (w : World) (events : List Event) (last : World)
+    → RunsAlone setting n bricks w events last → run setting events w ≡ last
+runs_to setting n bricks _ _ _ (Ended w closed) = refl
+runs_to setting n bricks _ _ _ (Stuck w some none) = refl
+runs_to setting n bricks _ _ _ (Goes_on w last number events some next runs) =
+    runs_to setting n bricks (happens setting w (Delivers number)) events last runs

@@ -4,9 +4,8 @@ use Rattle.std.proofs.lemmas.Bool.{and_parts, cond_both, eqb-true, or_cases, or_
 use Rattle.std.proofs.lemmas.List.{length-map}
 use Rattle.std.specs.Prelude.{filter, nat_eq}
 use Rattle.calm_laws.proofs.Asking.{each_then}
-use Rattle.calm_laws.proofs.Counts.{AreApart}
 use Rattle.calm_laws.proofs.Rooms.{max_left, max_right}
-use Rattle.calm_laws.proofs.Scenes.{Each, Seated}
+use Rattle.calm_laws.proofs.Scenes.{Each, Seated, AreApart}
 use Rattle.fab_base.proofs.StampOrder.{stamp_not_below_trans}
 use Rattle.fab_base.specs.Stamps.{first_stamp, stamp_below}
 use Rattle.fab_base.specs.declared.stamps.Stamp.{Stamp}

@@ -161,7 +161,7 @@ put_before : (f : ℕ → Bool) (k j : ℕ) → put f k true j ≡ false → f j
 put_before f k j = put_each (λ i b. b ≡ false → f i ≡ false) f k true (λ bad. absurd (false≢true (sym bad))) (λ i other is. is) j
 
 -- the packet of a number is the same where more were sent
-packet_kept : (packets more : List Packet) (number : ℕ) (packet : Packet) → packet_of packets number ≡ Some packet
+pub packet_kept : (packets more : List Packet) (number : ℕ) (packet : Packet) → packet_of packets number ≡ Some packet
     → packet_of (packets ++ more) number ≡ Some packet
 packet_kept packets more zero packet is = let never : ⊥ = cc in absurd never
 packet_kept packets more (suc k) packet is = get_kept packets more k packet is

@@ -1,12 +1,13 @@
 -- A reply is delivered: what the coordinator decides on the scene it does in the world.
+use Rattle.protocol_laws.proofs.Books.{version_after}
 use Rattle.std.proofs.Common.{Bool, List, None, Option, Some, [], ap, ap₂, refl, subst, true, ℕ, ◌++◌, ◌+◌, ◌∙◌, ◌∷◌, ◌≡◌}
 use Rattle.std.proofs.lemmas.Bool.{and_parts}
 use Rattle.std.proofs.lemmas.List.{append-nil}
 use Rattle.std.specs.Prelude.{filter, max, nat_lt, ◌-◌}
-use Rattle.calm_laws.proofs.Plays.{Finishes, finishes_by}
+use Rattle.calm_laws.proofs.Plays.{Finishes, finishes_by, HasEnded, ends_by}
 use Rattle.calm_laws.proofs.Queues.{IsDelivered, IsHead}
-use Rattle.calm_laws.proofs.Scenes.{Each, IsNext, SameCall, Scene, Stage, decision, heard, made, replying, sent, waits}
-use Rattle.calm_laws.proofs.Shows.{IsMove, Shows, open_at_is, put_field, shows_next, world_by}
+use Rattle.calm_laws.proofs.Scenes.{Each, IsNext, SameCall, Scene, Stage, decision, heard, made, replying, sent, waits, EndsAt}
+use Rattle.calm_laws.proofs.Shows.{IsMove, Shows, open_at_is, put_field, shows_next, world_by, serves_on}
 use Rattle.protocol_laws.proofs.Tables.{put_same}
 use Rattle.fab_base.specs.declared.answers.Answer.{Answer}
 use Rattle.fab_base.specs.declared.identities.BrickId.{BrickId}
@@ -15,9 +16,9 @@ use Rattle.messages.specs.declared.calls.Call.{Call}
 use Rattle.messages.specs.declared.packets.Packet.{Packet}
 use Rattle.messages.specs.declared.replies.Reply.{Reply}
 use Rattle.messages.specs.declared.requests.Request.{Request}
-use Rattle.protocol.specs.Calms.{Ended, goes_among, is_left, open_at, open_call, operation_of}
+use Rattle.protocol.specs.Calms.{goes_among, is_left, open_at, operation_of}
 use Rattle.protocol.specs.Coordinators.{Coordinator, Ends, Ignores, Makes, Next, Sends, Waits, on_reply, request_of}
-use Rattle.protocol.specs.Nodes.{Node, carried_out, fresh_stamp, known_after, phase_packets, put, received, replica_at, replied, replied_at, to_members, with_call, with_known}
+use Rattle.protocol.specs.Nodes.{Node, carried_out, fresh_stamp, known_after, phase_packets, put, received, replica_at, replied, replied_at, to_members, with_call, with_known, collect_packets}
 use Rattle.protocol.specs.Replicas.{Replica}
 use Rattle.protocol.specs.Worlds.{Operation, World, is_answer, number_of, with_answer, with_made, with_seen}
 
@@ -101,28 +102,68 @@ next_number : (stage : Stage) (n : ℕ) (w : World) (s : Scene) (d : Coordinator
 next_number stage n w s d shows same =
     ap₂ (λ (b k : ℕ). w.numbers stage.me.0 b k) same.boot same.seq ∙ shows.number
 
+-- The coordinator's brick after the last reply: the operation is not there any more, and the rest is as before.
+pub record IsClosed (stage : Stage) (w : World) (c : Coordinator) (node : Node) : Type 0 where
+  pub boot : node.boot ≡ (w.nodes stage.me.0).boot
+  pub call : node.calls c.call.seq ≡ None
+  pub learnt : node.learnt ≡ (w.nodes stage.me.0).learnt
+  pub accepted : node.accepted ≡ (w.nodes stage.me.0).accepted
+  pub replicas : node.replicas ≡ (w.nodes stage.me.0).replicas
+
+-- the operation, as the world has it then
+pub record IsAnswered (w later : World) (n : ℕ) (o : Operation) (seen : Option Stamp) : Type 0 where
+  pub operation : Operation
+  pub is : later.operations n ≡ Some operation
+  pub brick : operation.brick ≡ o.brick
+  pub boot : operation.boot ≡ o.boot
+  pub seq : operation.seq ≡ o.seq
+  pub made : operation.made ≡ o.made
+  pub version : operation.version ≡ version_after o.version seen
+  pub answered : operation.answered ≡ true
+
 -- a world in which the operation is closed, and was answered
-closes_at : (stage : Stage) (n : ℕ) (w later : World) (s : Scene) (node : Node) (o : Operation) → (shows : Shows stage n w s)
-    → later.operations n ≡ Some o → o.brick ≡ shows.operation.brick → o.boot ≡ shows.operation.boot → o.seq ≡ shows.operation.seq
-    → later.nodes ≡ put w.nodes stage.me.0 node → later.up ≡ w.up → node.boot ≡ (w.nodes stage.me.0).boot → node.calls s.c.call.seq ≡ None
-    → o.answered ≡ true → Finishes stage n later
-closes_at stage n w later s node o shows is brick boot seq nodes up node_boot closed answered =
-    let closed_is : open_call later n ≡ None
-    = ap (λ (z : Option Operation). open_at later z) is
-    ∙ open_at_is later o stage.me s.c.call.boot s.c.call.seq (brick ∙ shows.brick) (boot ∙ shows.boot) (seq ∙ shows.seq)
-    (ap (λ (f : ℕ → Bool). f stage.me.0) up ∙ (and_parts (nat_lt stage.me.0 stage.setting.layout.bricks) (w.up stage.me.0) shows.up).1)
-    (ap (λ (f : ℕ → Node). (f stage.me.0).boot) nodes ∙ ap (λ (z : Node). z.boot) (put_same w.nodes stage.me.0 node) ∙ node_boot ∙ shows.node_boot)
-    ∙ ap (λ (f : ℕ → Node). (f stage.me.0).calls s.c.call.seq) nodes
-    ∙ ap (λ (z : Node). z.calls s.c.call.seq) (put_same w.nodes stage.me.0 node) ∙ closed in
-    record {
-      events = [];
-      last = later;
-      alone = Ended later closed_is;
-      closed = closed_is;
-      operation = o;
-      is = is;
-      answered = answered;
-    }
+closes_at : (stage : Stage) (n : ℕ) (w later : World) (s : Scene) (node : Node) (seen stored : Option Stamp) → (shows : Shows stage n w s)
+    → later.nodes ≡ put w.nodes stage.me.0 node → later.up ≡ w.up → later.packets ≡ w.packets ++ collect_packets stage.me s.c stored
+    → IsClosed stage w s.c node → IsAnswered w later n shows.operation seen → EndsAt stage s.c.phase s.c.stamp s.parts seen stored
+    → HasEnded stage n s.c w later
+closes_at stage n w later s node seen stored shows nodes up packets closed o ends = record {
+  closed = ap (λ (z : Option Operation). open_at later z) o.is
+      ∙ open_at_is later o.operation stage.me s.c.call.boot s.c.call.seq (o.brick ∙ shows.brick) (o.boot ∙ shows.boot) (o.seq ∙ shows.seq)
+      (ap (λ (f : ℕ → Bool). f stage.me.0) up ∙ (and_parts (nat_lt stage.me.0 stage.setting.layout.bricks) (w.up stage.me.0) shows.up).1)
+      (ap (λ (f : ℕ → Node). (f stage.me.0).boot) nodes ∙ ap (λ (z : Node). z.boot) (put_same w.nodes stage.me.0 node) ∙ closed.boot ∙ shows.node_boot)
+      ∙ ap (λ (f : ℕ → Node). (f stage.me.0).calls s.c.call.seq) nodes
+      ∙ ap (λ (z : Node). z.calls s.c.call.seq) (put_same w.nodes stage.me.0 node) ∙ closed.call;
+  operation = o.operation;
+  is = o.is;
+  answered = o.answered;
+  events = [];
+  coordinator = s.c;
+  same = same_itself;
+  before = shows.operation;
+  was = shows.is;
+  call = shows.call;
+  number = ap (λ (b : ℕ). w.numbers stage.me.0 b s.c.call.seq) shows.node_boot ∙ shows.number;
+  seen = seen;
+  stored = stored;
+  made = o.made;
+  version = o.version;
+  parts = s.parts;
+  ends = ends;
+  members = λ brick one.
+      serves_on stage w later s.c s.c brick same_itself up
+      (λ i. ap (λ (f : ℕ → Node). (f i).learnt) nodes ∙ put_field (λ (z : Node). z.learnt) w.nodes stage.me.0 node closed.learnt i)
+      (λ i. ap (λ (f : ℕ → Node). (f i).accepted) nodes ∙ put_field (λ (z : Node). z.accepted) w.nodes stage.me.0 node closed.accepted i)
+      (shows.members brick one);
+  kept = λ brick one.
+      ap (λ (f : ℕ → Node). replica_at (f brick.0) s.c.call) nodes
+      ∙ put_field (λ (z : Node). replica_at z s.c.call) w.nodes stage.me.0 node
+      (ap (λ (f : ℕ → ℕ → ℕ → Replica). f s.c.call.group.0 s.c.call.view.0 s.c.call.stripe.0) closed.replicas) brick.0
+      ∙ (shows.parts brick one).replica;
+  packets = packets;
+}
+  where
+    same_itself : SameCall s.c s.c
+    same_itself = record { group = refl; boot = refl; seq = refl; of_group = refl; view = refl; stripe = refl }
 
 module _ (stage : Stage) (n : ℕ) (w : World) (s : Scene) (from : BrickId) (call : Call) (reply : Reply) (rest : List Packet)
     (shows : Shows stage n w s) (next : IsNext stage s from call reply rest) where
@@ -136,20 +177,20 @@ module _ (stage : Stage) (n : ℕ) (w : World) (s : Scene) (from : BrickId) (cal
   me_node = w.nodes stage.me.0
 
   -- it is known what follows the delivery
-  after_step : (z : Next) → decision stage s from call reply ≡ z
+  after_step : (z : Next) (d : Coordinator) → SameCall s.c d → decision stage s from call reply ≡ z
       → ((head : IsHead (is_left w n stage.bricks) 1 w.packets packet rest)
-      → Finishes stage n (world_by stage w (1 + head.place) packet (carried_out stage.setting stage.me me_node known s.c z)))
-      → Finishes stage n w
-  after_step z is then =
-      finishes_by stage n w s packet rest shows next.queue shows.up (carried_out stage.setting stage.me me_node known s.c z)
+      → Finishes stage n d (world_by stage w (1 + head.place) packet (carried_out stage.setting stage.me me_node known s.c z)))
+      → Finishes stage n s.c w
+  after_step z d same is then =
+      finishes_by stage n w s d packet rest shows same next.queue shows.up (carried_out stage.setting stage.me me_node known s.c z)
       (heard_step stage n w s from call reply rest shows next
       ∙ ap (λ (y : Next). carried_out stage.setting stage.me me_node known s.c y) is) then
 
   -- a reply that is left out
   pub skip_plays : decision stage s from call reply ≡ Ignores
-      → ((later : World) → Shows stage n later (heard s reply rest) → Finishes stage n later) → Finishes stage n w
+      → ((later : World) → Shows stage n later (heard s reply rest) → Finishes stage n s.c later) → Finishes stage n s.c w
   skip_plays is then =
-      after_step Ignores is (λ head.
+      after_step Ignores s.c (record { group = refl; boot = refl; seq = refl; of_group = refl; view = refl; stripe = refl }) is (λ head.
       then (world_by stage w (1 + head.place) packet (carried_out stage.setting stage.me me_node known s.c Ignores))
       (subst (λ (q : List Packet). Shows stage n (world_by stage w (1 + head.place) packet (carried_out stage.setting stage.me me_node known s.c Ignores))
       (record s { known = known; queue = q })) (append-nil rest)
@@ -164,9 +205,9 @@ module _ (stage : Stage) (n : ℕ) (w : World) (s : Scene) (from : BrickId) (cal
 
   -- one that counts, where more are waited for
   pub count_plays : (d : Coordinator) → decision stage s from call reply ≡ Waits d → SameCall s.c d
-      → ((later : World) → Shows stage n later (waits (heard s reply rest) d) → Finishes stage n later) → Finishes stage n w
+      → ((later : World) → Shows stage n later (waits (heard s reply rest) d) → Finishes stage n d later) → Finishes stage n s.c w
   count_plays d is same then =
-      after_step (Waits d) is (λ head.
+      after_step (Waits d) d same is (λ head.
       then (world_by stage w (1 + head.place) packet (carried_out stage.setting stage.me me_node known s.c (Waits d)))
       (subst (λ (q : List Packet). Shows stage n (world_by stage w (1 + head.place) packet (carried_out stage.setting stage.me me_node known s.c (Waits d)))
       (record s { c = d; known = known; queue = q })) (append-nil rest)
@@ -188,9 +229,9 @@ module _ (stage : Stage) (n : ℕ) (w : World) (s : Scene) (from : BrickId) (cal
 
   -- one that begins an ordered phase
   pub begin_plays : (d : Coordinator) → decision stage s from call reply ≡ Sends d → SameCall s.c d
-      → ((later : World) → Shows stage n later (sent stage (heard s reply rest) d) → Finishes stage n later) → Finishes stage n w
+      → ((later : World) → Shows stage n later (sent stage (heard s reply rest) d) → Finishes stage n d later) → Finishes stage n s.c w
   begin_plays d is same then =
-      after_step (Sends d) is (λ head.
+      after_step (Sends d) d same is (λ head.
       then (world_by stage w (1 + head.place) packet (carried_out stage.setting stage.me me_node known s.c (Sends d)))
       (shows_next stage n w (world_by stage w (1 + head.place) packet (carried_out stage.setting stage.me me_node known s.c (Sends d))) s
       (sent stage (heard s reply rest) d) packet rest (phase_packets stage.setting stage.me d) shows head
@@ -223,9 +264,9 @@ module _ (stage : Stage) (n : ℕ) (w : World) (s : Scene) (from : BrickId) (cal
 
   -- one that makes the version
   pub create_plays : (d : Coordinator) → decision stage s from call reply ≡ Makes d → SameCall s.c d
-      → ((later : World) → Shows stage n later (made stage (heard s reply rest) d) → Finishes stage n later) → Finishes stage n w
+      → ((later : World) → Shows stage n later (made stage (heard s reply rest) d) → Finishes stage n d later) → Finishes stage n s.c w
   create_plays d is same then =
-      after_step (Makes d) is (λ head.
+      after_step (Makes d) d same is (λ head.
       then (world_by stage w (1 + head.place) packet (carried_out stage.setting stage.me me_node known s.c (Makes d)))
       (shows_next stage n w (world_by stage w (1 + head.place) packet (carried_out stage.setting stage.me me_node known s.c (Makes d))) s
       (made stage (heard s reply rest) d) packet rest (phase_packets stage.setting stage.me d) shows head
@@ -260,9 +301,11 @@ module _ (stage : Stage) (n : ℕ) (w : World) (s : Scene) (from : BrickId) (cal
 
   -- one that ends the operation with an answer
   pub answer_plays : (answer : Answer) (seen stored : Option Stamp) → decision stage s from call reply ≡ Ends answer seen stored
-      → is_answer answer ≡ true → Finishes stage n w
-  answer_plays answer seen stored is well =
-      after_step (Ends answer seen stored) is (λ head. ended (1 + head.place) seen)
+      → is_answer answer ≡ true → EndsAt stage s.c.phase s.c.stamp s.parts seen stored → Finishes stage n s.c w
+  answer_plays answer seen stored is well ends =
+      ends_by stage n w s packet rest shows next.queue shows.up (carried_out stage.setting stage.me me_node known s.c (Ends answer seen stored))
+      (heard_step stage n w s from call reply rest shows next
+      ∙ ap (λ (y : Next). carried_out stage.setting stage.me me_node known s.c y) is) (λ head. ended (1 + head.place) seen ends)
     where
       -- the operations once the version was seen
       seen_at : ℕ → Stamp → ℕ → Option Operation
@@ -272,20 +315,42 @@ module _ (stage : Stage) (n : ℕ) (w : World) (s : Scene) (from : BrickId) (cal
       node : Node
       node = with_call me_node known (me_node.busy - 1) s.c.call.seq None
 
+      node_closed : IsClosed stage w s.c node
+      node_closed =
+          record { boot = refl; call = put_same me_node.calls s.c.call.seq None; learnt = refl; accepted = refl; replicas = refl }
+
       -- the world after the end
-      ended : (number : ℕ) (seen : Option Stamp)
-          → Finishes stage n (world_by stage w number packet (carried_out stage.setting stage.me me_node known s.c (Ends answer seen stored)))
-      ended number None =
+      ended : (number : ℕ) (seen : Option Stamp) → EndsAt stage s.c.phase s.c.stamp s.parts seen stored
+          → HasEnded stage n s.c w (world_by stage w number packet (carried_out stage.setting stage.me me_node known s.c (Ends answer seen stored)))
+      ended number None ends =
           closes_at stage n w (world_by stage w number packet (carried_out stage.setting stage.me me_node known s.c (Ends answer None stored))) s node
-          (record shows.operation { answered = is_answer answer }) shows
-          (ap (λ (k : ℕ). put w.operations k (with_answer answer (w.operations k)) n) (number_is w refl refl)
-          ∙ put_same w.operations n (with_answer answer (w.operations n)) ∙ ap (λ (z : Option Operation). with_answer answer z) shows.is)
-          refl refl refl refl refl refl (put_same me_node.calls s.c.call.seq None) well
-      ended number (Some v) =
+          None stored shows refl refl refl node_closed
+          (record {
+            operation = record shows.operation { answered = is_answer answer };
+            is = ap (λ (k : ℕ). put w.operations k (with_answer answer (w.operations k)) n) (number_is w refl refl)
+                ∙ put_same w.operations n (with_answer answer (w.operations n)) ∙ ap (λ (z : Option Operation). with_answer answer z) shows.is;
+            brick = refl;
+            boot = refl;
+            seq = refl;
+            made = refl;
+            version = refl;
+            answered = well;
+          })
+          ends
+      ended number (Some v) ends =
           closes_at stage n w (world_by stage w number packet (carried_out stage.setting stage.me me_node known s.c (Ends answer (Some v) stored))) s node
-          (record shows.operation { version = Some v; answered = is_answer answer }) shows
-          (ap (λ (k : ℕ). put (seen_at k v) k (with_answer answer (seen_at k v k)) n) (number_is w refl refl)
-          ∙ put_same (seen_at n v) n (with_answer answer (seen_at n v n))
-          ∙ ap (λ (z : Option Operation). with_answer answer z) (put_same w.operations n (with_seen v (w.operations n)))
-          ∙ ap (λ (z : Option Operation). with_answer answer (with_seen v z)) shows.is)
-          refl refl refl refl refl refl (put_same me_node.calls s.c.call.seq None) well
+          (Some v) stored shows refl refl refl node_closed
+          (record {
+            operation = record shows.operation { version = Some v; answered = is_answer answer };
+            is = ap (λ (k : ℕ). put (seen_at k v) k (with_answer answer (seen_at k v k)) n) (number_is w refl refl)
+                ∙ put_same (seen_at n v) n (with_answer answer (seen_at n v n))
+                ∙ ap (λ (z : Option Operation). with_answer answer z) (put_same w.operations n (with_seen v (w.operations n)))
+                ∙ ap (λ (z : Option Operation). with_answer answer (with_seen v z)) shows.is;
+            brick = refl;
+            boot = refl;
+            seq = refl;
+            made = refl;
+            version = refl;
+            answered = well;
+          })
+          ends

@@ -7,6 +7,7 @@ pub mod Beginnings
 pub mod BlockWrites
 pub mod Calmness
 pub mod Casting
+pub mod Collecting
 pub mod Counts
 pub mod Decided
 pub mod Descending
@@ -16,8 +17,11 @@ pub mod FirstRounds
 pub mod Floors
 pub mod Hearing
 pub mod Hears
+pub mod Kept
 pub mod Known
+pub mod Leaving
 pub mod Looking
+pub mod Once
 pub mod OrderPhases
 pub mod OrderRuns
 pub mod Ordering

@@ -18,21 +18,15 @@ use Rattle.messages.specs.declared.replies.Reply.TheVariants.{Later, Stored, Ord
 use Rattle.protocol.specs.Settings.{Code}
 use Rattle.protocol.specs.Replicas.{Replica, Reaction, top_of, is_held, is_wanted, told_version, looked_up, stays, unless_full, promised, stored, below, not_below, drops_start, collected, ignored, handle, modified_block, first_replica, modified_on, newest_of}
 use Rattle.messages.specs.declared.calls.Call.{Call}
-use Rattle.messages.specs.declared.packets.Message.{Message}
-use Rattle.messages.specs.declared.packets.Packet.{Packet}
-use Rattle.protocol.specs.Coordinators.{Coordinator, Next, Ignores, Waits, Sends, Makes, Ends, on_reply}
-use Rattle.protocol.specs.Nodes.{Node, NodeStep, put, requested, replied, replied_at, received, absorbed, carried_out, known_after, fresh_stamp, with_replica, replica_at, full_at, seat_served, is_served, fitting_seat, view_at, group_at, invoked, began, stopped, restarted}
-use Rattle.protocol.specs.Worlds.{World, Event, Invokes, Delivers, Sets, Ticks, Stops, Starts, Found, Before, After, first_world, may_begin, may_start, is_brick, is_up, packet_of, delivered, world_ticked, world_stopped, world_found, world_started, happens, run}
+use Rattle.protocol.specs.Nodes.{Node, NodeStep, put, requested, with_replica, replica_at, full_at, seat_served, is_served, fitting_seat, view_at}
+use Rattle.protocol.specs.Worlds.{World, Event, first_world, run}
 use Rattle.fab_base.specs.Layouts.{seat_in}
 use Rattle.protocol.specs.Settings.{Setting}
-use Rattle.protocol_laws.specs.Laws.{WasSent}
-use Rattle.protocol_laws.proofs.Books.{Books}
-use Rattle.protocol_laws.proofs.BooksEvents.{books, start_fits}
 use Rattle.protocol_laws.proofs.FirstViews.{IsInFirst, group_first, view_first}
-use Rattle.protocol_laws.proofs.Left.{IsLeft, Leaves, always_leaves, leaves_happens}
 use Rattle.protocol_laws.proofs.Served.{request_each}
 use Rattle.protocol_laws.proofs.Tables.{put_each, put_same}
 use Rattle.protocol_laws.proofs.Puts.{put_other}
+use Rattle.calm_laws.proofs.Kept.{always_kept}
 use Rattle.protocol_laws.proofs.Reactions.{top_order, modified_each}
 
 -- one, where it is so
@@ -406,118 +400,9 @@ request_counts setting me from node call request first counts =
         (and_parts (nat_lt call.stripe.0 group.stripes) (nat_eq call.view.0 (view_at node call.group.0) && not (node.accepted call.group.0)) served).0)
         (λ isnt bad. let never : None ≡ Some seat = bad in cc) at
 
--- after a coordinator's step
-decision_counts : (setting : Setting) (me : BrickId) (node : Node) (known : ℕ) (c : Coordinator) (z : Next) → CountsLives setting.layout node
-    → CountsLives setting.layout (carried_out setting me node known c z).node
-decision_counts setting me node known c Ignores counts = counts_same setting.layout node (carried_out setting me node known c Ignores).node refl refl counts
-decision_counts setting me node known c (Waits d) counts = counts_same setting.layout node (carried_out setting me node known c (Waits d)).node refl refl counts
-decision_counts setting me node known c (Sends d) counts = counts_same setting.layout node (carried_out setting me node known c (Sends d)).node refl refl counts
-decision_counts setting me node known c (Makes d) counts = counts_same setting.layout node (carried_out setting me node known c (Makes d)).node refl refl counts
-decision_counts setting me node known c (Ends answer seen stored) counts =
-    counts_same setting.layout node (carried_out setting me node known c (Ends answer seen stored)).node refl refl counts
-
-reply_counts : (setting : Setting) (me : BrickId) (now : ℕ) (from : BrickId) (node : Node) (call : Call) (reply : Reply)
-    → CountsLives setting.layout node → CountsLives setting.layout (replied setting me now from node call reply).node
-unfolding replied
-reply_counts setting me now from node call reply counts = at (node.calls call.seq)
-  where
-    at : (z : Option Coordinator) → CountsLives setting.layout (replied_at setting me now from node call reply z).node
-    at None = counts_same setting.layout node (replied_at setting me now from node call reply None).node refl refl counts
-    at (Some c) =
-        decision_counts setting me node (known_after node.known reply) c
-        (on_reply setting.layout.block setting.code (fresh_stamp me c.call.view now node.boot (known_after node.known reply)) c from call reply) counts
-
--- after any message
-message_counts : (setting : Setting) (now : ℕ) (from to : BrickId) (node : Node) (message : Message) → IsInFirst setting.layout node
-    → CountsLives setting.layout node
-    → CountsLives setting.layout (received setting to now node (record { from = from; to = to; message = message })).node
-unfolding received
-message_counts setting now from to node (Message.Request call request) first counts = request_counts setting to from node call request first counts
-message_counts setting now from to node (Message.Reply call reply) first counts = reply_counts setting to now from node call reply counts
-message_counts setting now from to node message first counts = counts
-
-absorbed_counts : (setting : Setting) (me from to : BrickId) (node : Node) (message : Message) → IsInFirst setting.layout node
-    → CountsLives setting.layout node → CountsLives setting.layout (absorbed setting me node (record { from = from; to = to; message = message }))
-unfolding absorbed
-absorbed_counts setting me from to node (Message.Request call request) first counts = request_counts setting me from node call request first counts
-absorbed_counts setting me from to node message first counts = counts
-
 -- all bricks do
 abbrev pub AllCount : Setting → World → Type 0
 AllCount setting w = (i : ℕ) → CountsLives setting.layout (w.nodes i)
-
--- where one brick changes, and counts
-count_by : (setting : Setting) (w : World) (k : ℕ) (node : Node) → AllCount setting w → CountsLives setting.layout node → (i : ℕ)
-    → CountsLives setting.layout (put w.nodes k node i)
-count_by setting w k node all counts i = put_each (λ j x. CountsLives setting.layout x) w.nodes k node counts (λ j other. all j) i
-
--- what the store of a stopped brick may hold
-left_counts : (setting : Setting) (w : World) (i : ℕ) (node : Node) → IsInFirst setting.layout (w.nodes i) → IsLeft setting w i node → AllCount setting w
-    → CountsLives setting.layout node
-left_counts setting w i node first left all = ⊎_elim
-    (λ (same : node ≡ w.nodes i). subst (λ (x : Node). CountsLives setting.layout x) (sym same) (all i))
-    (λ (handled : (packet : Packet) × (packet.to ≡ record { 0 = i }) × WasSent w packet
-    × (node ≡ absorbed setting (record { 0 = i }) (w.nodes i) packet)).
-    subst (λ (x : Node). CountsLives setting.layout x) (sym handled.3)
-    (absorbed_counts setting (record { 0 = i }) handled.0.from handled.0.to (w.nodes i) handled.0.message first (all i)))
-    left
-
--- every event keeps the counts
-count_kept : (setting : Setting) (w : World) (event : Event) → Leaves setting w → Books setting w → AllCount setting w
-    → AllCount setting (happens setting w event)
-unfolding happens invoked stopped restarted
-count_kept setting w (Invokes brick ask) leaves books all =
-    cond_both (may_begin setting w brick ask) _ w (λ (next : World). AllCount setting next)
-    (λ may. count_by setting w brick.0 (invoked setting brick (w.clocks brick.0) (w.nodes brick.0) ask).node all
-    (in_group (group_at setting.layout (w.nodes brick.0) ask.group.0)))
-    (λ isnt. all)
-  where
-    in_group : (z : Option Group) → CountsLives setting.layout (began setting brick (w.clocks brick.0) (w.nodes brick.0) ask z).node
-    in_group None = all brick.0
-    in_group (Some group) =
-        counts_same setting.layout (w.nodes brick.0) (began setting brick (w.clocks brick.0) (w.nodes brick.0) ask (Some group)).node refl refl (all brick.0)
-count_kept setting w (Delivers number) leaves books all = at (packet_of w.packets number)
-  where
-    at : (z : Option Packet) → AllCount setting (delivered setting w number z)
-    at None = all
-    at (Some packet) =
-        cond_both (is_up setting.layout w packet.to) _ w (λ (next : World). AllCount setting next)
-        (λ up. count_by setting w packet.to.0 (received setting packet.to (w.clocks packet.to.0) (w.nodes packet.to.0) packet).node all
-        (message_counts setting (w.clocks packet.to.0) packet.from packet.to (w.nodes packet.to.0) packet.message (books.first packet.to.0) (all packet.to.0)))
-        (λ isnt. all)
-count_kept setting w (Sets brick time) leaves books all =
-    cond_both (is_brick setting.layout brick) (record w { clocks = put w.clocks brick.0 time }) w (λ (next : World). AllCount setting next)
-    (λ is. all) (λ isnt. all)
-count_kept setting w (Ticks brick) leaves books all =
-    cond_both (is_up setting.layout w brick) (world_ticked setting w brick) w (λ (next : World). AllCount setting next) (λ up. all) (λ isnt. all)
-count_kept setting w (Stops brick during) leaves books all =
-    cond_both (is_up setting.layout w brick) (world_stopped setting w brick during) w (λ (next : World). AllCount setting next)
-    (λ up. count_by setting w brick.0 (stopped (w.nodes brick.0)) all
-    (counts_same setting.layout (w.nodes brick.0) (stopped (w.nodes brick.0)) refl refl (all brick.0)))
-    (λ isnt. all)
-count_kept setting w (Starts brick openings found) leaves books all =
-    cond_both (may_start setting.layout w brick openings) (world_started (world_found w brick found) brick openings) w
-    (λ (next : World). AllCount setting next)
-    (λ may.
-    let with_found : AllCount setting (world_found w brick found) = of found (start_fits setting w brick openings may).0 in
-    count_by setting (world_found w brick found) brick.0 (restarted openings ((world_found w brick found).nodes brick.0)) with_found
-    (counts_same setting.layout ((world_found w brick found).nodes brick.0) (restarted openings ((world_found w brick found).nodes brick.0)) refl refl
-    (with_found brick.0)))
-    (λ isnt. all)
-  where
-    of : (z : Found) → w.up brick.0 ≡ false → AllCount setting (world_found w brick z)
-    of Before down = all
-    of After down =
-        count_by setting w brick.0 (w.after brick.0) all
-        (left_counts setting w brick.0 (w.after brick.0) (books.first brick.0) (leaves brick.0 down) all)
-
--- and so does every run
-counts_on : (setting : Setting) (events : List Event) (w : World) → Leaves setting w → ((more : List Event) → Books setting (run setting more w))
-    → AllCount setting w → AllCount setting (run setting events w)
-counts_on setting [] w leaves books all = all
-counts_on setting (event ∷ events) w leaves books all =
-    counts_on setting events (happens setting w event) (leaves_happens setting w event leaves) (λ more. books (event ∷ more))
-    (count_kept setting w event leaves (books []) all)
 
 -- a fresh brick has no live record
 none_live : (block : ℕ) (groups : List Group) (g : ℕ) → groups_weight (λ j s. first_replica block) g groups ≡ 0
@@ -537,12 +422,13 @@ none_live block (group ∷ groups) g =
 
 pub always_count : (setting : Setting) (events : List Event) → AllCount setting (run setting events (first_world setting.layout))
 always_count setting events =
-    counts_on setting events (first_world setting.layout) (always_leaves setting []) (λ more. books setting more)
-    (λ i. record {
+    always_kept setting (CountsLives setting.layout) (counts_same setting.layout) (request_counts setting)
+    (record {
       live_is = sym (none_live setting.layout.block setting.layout.groups 0);
       begins = λ g s starts. (record { stamp = first_stamp; block = replicate setting.layout.block 0 }, [], refl, refl);
       most = omega arith;
     })
+    events
 
 -- so no log is longer than the live records by more than one
 pub log_within : (layout : Layout) (node : Node) (g s : ℕ) (group : Group) → CountsLives layout node → group_of layout g ≡ Some group

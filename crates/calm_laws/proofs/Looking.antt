@@ -33,6 +33,7 @@ use Rattle.protocol.specs.Coordinators.{Coordinator, Ends, Next, Sends, answered
 use Rattle.protocol.specs.Nodes.{full_at, put, reply_packets}
 use Rattle.protocol.specs.Replicas.{Reaction, Replica, handle, is_wanted, newest_of, stays, told_version, top_of}
 use Rattle.protocol.specs.declared.phases.Counted.{Counted}
+use Rattle.protocol_laws.proofs.Outcomes.{IsLook}
 use Rattle.protocol.specs.declared.phases.Phase.{Phase}
 use Rattle.protocol.specs.declared.phases.Phase.TheVariants.{Looks, LooksAt, Recovers}
 
@@ -81,6 +82,7 @@ told_quiet stage call replicas want (x ∷ xs) known = told_quiet stage call rep
 
 -- A phase that looks: what it asks, that what is told answers it, and that it decides to answer, or to recover.
 pub record IsLooking (stage : Stage) (s : Scene) (want : Want) : Type 0 where
+  pub look : IsLook s.c.phase
   pub asks : (x : Seated) → asked_of stage s.c x ≡ Request.Read want
   pub fits : (x : Seated) → Fits stage s.c x
   pub answers_none : (x : Seated) (order : Stamp) → answers_phase stage.setting.layout.block s.c.stamp x.seat s.c.phase (Found order None) ≡ true
@@ -96,6 +98,7 @@ pub record IsLooking (stage : Stage) (s : Scene) (want : Want) : Type 0 where
 pub looks_looking : (stage : Stage) (s : Scene) → s.c.phase ≡ Looks → IsLooking stage s Want.All
 unfolding request_of
 looks_looking stage s phase = record {
+  look = subst (λ (p : Phase). IsLook p) (sym phase) tt;
   asks = λ x. asked_in_phase stage.setting.code s.c Looks x.seat phase;
   fits = λ x. fits_in_phase stage s.c Looks x phase refl;
   answers_none = λ x order. ap (λ (p : Phase). answers_phase stage.setting.layout.block s.c.stamp x.seat p (Found order None)) phase;
@@ -116,6 +119,7 @@ looks_looking stage s phase = record {
 pub looks_at_looking : (stage : Stage) (s : Scene) (j : ℕ) → s.c.phase ≡ LooksAt j → IsLooking stage s (Want.Seat j)
 unfolding request_of
 looks_at_looking stage s j phase = record {
+  look = subst (λ (p : Phase). IsLook p) (sym phase) tt;
   asks = λ x. asked_in_phase stage.setting.code s.c (LooksAt j) x.seat phase;
   fits = λ x. fits_in_phase stage s.c (LooksAt j) x phase refl;
   answers_none = λ x order. ap (λ (p : Phase). answers_phase stage.setting.layout.block s.c.stamp x.seat p (Found order None)) phase;
@@ -252,4 +256,4 @@ module _ (stage : Stage) (cast : Cast stage) (logs : ℕ → List Version) (lore
                 (recovery_first counted before parts known known_is still) refl (omega (arith, early)) unheld,
           )
       go before parts still (inr is) =
-          subst (λ (z : Next). Carries stage (after_replies stage s known parts first.open_is.others before) z) (sym is.2) refl
+          subst (λ (z : Next). Carries stage (after_replies stage s known parts first.open_is.others before) z) (sym is.2) (refl, looking_is.look)

@@ -4,13 +4,12 @@ use Rattle.std.specs.Prelude.{◌-◌, ◌^◌}
 use Rattle.calm_laws.proofs.Asking.{Holds, each_then}
 use Rattle.calm_laws.proofs.Counts.{Carries, counted_of}
 use Rattle.calm_laws.proofs.Decided.{order_decides, recover_decides}
-use Rattle.calm_laws.proofs.Descending.{IsSet, Lore, after_replies, down_phase, having, read_back_goes, told_fits}
+use Rattle.calm_laws.proofs.Descending.{are_taking, IsSet, Lore, after_replies, down_phase, having, read_back_goes, told_fits}
 use Rattle.calm_laws.proofs.Finds.{Has, finding, some_of, total_below}
 use Rattle.protocol_laws.proofs.Logs.{LogAscends}
 use Rattle.calm_laws.proofs.OrderRuns.{IsOrdering, IsUnheld, held_below}
 use Rattle.calm_laws.proofs.Ordering.{TameWith, looking, order_fits, orders_ask, read_fits, recovers_ask, told_below}
 use Rattle.calm_laws.proofs.PhaseRuns.{Cast, IsAfter, next_open}
-use Rattle.calm_laws.proofs.Rooms.{Room}
 use Rattle.calm_laws.proofs.Rounds.{order_whole, reads_whole}
 use Rattle.calm_laws.proofs.Scenes.{Closes, Each, Part, Scene, Seated, Stage, made, sent}
 use Rattle.calm_laws.proofs.StorePhases.{each_so, store_phase}
@@ -21,7 +20,7 @@ use Rattle.messages.specs.declared.requests.Look.TheVariants.{Below}
 use Rattle.messages.specs.declared.requests.Version.{Version}
 use Rattle.messages.specs.declared.requests.Want.{Want}
 use Rattle.protocol.specs.Coordinators.{Coordinator, Makes, Next, answers_phase, greatest_found, in_phase, may_be_found, read_back}
-use Rattle.protocol.specs.Replicas.{is_held, top_of}
+use Rattle.protocol.specs.Replicas.{is_held}
 use Rattle.protocol.specs.declared.phases.Counted.{Counted}
 use Rattle.protocol.specs.declared.phases.Phase.{Phase}
 use Rattle.protocol.specs.declared.phases.Phase.TheVariants.{Descends, Orders, Recovers, Stores}
@@ -83,9 +82,7 @@ module _ (stage : Stage) (cast : Cast stage) (logs : ℕ → List Version) (lore
         (made stage (after_replies stage s known parts others before) (in_phase (having s.c (map (counted_of (λ x. Ordered)) cast.xs)) Stores)) group
         (after_in_phase s.c (map (counted_of (λ x. Ordered)) cast.xs) Stores) refl refl)
         refl early (λ x seated. lore.encodes s.c.group.m s.c.content x.seat)
-        (each_then (λ (x : Seated). TameWith stage s.c.stamp logs x.brick.0 (parts x.brick.0))
-        (λ (x : Seated). (stamp_below s.c.stamp (top_of (parts x.brick.0).replica) ≡ false) × Room stage (parts x.brick.0)) cast.xs
-        (λ x h. (h.tame, h.room)) tame),
+        (are_taking stage s.c.stamp logs parts cast.xs lore.ascends tame),
   )
 
   -- a recovery reads back what it finds

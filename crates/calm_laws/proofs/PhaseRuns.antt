@@ -1,11 +1,11 @@
 -- A phase alone: what is left of earlier phases is left out, each member is asked, and the first quorum of them decides.
 use Rattle.std.proofs.Common.{List, [], ap, ap₂, arith, false, length, map, refl, subst, sym, true, zero-add, ℕ, ◌++◌, ◌+◌, ◌<◌, ◌∙◌, ◌∷◌, ◌≡◌, ◌≤◌}
 use Rattle.std.specs.Prelude.{◌-◌, ◌^◌}
-use Rattle.calm_laws.proofs.Asking.{Holds, IsReply, Keeps, Replies, asks_pass, each_then, holds_on, reacted_all, told_all, told_exactly, told_replies}
-use Rattle.calm_laws.proofs.Counts.{AreApart, AreNew, Carries, counted_of, decides, new_from, replies_pass, told}
+use Rattle.calm_laws.proofs.Asking.{Gives, Holds, IsReply, Keeps, Replies, all_given, asks_pass, each_then, holds_on, reacted_all, told_all, told_exactly, told_replies}
+use Rattle.calm_laws.proofs.Counts.{AreNew, Carries, counted_of, decides, new_from, replies_pass, told}
 use Rattle.calm_laws.proofs.Hearing.{IsStale, known_through, stale_pass}
 use Rattle.calm_laws.proofs.Queues.{waiting}
-use Rattle.calm_laws.proofs.Scenes.{Closes, Each, Fits, IsSeated, Part, SameCall, Scene, Seated, Stage, asking, heard, sends}
+use Rattle.calm_laws.proofs.Scenes.{Closes, Each, Fits, IsSeated, Part, SameCall, Scene, Seated, Stage, asking, heard, sends, AreApart}
 use Rattle.messages.specs.declared.packets.Packet.{Packet}
 use Rattle.messages.specs.declared.replies.Reply.{Reply}
 use Rattle.protocol.specs.Coordinators.{Coordinator, answers_phase, has_seat}
@@ -37,15 +37,16 @@ none_new : (xs : List Seated) → Each (λ x. has_seat x.seat [] ≡ false) xs
 none_new [] = tt
 none_new (x ∷ xs) = (refl, none_new xs)
 
--- where these seats' replies are heard
+-- where these seats' replies are heard, by what holds of the parts then
 abbrev pub Heard : Stage → Scene → (ℕ → Part → Type 0) → (Seated → Reply) → List Seated → List Packet → List Seated → Type 0
-Heard stage s Inv f xs stale others =
-    (before parts : ℕ → Part) → Holds Inv parts xs
+Heard stage s After f xs stale others =
+    (before parts : ℕ → Part) → Holds After parts xs
     → Carries stage (record s { known = known_then stage s f xs stale; parts = parts; queue = told_all stage s.c others before })
     (decides stage s.c (known_then stage s f xs stale) (map (counted_of f) xs))
 
-module _ (stage : Stage) (s : Scene) (Inv : ℕ → Part → Type 0) (f : Seated → Reply) (xs : List Seated) (begins : HasBegun stage s Inv f xs)
-    (stale : List Packet) (others : List Seated) (heard : Heard stage s Inv f xs stale others) where
+module _ (stage : Stage) (s : Scene) (Inv After : ℕ → Part → Type 0) (f : Seated → Reply) (xs : List Seated) (begins : HasBegun stage s Inv f xs)
+    (after_keeps : Keeps stage s.c After) (gives : Gives stage s.c Inv After) (stale : List Packet) (others : List Seated)
+    (heard : Heard stage s After f xs stale others) where
   -- the parts once the quorum was asked, and once all were
   abbrev asked_parts : ℕ → Part
   asked_parts = reacted_all stage s.c xs s.parts
@@ -66,7 +67,8 @@ module _ (stage : Stage) (s : Scene) (Inv : ℕ → Part → Type 0) (f : Seated
       (record s { known = known_then stage s f xs stale; parts = all_parts; queue = told_all stage s.c others asked_parts })
       (decides stage s.c (known_then stage s f xs stale) (l ++ map (counted_of f) xs))) (sym begins.counted)
       (heard asked_parts all_parts
-      (holds_on stage s.c Inv begins.keeps xs others asked_parts (holds_on stage s.c Inv begins.keeps xs xs s.parts begins.holds))))
+      (holds_on stage s.c After after_keeps xs others asked_parts
+      (all_given stage s.c Inv After begins.keeps after_keeps gives xs s.parts begins.holds))))
 
   -- the requests wait
   requests_wait : Each (IsSeated stage) others
@@ -91,6 +93,7 @@ module _ (stage : Stage) (s : Scene) (Inv : ℕ → Part → Type 0) (f : Seated
 pub record Cast (stage : Stage) : Type 0 where
   pub xs : List Seated
   pub rest : List Seated
+  pub counts : xs ≡ stage.quorum
   pub seated : Each (IsSeated stage) xs
   pub rest_seated : Each (IsSeated stage) rest
   pub apart : AreApart xs
@@ -108,14 +111,14 @@ pub record IsOpen (stage : Stage) (cast : Cast stage) (s : Scene) : Type 0 where
   pub others_seated : Each (IsSeated stage) others
   pub waiting : s.queue ≡ stale ++ (map (asking stage s.c) cast.xs ++ map (asking stage s.c) others)
 
--- an open phase runs to its decision
-pub open_run : (stage : Stage) (cast : Cast stage) (s : Scene) (open_is : IsOpen stage cast s) (Inv : ℕ → Part → Type 0) (f : Seated → Reply)
+-- an open phase runs to its decision, by what the requests give
+pub open_run_to : (stage : Stage) (cast : Cast stage) (s : Scene) (open_is : IsOpen stage cast s) (Inv After : ℕ → Part → Type 0) (f : Seated → Reply)
     → s.c.call.phase < 2 ^ 32 - 1 → ((x : Seated) → IsSeated stage x → Fits stage s.c x) → Keeps stage s.c Inv → Replies stage s.c Inv f
-    → Holds Inv s.parts cast.xs
+    → Keeps stage s.c After → Gives stage s.c Inv After → Holds Inv s.parts cast.xs
     → Each (λ x. answers_phase stage.setting.layout.block s.c.stamp x.seat s.c.phase (f x) ≡ true) cast.xs
-    → Heard stage s Inv f cast.xs open_is.stale open_is.others → Closes stage s
-open_run stage cast s open_is Inv f early fits keeps replies holds answers heard =
-    phase_run stage s Inv f cast.xs
+    → Heard stage s After f cast.xs open_is.stale open_is.others → Closes stage s
+open_run_to stage cast s open_is Inv After f early fits keeps replies after_keeps gives holds answers heard =
+    phase_run stage s Inv After f cast.xs
     (record {
       group = open_is.group;
       counted = open_is.counted;
@@ -130,7 +133,16 @@ open_run stage cast s open_is Inv f early fits keeps replies holds answers heard
       holds = holds;
       answers = answers;
     })
-    open_is.stale open_is.others heard open_is.waiting open_is.old open_is.others_seated
+    after_keeps gives open_is.stale open_is.others heard open_is.waiting open_is.old open_is.others_seated
+
+-- and by what they keep
+pub open_run : (stage : Stage) (cast : Cast stage) (s : Scene) (open_is : IsOpen stage cast s) (Inv : ℕ → Part → Type 0) (f : Seated → Reply)
+    → s.c.call.phase < 2 ^ 32 - 1 → ((x : Seated) → IsSeated stage x → Fits stage s.c x) → Keeps stage s.c Inv → Replies stage s.c Inv f
+    → Holds Inv s.parts cast.xs
+    → Each (λ x. answers_phase stage.setting.layout.block s.c.stamp x.seat s.c.phase (f x) ≡ true) cast.xs
+    → Heard stage s Inv f cast.xs open_is.stale open_is.others → Closes stage s
+open_run stage cast s open_is Inv f early fits keeps replies holds answers heard =
+    open_run_to stage cast s open_is Inv Inv f early fits keeps replies keeps (λ x part held. keeps x.brick.0 x part held) holds answers heard
 
 -- a coordinator begins the phase after another
 pub record IsAfter (c d : Coordinator) : Type 0 where

@@ -1,10 +1,13 @@
 -- What closes on the scene closes in the world: each step of the one is a delivery in the other.
+use Rattle.messages.specs.declared.requests.Request.{Request}
+use Rattle.fab_base.specs.declared.stamps.Stamp.{Stamp}
+use Rattle.protocol_laws.proofs.Books.{version_after}
 use Rattle.std.proofs.Common.{Bool, List, None, Option, Some, [], ap, cond, refl, subst, sym, true, ℕ, ⊎_elim, ◌++◌, ◌+◌, ◌∙◌, ◌∷◌, ◌≡◌, ◌≢◌}
 use Rattle.std.proofs.lemmas.Bool.{and_parts, cases_eq}
 use Rattle.std.specs.Prelude.{filter, is_some, nat_lt, ◌-◌}
 use Rattle.calm_laws.proofs.Queues.{IsHead, head_of}
-use Rattle.calm_laws.proofs.Scenes.{Each, Fits, IsSeated, Part, Scene, Seated, Stage, asked, asked_of, asking, part_after, reaction, replies_from, replying}
-use Rattle.calm_laws.proofs.Shows.{IsMove, IsPart, Shows, delivers_so, open_at_is, put_field, world_by}
+use Rattle.calm_laws.proofs.Scenes.{Each, Fits, IsSeated, Part, Scene, Seated, Stage, asked, asked_of, asking, part_after, reaction, replies_from, replying, EndsAt, SameCall}
+use Rattle.calm_laws.proofs.Shows.{IsMove, IsPart, Shows, delivers_so, open_at_is, put_field, world_by, IsMember}
 use Rattle.protocol_laws.proofs.Puts.{put_other}
 use Rattle.protocol_laws.proofs.Tables.{put_same}
 use Rattle.fab_base.specs.Layouts.{Group, seat_in}
@@ -12,79 +15,169 @@ use Rattle.fab_base.specs.declared.identities.BrickId.{BrickId}
 use Rattle.messages.specs.declared.calls.Call.{Call}
 use Rattle.messages.specs.declared.packets.Packet.{Packet}
 use Rattle.messages.specs.declared.replies.Reply.{Reply}
-use Rattle.protocol.specs.Calms.{RunsAlone, goes_among, is_left, is_one_of, open_at, open_call, operation_of}
+use Rattle.protocol.specs.Calms.{RunsAlone, goes_among, is_left, is_one_of, open_at, open_call, operation_of, Ended}
 use Rattle.protocol.specs.Coordinators.{Coordinator}
-use Rattle.protocol.specs.Nodes.{Node, NodeStep, fitting_seat, full_at, put, reacted, received, replica_at, reply_packets, requested, requested_at, requested_in, with_replica}
+use Rattle.protocol.specs.Nodes.{Node, NodeStep, fitting_seat, full_at, put, reacted, received, replica_at, reply_packets, requested, requested_at, requested_in, with_replica, collect_packets, fits_block}
 use Rattle.protocol.specs.Replicas.{Reaction, Replica, handle}
-use Rattle.protocol.specs.Worlds.{Delivers, Event, Operation, World, happens, is_up}
+use Rattle.protocol.specs.Worlds.{Delivers, Event, Operation, World, happens, is_up, number_of, run}
 use Rattle.quorum.specs.Tallies.{fits}
 use Rattle.protocol.specs.Calms.{Next as Goes_on}
 
--- The operation's deliveries come to their end, and it is answered.
-pub record Finishes (stage : Stage) (n : ℕ) (w : World) : Type 0 where
-  pub events : List Event
-  pub last : World
-  pub alone : RunsAlone stage.setting n stage.bricks w events last
+-- The operation has ended, and was answered: the world before its last delivery, its coordinator there, and how that answers. What it made is what it
+-- had made, its version is what it had or what it saw at once, and what the bricks keep of its stripe stays.
+pub record HasEnded (stage : Stage) (n : ℕ) (c : Coordinator) (w last : World) : Type 0 where
   pub closed : open_call last n ≡ None
   pub operation : Operation
   pub is : last.operations n ≡ Some operation
   pub answered : operation.answered ≡ true
+  pub events : List Event
+  pub coordinator : Coordinator
+  pub same : SameCall c coordinator
+  pub before : Operation
+  pub was : (run stage.setting events w).operations n ≡ Some before
+  pub call : ((run stage.setting events w).nodes stage.me.0).calls coordinator.call.seq ≡ Some coordinator
+  pub number : number_of (run stage.setting events w) stage.me.0 coordinator.call.seq ≡ n
+  pub seen : Option Stamp
+  pub stored : Option Stamp
+  pub made : operation.made ≡ before.made
+  pub version : operation.version ≡ version_after before.version seen
+  pub parts : ℕ → Part
+  pub ends : EndsAt stage coordinator.phase coordinator.stamp parts seen stored
+  pub members : (brick : BrickId) → is_one_of stage.bricks brick ≡ true → IsMember stage last coordinator.call brick
+  pub kept : (brick : BrickId) → is_one_of stage.bricks brick ≡ true → replica_at (last.nodes brick.0) coordinator.call ≡ (parts brick.0).replica
+  pub packets : last.packets ≡ (run stage.setting events w).packets ++ collect_packets stage.me coordinator stored
 
--- the next message is delivered, where the world after that finishes
-pub finishes_next : (stage : Stage) (n : ℕ) (w : World) (s : Scene) (packet : Packet) (rest : List Packet) → Shows stage n w s
-    → (head : IsHead (is_left w n stage.bricks) 1 w.packets packet rest)
-    → Finishes stage n (happens stage.setting w (Delivers (1 + head.place))) → Finishes stage n w
-finishes_next stage n w s packet rest shows head then =
+-- The operation's deliveries come to their end, and it is answered.
+pub record Finishes (stage : Stage) (n : ℕ) (c : Coordinator) (w : World) : Type 0 where
+  pub events : List Event
+  pub last : World
+  pub alone : RunsAlone stage.setting n stage.bricks w events last
+  pub end : HasEnded stage n c w last
+
+-- coordinators of one operation
+same_then : (c d e : Coordinator) → SameCall c d → SameCall d e → SameCall c e
+same_then c d e first second = record {
+  group = second.group ∙ first.group;
+  boot = second.boot ∙ first.boot;
+  seq = second.seq ∙ first.seq;
+  of_group = second.of_group ∙ first.of_group;
+  view = second.view ∙ first.view;
+  stripe = second.stripe ∙ first.stripe;
+}
+
+-- what has ended from the next world has ended from this one
+ended_from : (stage : Stage) (n : ℕ) (c d : Coordinator) (w last : World) (event : Event) → SameCall c d
+    → HasEnded stage n d (happens stage.setting w event) last → HasEnded stage n c w last
+ended_from stage n c d w last event same end = record {
+  closed = end.closed;
+  operation = end.operation;
+  is = end.is;
+  answered = end.answered;
+  events = event ∷ end.events;
+  coordinator = end.coordinator;
+  same = same_then c d end.coordinator same end.same;
+  before = end.before;
+  was = end.was;
+  call = end.call;
+  number = end.number;
+  seen = end.seen;
+  stored = end.stored;
+  made = end.made;
+  version = end.version;
+  parts = end.parts;
+  ends = end.ends;
+  members = end.members;
+  kept = end.kept;
+  packets = end.packets;
+}
+
+-- in a world that shows a scene the operation is open
+opened_so : (stage : Stage) (n : ℕ) (w : World) (s : Scene) → Shows stage n w s → is_some (open_call w n) ≡ true
+opened_so stage n w s shows =
     let up_me = (and_parts (nat_lt stage.me.0 stage.setting.layout.bricks) (w.up stage.me.0) shows.up).1 in
     let open_is : open_call w n ≡ Some s.c
     = ap (λ (z : Option Operation). open_at w z) shows.is
     ∙ open_at_is w shows.operation stage.me s.c.call.boot s.c.call.seq shows.brick shows.boot shows.seq up_me shows.node_boot ∙ shows.call in
+    ap (λ (z : Option Coordinator). is_some z) open_is
+
+-- the next message is delivered, by the step that the delivery makes
+delivered_by : (P : World → Type 0) (stage : Stage) (n : ℕ) (w : World) (s : Scene) (packet : Packet) (rest : List Packet) → Shows stage n w s
+    → s.queue ≡ packet ∷ rest → is_up stage.setting.layout w packet.to ≡ true
+    → (step : NodeStep) → received stage.setting packet.to (w.clocks packet.to.0) (w.nodes packet.to.0) packet ≡ step
+    → ((head : IsHead (is_left w n stage.bricks) 1 w.packets packet rest) → P (world_by stage w (1 + head.place) packet step))
+    → (head : IsHead (is_left w n stage.bricks) 1 w.packets packet rest) × P (happens stage.setting w (Delivers (1 + head.place)))
+delivered_by P stage n w s packet rest shows queue up step step_is then =
+    let head = head_of (is_left w n stage.bricks) 1 w.packets packet rest (shows.queue ∙ queue) in (
+      head,
+      subst (λ (z : World). P z)
+          (sym (delivers_so stage w head.place packet head.stands up
+          ∙ ap (λ (z : NodeStep). world_by stage w (1 + head.place) packet z) step_is))
+          (then head),
+    )
+
+-- then the world finishes, where the next one does
+pub finishes_by : (stage : Stage) (n : ℕ) (w : World) (s : Scene) (d : Coordinator) (packet : Packet) (rest : List Packet) → (shows : Shows stage n w s)
+    → SameCall s.c d → (queue : s.queue ≡ packet ∷ rest) → is_up stage.setting.layout w packet.to ≡ true
+    → (step : NodeStep) → received stage.setting packet.to (w.clocks packet.to.0) (w.nodes packet.to.0) packet ≡ step
+    → ((head : IsHead (is_left w n stage.bricks) 1 w.packets packet rest) → Finishes stage n d (world_by stage w (1 + head.place) packet step))
+    → Finishes stage n s.c w
+finishes_by stage n w s d packet rest shows same queue up step step_is then =
+    let next = delivered_by (Finishes stage n d) stage n w s packet rest shows queue up step step_is then in
     record {
-      events = Delivers (1 + head.place) ∷ then.events;
-      last = then.last;
-      alone = Goes_on w then.last (1 + head.place) then.events (ap (λ (z : Option Coordinator). is_some z) open_is) head.first then.alone;
-      closed = then.closed;
-      operation = then.operation;
-      is = then.is;
-      answered = then.answered;
+      events = Delivers (1 + next.0.place) ∷ next.1.events;
+      last = next.1.last;
+      alone = Goes_on w next.1.last (1 + next.0.place) next.1.events (opened_so stage n w s shows) next.0.first next.1.alone;
+      end = ended_from stage n s.c d w next.1.last (Delivers (1 + next.0.place)) same next.1.end;
     }
 
--- the same, by the step that the delivery makes
-pub finishes_by : (stage : Stage) (n : ℕ) (w : World) (s : Scene) (packet : Packet) (rest : List Packet) → (shows : Shows stage n w s)
+-- or where the operation has ended in the next one
+pub ends_by : (stage : Stage) (n : ℕ) (w : World) (s : Scene) (packet : Packet) (rest : List Packet) → (shows : Shows stage n w s)
     → (queue : s.queue ≡ packet ∷ rest) → is_up stage.setting.layout w packet.to ≡ true
     → (step : NodeStep) → received stage.setting packet.to (w.clocks packet.to.0) (w.nodes packet.to.0) packet ≡ step
-    → ((head : IsHead (is_left w n stage.bricks) 1 w.packets packet rest) → Finishes stage n (world_by stage w (1 + head.place) packet step))
-    → Finishes stage n w
-finishes_by stage n w s packet rest shows queue up step step_is then =
-    let head = head_of (is_left w n stage.bricks) 1 w.packets packet rest (shows.queue ∙ queue) in
-    finishes_next stage n w s packet rest shows head
-    (subst (λ (z : World). Finishes stage n z)
-    (sym (delivers_so stage w head.place packet head.stands up
-    ∙ ap (λ (z : NodeStep). world_by stage w (1 + head.place) packet z) step_is))
-    (then head))
+    → ((head : IsHead (is_left w n stage.bricks) 1 w.packets packet rest)
+    → HasEnded stage n s.c w (world_by stage w (1 + head.place) packet step))
+    → Finishes stage n s.c w
+ends_by stage n w s packet rest shows queue up step step_is then =
+    let next = delivered_by (HasEnded stage n s.c w) stage n w s packet rest shows queue up step step_is then in
+    let last : World = happens stage.setting w (Delivers (1 + next.0.place)) in
+    record {
+      events = Delivers (1 + next.0.place) ∷ [];
+      last = last;
+      alone = Goes_on w last (1 + next.0.place) [] (opened_so stage n w s shows) next.0.first (Ended last next.1.closed);
+      end = next.1;
+    }
 
--- a member handles what it is asked
+-- a member handles a request that fits
+pub member_step : (stage : Stage) (w : World) (from : BrickId) (call : Call) (x : Seated) (request : Request) → IsMember stage w call x.brick
+    → seat_in stage.group.members x.brick.0 ≡ Some x.seat → fits_block stage.setting.layout.block stage.group.m x.seat request ≡ true
+    → requested stage.setting x.brick from (w.nodes x.brick.0) call request
+    ≡ reacted x.brick from (w.nodes x.brick.0) call (handle stage.setting.code stage.group.m
+    (full_at stage.setting.layout.records (w.nodes x.brick.0).live) x.seat (replica_at (w.nodes x.brick.0) call) request)
+unfolding requested
+member_step stage w from call x request member seat fits =
+    ap (λ (z : Option Group). requested_in stage.setting x.brick from (w.nodes x.brick.0) call request z) member.group
+    ∙ ap (λ (b : Bool). requested_at stage.setting stage.group.m x.brick from (w.nodes x.brick.0) call request
+    (cond b (fitting_seat stage.setting.layout.block stage.group.m request (seat_in stage.group.members x.brick.0)) None)) member.served
+    ∙ ap (λ (z : Option ℕ). requested_at stage.setting stage.group.m x.brick from (w.nodes x.brick.0) call request
+    (fitting_seat stage.setting.layout.block stage.group.m request z)) seat
+    ∙ ap (λ (b : Bool). requested_at stage.setting stage.group.m x.brick from (w.nodes x.brick.0) call request
+    (cond b (Some x.seat) None)) fits
+
+-- and so what the coordinator asks of it
 pub asked_step : (stage : Stage) (n : ℕ) (w : World) (s : Scene) (x : Seated) → Shows stage n w s → IsSeated stage x → Fits stage s.c x
     → received stage.setting x.brick (w.clocks x.brick.0) (w.nodes x.brick.0) (asking stage s.c x)
     ≡ reacted x.brick stage.me (w.nodes x.brick.0) s.c.call (reaction stage s.c (s.parts x.brick.0) x)
-unfolding received requested
+unfolding received
 asked_step stage n w s x shows seated fits =
-    let member = shows.members x.brick seated.1 in
     let part = shows.parts x.brick seated.1 in
-    ap (λ (z : Option Group). requested_in stage.setting x.brick stage.me (w.nodes x.brick.0) s.c.call (asked_of stage s.c x) z) member.group
-    ∙ ap (λ (b : Bool). requested_at stage.setting stage.group.m x.brick stage.me (w.nodes x.brick.0) s.c.call (asked_of stage s.c x)
-    (cond b (fitting_seat stage.setting.layout.block stage.group.m (asked_of stage s.c x) (seat_in stage.group.members x.brick.0)) None)) member.served
-    ∙ ap (λ (z : Option ℕ). requested_at stage.setting stage.group.m x.brick stage.me (w.nodes x.brick.0) s.c.call (asked_of stage s.c x)
-    (fitting_seat stage.setting.layout.block stage.group.m (asked_of stage s.c x) z)) seated.0
-    ∙ ap (λ (b : Bool). requested_at stage.setting stage.group.m x.brick stage.me (w.nodes x.brick.0) s.c.call (asked_of stage s.c x)
-    (cond b (Some x.seat) None)) fits
+    member_step stage w stage.me s.c.call x (asked_of stage s.c x) (shows.members x.brick seated.1) seated.0 fits
     ∙ ap (λ (l : ℕ). reacted x.brick stage.me (w.nodes x.brick.0) s.c.call (handle stage.setting.code stage.group.m
     (full_at stage.setting.layout.records l) x.seat (replica_at (w.nodes x.brick.0) s.c.call) (asked_of stage s.c x))) part.live
     ∙ ap (λ (r : Replica). reacted x.brick stage.me (w.nodes x.brick.0) s.c.call (handle stage.setting.code stage.group.m
     (full_at stage.setting.layout.records (s.parts x.brick.0).live) x.seat r (asked_of stage s.c x))) part.replica
 
 -- the part that changed
-part_put : (node : Node) (call : Call) (r : Reaction) → replica_at (with_replica node call r) call ≡ r.replica
+pub part_put : (node : Node) (call : Call) (r : Reaction) → replica_at (with_replica node call r) call ≡ r.replica
 part_put node call r =
     ap (λ (f : ℕ → ℕ → Replica). f call.view.0 call.stripe.0)
     (put_same node.replicas call.group.0

@@ -1,9 +1,9 @@
 -- Parts that take what the coordinator asks: they have come to nothing above its stamp, and have room.
-use Rattle.std.proofs.Common.{Bool, List, None, Option, Some, [], ap, arith, cond, false, inl, inr, not, refl, subst, sym, true, ℕ, ⊎_elim, ◌&&◌, ◌++◌, ◌+◌, ◌||◌, ◌∙◌, ◌∷◌, ◌≡◌, ◌≤◌, ◌⊎◌}
-use Rattle.std.proofs.lemmas.Bool.{cond_both, ne_eqb, or_right}
+use Rattle.std.proofs.Common.{Bool, List, None, Option, Some, ap, arith, cond, false, inl, inr, not, refl, subst, sym, true, ℕ, ⊎_elim, ◌&&◌, ◌+◌, ◌∙◌, ◌≡◌, ◌≤◌, ◌⊎◌}
+use Rattle.std.proofs.lemmas.Bool.{cond_both, ne_eqb}
 use Rattle.std.specs.Prelude.{nat_eq, ◌-◌}
 use Rattle.calm_laws.proofs.Scenes.{Part, Stage}
-use Rattle.fab_base.proofs.StampOrder.{stamp_below_asym, stamp_below_irrefl, stamp_not_below_trans, stamp_same_refl}
+use Rattle.fab_base.proofs.StampOrder.{stamp_below_asym, stamp_below_irrefl, stamp_not_below_trans}
 use Rattle.fab_base.specs.Stamps.{first_stamp, stamp_below, stamp_same}
 use Rattle.fab_base.specs.declared.stamps.Stamp.{Stamp}
 use Rattle.messages.specs.declared.replies.Reply.{Reply}
@@ -11,7 +11,7 @@ use Rattle.messages.specs.declared.replies.Reply.TheVariants.{Later, Ordered, Or
 use Rattle.messages.specs.declared.requests.Look.{Look}
 use Rattle.messages.specs.declared.requests.Version.{Version}
 use Rattle.protocol.specs.Nodes.{full_at}
-use Rattle.protocol.specs.Replicas.{Replica, is_held, looked_up, newest_of, order_read, ordered, promised, stamp_max, stays, told_version, top_of, unless_full}
+use Rattle.protocol.specs.Replicas.{Replica, looked_up, newest_of, order_read, ordered, promised, stamp_max, stays, told_version, top_of, unless_full}
 
 -- room for two records; or for one, where the order is there already
 abbrev pub Room : Stage → Part → Type 0
@@ -120,8 +120,3 @@ order_read_accepts t full replica look wanted tame roomy =
     ap (λ (b : Bool). cond b (stays replica (Later (top_of replica)))
     (unless_full full replica (promised replica t (OrderedRead (told_version wanted (looked_up look replica.log)))))) tame
     ∙ ap (λ (z : Option ℕ). unless_full z replica (promised replica t (OrderedRead (told_version wanted (looked_up look replica.log))))) roomy
-
--- a version that was added is held
-pub added_held : (t : Stamp) (block : List ℕ) (log : List Version) → is_held t (log ++ (record { stamp = t; block = block } ∷ [])) ≡ true
-added_held t block [] = ap (λ (b : Bool). b || false) (stamp_same_refl t)
-added_held t block (version ∷ log) = or_right (stamp_same version.stamp t) (is_held t (log ++ (record { stamp = t; block = block } ∷ []))) (added_held t block log)

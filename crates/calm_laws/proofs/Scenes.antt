@@ -1,7 +1,7 @@
 -- An operation alone, seen from its coordinator: a small machine of the coordinator, what its members keep of its stripe, and the queue of its
 -- messages. What it does, the disk does with the operation's messages alone.
-use Rattle.std.proofs.Common.{List, Option, Some, [], refl, subst, sym, true, ℕ, ◌++◌, ◌+◌, ◌∷◌, ◌≡◌}
-use Rattle.std.specs.Prelude.{filter, max, ◌-◌}
+use Rattle.std.proofs.Common.{List, None, Option, Some, [], false, refl, subst, sym, true, ℕ, ◌++◌, ◌+◌, ◌∷◌, ◌≡◌}
+use Rattle.std.specs.Prelude.{filter, max, nat_eq, ◌-◌}
 use Rattle.fab_base.specs.Layouts.{Group, seat_in}
 use Rattle.fab_base.specs.declared.answers.Answer.{Answer}
 use Rattle.fab_base.specs.declared.identities.BrickId.{BrickId}
@@ -11,20 +11,30 @@ use Rattle.messages.specs.declared.packets.Message.{Message}
 use Rattle.messages.specs.declared.packets.Packet.{Packet}
 use Rattle.messages.specs.declared.replies.Reply.{Reply}
 use Rattle.messages.specs.declared.requests.Request.{Request}
+use Rattle.messages.specs.declared.requests.Version.{Version}
 use Rattle.protocol.specs.Calms.{goes_among, is_one_of}
 use Rattle.protocol.specs.Coordinators.{Coordinator, Ends, Ignores, Makes, Next, Sends, Waits, on_reply, request_of}
 use Rattle.protocol.specs.Nodes.{fits_block, fresh_stamp, full_at, known_after, phase_packets, put, reply_packets}
-use Rattle.protocol.specs.Replicas.{Reaction, Replica, handle}
+use Rattle.protocol.specs.Replicas.{Reaction, Replica, handle, newest_of}
 use Rattle.protocol.specs.Settings.{Setting}
+use Rattle.protocol.specs.declared.phases.Phase.{Phase}
 use Rattle.protocol.specs.Worlds.{is_answer}
+use Rattle.protocol_laws.proofs.Outcomes.{IsLook}
 
--- what stays as it is meanwhile: the setting, the bricks that hear one another, the coordinator's brick and its clock, and the group
+-- a member at its seat
+pub record Seated : Type 0 where
+  pub seat : ℕ
+  pub brick : BrickId
+
+-- what stays as it is meanwhile: the setting, the bricks that hear one another, the coordinator's brick and its clock, the group, and the members
+-- whose replies count: the first quorum that hears the coordinator
 pub record Stage : Type 0 where
   pub setting : Setting
   pub bricks : List BrickId
   pub me : BrickId
   pub now : ℕ
   pub group : Group
+  pub quorum : List Seated
 
 -- what a brick keeps of the stripe, and how many live records it keeps in all
 pub record Part : Type 0 where
@@ -38,11 +48,6 @@ pub record Scene : Type 0 where
   pub parts : ℕ → Part
   pub queue : List Packet
 
--- a member at its seat
-pub record Seated : Type 0 where
-  pub seat : ℕ
-  pub brick : BrickId
-
 -- a member that hears the coordinator, at its seat
 abbrev pub IsSeated : Stage → Seated → Type 0
 IsSeated stage x = (seat_in stage.group.members x.brick.0 ≡ Some x.seat) × (is_one_of stage.bricks x.brick ≡ true)
@@ -51,6 +56,21 @@ IsSeated stage x = (seat_in stage.group.members x.brick.0 ≡ Some x.seat) × (i
 abbrev pub Each : {A : Type 0} → (A → Type 0) → List A → Type 0
 Each P [] = Unit {0}
 Each P (x ∷ xs) = P x × Each P xs
+
+-- no two of these members sit at one seat
+abbrev pub AreApart : List Seated → Type 0
+AreApart [] = Unit {0}
+AreApart (x ∷ xs) = Each (λ y. nat_eq x.seat y.seat ≡ false) xs × AreApart xs
+
+-- the newest version of a log is of this stamp
+abbrev pub IsNewest : Stamp → List Version → Type 0
+IsNewest t log = (version : Version) × (newest_of log ≡ Some version) × (version.stamp ≡ t)
+
+-- how an operation is answered that is in this phase, with this stamp: at a look, or with its version the newest at the members whose replies count
+abbrev pub EndsAt : Stage → Phase → Stamp → (ℕ → Part) → Option Stamp → Option Stamp → Type 0
+EndsAt stage phase stamp parts seen None = IsLook phase
+EndsAt stage phase stamp parts None (Some t) = (t ≡ stamp) × Each (λ x. IsNewest t (parts x.brick.0).replica.log) stage.quorum
+EndsAt stage phase stamp parts (Some v) (Some t) = ⊥
 
 -- what a coordinator asks of a member
 abbrev pub asked_of : Stage → Coordinator → Seated → Request
@@ -141,7 +161,7 @@ pub data Closes (stage : Stage) : Scene → Type 0 where
       → decision stage s from call reply ≡ Makes d → SameCall s.c d → Closes stage (made stage (heard s reply rest) d) → Closes stage s
   Answers : (s : Scene) (from : BrickId) (call : Call) (reply : Reply) (rest : List Packet) (answer : Answer) (seen stored : Option Stamp)
       → IsNext stage s from call reply rest → decision stage s from call reply ≡ Ends answer seen stored → is_answer answer ≡ true
-      → Closes stage s
+      → EndsAt stage s.c.phase s.c.stamp s.parts seen stored → Closes stage s
 
 -- what is left to show, where a coordinator decided this
 abbrev pub Outcome : Stage → Scene → Next → Type 0
@@ -149,7 +169,7 @@ Outcome stage s Ignores = Closes stage s
 Outcome stage s (Waits d) = SameCall s.c d × Closes stage (waits s d)
 Outcome stage s (Sends d) = SameCall s.c d × Closes stage (sent stage s d)
 Outcome stage s (Makes d) = SameCall s.c d × Closes stage (made stage s d)
-Outcome stage s (Ends answer seen stored) = is_answer answer ≡ true
+Outcome stage s (Ends answer seen stored) = (is_answer answer ≡ true) × EndsAt stage s.c.phase s.c.stamp s.parts seen stored
 
 -- a reply is heard, and what it decides is carried out
 pub hears : (stage : Stage) (s : Scene) (from : BrickId) (call : Call) (reply : Reply) (rest : List Packet) → IsNext stage s from call reply rest
@@ -161,7 +181,7 @@ hears stage s from call reply rest next outcome = go (decision stage s from call
     go (Waits d) is then = Counts s from call reply rest d next is then.0 then.1
     go (Sends d) is then = Begins s from call reply rest d next is then.0 then.1
     go (Makes d) is then = Creates s from call reply rest d next is then.0 then.1
-    go (Ends answer seen stored) is then = Answers s from call reply rest answer seen stored next is then
+    go (Ends answer seen stored) is then = Answers s from call reply rest answer seen stored next is then.0 then.1
 
 -- a scene with another queue, which is the same
 pub with_queue : (stage : Stage) (s : Scene) (queue : List Packet) → s.queue ≡ queue → Closes stage (record s { queue = queue }) → Closes stage s

@@ -73,7 +73,7 @@ pub record IsMove (stage : Stage) (n : ℕ) (w later : World) (s next : Scene) (
   pub same : SameCall s.c next.c
 
 -- a call of the same operation, in another phase
-call_same_but : (c d : Coordinator) → SameCall c d → d.call ≡ record c.call { phase = d.call.phase }
+pub call_same_but : (c d : Coordinator) → SameCall c d → d.call ≡ record c.call { phase = d.call.phase }
 call_same_but c d same = λ i. record {
   boot = same.boot i;
   seq = same.seq i;
@@ -84,7 +84,7 @@ call_same_but c d same = λ i. record {
 }
 
 -- a member serves it as before
-serves_on : (stage : Stage) (w later : World) (c d : Coordinator) (brick : BrickId) → SameCall c d → later.up ≡ w.up
+pub serves_on : (stage : Stage) (w later : World) (c d : Coordinator) (brick : BrickId) → SameCall c d → later.up ≡ w.up
     → ((i : ℕ) → (later.nodes i).learnt ≡ (w.nodes i).learnt) → ((i : ℕ) → (later.nodes i).accepted ≡ (w.nodes i).accepted)
     → IsMember stage w c.call brick → IsMember stage later d.call brick
 serves_on stage w later c d brick same up learnt accepted member =

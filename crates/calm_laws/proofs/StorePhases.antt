@@ -7,9 +7,9 @@ use Rattle.calm_laws.proofs.Asking.{each_then}
 use Rattle.calm_laws.proofs.Counts.{counted_of}
 use Rattle.calm_laws.proofs.Decided.{asked_in_phase, in_this, modify_decides, none_full, none_refuses, store_decides}
 use Rattle.calm_laws.proofs.PhaseRuns.{Cast, IsOpen}
-use Rattle.calm_laws.proofs.Rooms.{Room, not_full}
-use Rattle.calm_laws.proofs.Scenes.{Closes, Each, Fits, IsSeated, Part, Scene, Seated, Stage, reaction}
-use Rattle.calm_laws.proofs.Storing.{IsStorable, StoresSo, storing_ends}
+use Rattle.calm_laws.proofs.Rooms.{not_full}
+use Rattle.calm_laws.proofs.Scenes.{Closes, Each, Fits, IsNewest, IsSeated, Part, Scene, Seated, Stage, reaction}
+use Rattle.calm_laws.proofs.Storing.{IsStorable, StoresSo, Takes, storing_ends}
 use Rattle.fab_base.proofs.StampOrder.{stamp_same_refl}
 use Rattle.fab_base.specs.Layouts.{Group}
 use Rattle.fab_base.specs.Stamps.{stamp_below, stamp_same}
@@ -94,7 +94,7 @@ write_fits stage c x long = eq-eqb (length (stage.setting.code.encode c.group.m 
 
 -- parts that take version t
 abbrev pub AreTaking : Stage → Stamp → (ℕ → Part) → List Seated → Type 0
-AreTaking stage t parts xs = Each (λ x. (stamp_below t (top_of (parts x.brick.0).replica) ≡ false) × Room stage (parts x.brick.0)) xs
+AreTaking stage t parts xs = Each (λ x. Takes stage t (λ log. Unit {0}) (parts x.brick.0)) xs
 
 -- a store phase ends
 pub store_phase : (stage : Stage) (cast : Cast stage) (s : Scene) → IsOpen stage cast s → s.c.phase ≡ Stores → s.c.call.phase < 2 ^ 32 - 1
@@ -102,9 +102,9 @@ pub store_phase : (stage : Stage) (cast : Cast stage) (s : Scene) → IsOpen sta
 store_phase stage cast s open_is phase early blocks taking =
     storing_ends stage cast s (λ log. Unit {0}) open_is (write_so stage s.c phase) early
     (λ x seated. fits_in_phase stage s.c Stores x phase (write_fits stage s.c x (blocks x seated)))
-    (each_then (λ (x : Seated). (stamp_below s.c.stamp (top_of (s.parts x.brick.0).replica) ≡ false) × Room stage (s.parts x.brick.0))
+    (each_then (λ (x : Seated). Takes stage s.c.stamp (λ log. Unit {0}) (s.parts x.brick.0))
     (λ (x : Seated). IsStorable stage s.c.stamp (λ log. Unit {0}) (s.parts x.brick.0)) cast.xs
-    (λ x h. inl (h.0, h.1, tt)) taking)
+    (λ x h. inl h) taking)
     (each_so (λ (x : Seated). answers_phase stage.setting.layout.block s.c.stamp x.seat s.c.phase Stored ≡ true)
     (λ x. ap (λ (p : Phase). answers_phase stage.setting.layout.block s.c.stamp x.seat p Stored) phase) cast.xs)
     (λ fresh. (
@@ -113,10 +113,6 @@ store_phase stage cast s open_is phase early blocks taking =
       store_decides stage.setting.layout.block stage.setting.code fresh (record s.c { counted = map (counted_of (λ x. Stored)) cast.xs })
           (none_full (λ x. Stored) (λ x. refl) cast.xs) phase (none_refuses (λ x. Stored) (λ x. refl) cast.xs),
     ))
-
--- the newest version of a log is of this stamp
-abbrev pub IsNewest : Stamp → List Version → Type 0
-IsNewest base log = (version : Version) × (newest_of log ≡ Some version) × (version.stamp ≡ base)
 
 -- a change is stored, where it is stored already, or its base is the newest version
 modify_so : (stage : Stage) (c : Coordinator) (base : Stamp) (j : ℕ) → c.phase ≡ Modifies base j → StoresSo stage c (IsNewest base)
@@ -170,9 +166,7 @@ modify_fits stage c base j x group below long =
 
 -- parts that take version t, and have this base
 abbrev pub AreOn : Stage → Stamp → Stamp → (ℕ → Part) → List Seated → Type 0
-AreOn stage t base parts xs =
-    Each (λ x. (stamp_below t (top_of (parts x.brick.0).replica) ≡ false) × Room stage (parts x.brick.0)
-    × IsNewest base (parts x.brick.0).replica.log) xs
+AreOn stage t base parts xs = Each (λ x. Takes stage t (IsNewest base) (parts x.brick.0)) xs
 
 -- a phase that modifies the newest version of all ends
 pub modify_phase : (stage : Stage) (cast : Cast stage) (s : Scene) (base : Stamp) (j : ℕ) → IsOpen stage cast s → s.c.phase ≡ Modifies base j
@@ -181,8 +175,7 @@ pub modify_phase : (stage : Stage) (cast : Cast stage) (s : Scene) (base : Stamp
 modify_phase stage cast s base j open_is phase early below long on =
     storing_ends stage cast s (IsNewest base) open_is (modify_so stage s.c base j phase) early
     (λ x seated. fits_in_phase stage s.c (Modifies base j) x phase (modify_fits stage s.c base j x open_is.group below long))
-    (each_then (λ (x : Seated). (stamp_below s.c.stamp (top_of (s.parts x.brick.0).replica) ≡ false) × Room stage (s.parts x.brick.0)
-    × IsNewest base (s.parts x.brick.0).replica.log)
+    (each_then (λ (x : Seated). Takes stage s.c.stamp (IsNewest base) (s.parts x.brick.0))
     (λ (x : Seated). IsStorable stage s.c.stamp (IsNewest base) (s.parts x.brick.0)) cast.xs
     (λ x h. inl h) on)
     (each_so (λ (x : Seated). answers_phase stage.setting.layout.block s.c.stamp x.seat s.c.phase Stored ≡ true)

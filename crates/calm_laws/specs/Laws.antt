@@ -1,10 +1,17 @@
--- The law that an operation which runs alone is answered.
-use Rattle.std.proofs.Common.{List, None, Some, length, true, ℕ, ◌≡◌, ◌≤◌}
-use Rattle.std.specs.Prelude.{◌^◌}
+-- The laws of an operation that runs alone: it is answered, and its Collects leave one version.
+use Rattle.quorum.specs.Quorums.{quorum_of}
+use Rattle.protocol.specs.Nodes.{replica_at}
+use Rattle.protocol.specs.Coordinators.{Coordinator}
+use Rattle.messages.specs.declared.requests.Request.{Request}
+use Rattle.messages.specs.declared.packets.Message.{Message}
+use Rattle.fab_base.specs.declared.stamps.Stamp.{Stamp}
+use Rattle.fab_base.specs.Layouts.{seat_in}
+use Rattle.std.proofs.Common.{List, None, Some, length, true, ℕ, ◌≡◌, ◌≤◌, [], ◌∷◌}
+use Rattle.std.specs.Prelude.{◌^◌, filter, is_some, map, slice_get}
 use Rattle.fab_base.specs.declared.identities.BrickId.{BrickId}
-use Rattle.protocol.specs.Calms.{IsCalm, RunsAlone, open_call}
+use Rattle.protocol.specs.Calms.{IsCalm, RunsAlone, open_call, is_one_of}
 use Rattle.protocol.specs.Settings.{IsSound, Setting}
-use Rattle.protocol.specs.Worlds.{Event, Operation, World, first_world, run}
+use Rattle.protocol.specs.Worlds.{Event, Operation, World, first_world, run, Delivers, packet_of}
 
 -- An operation is over: it is not open, and it was answered data or that it is done, and not aborted.
 pub record IsOver (w : World) (n : ℕ) : Type 0 where
@@ -34,3 +41,47 @@ CalmOperationsEnd =
     (setting : Setting) (events : List Event) (n : ℕ) (bricks : List BrickId) → IsSound setting → EncodesBlocks setting
     → setting.layout.records ≤ most_records → IsCalm setting (run setting events (first_world setting.layout)) n bricks
     → EndsAlone setting (run setting events (first_world setting.layout)) n bricks
+
+-- the packet of this number is a Collect of version t, which brick me sent to this brick under the call of this coordinator, in some phase
+pub record IsCollect (w : World) (me : BrickId) (c : Coordinator) (t : Stamp) (brick : BrickId) (number : ℕ) : Type 0 where
+  pub phase : ℕ
+  pub is : packet_of w.packets number ≡ Some (record {
+    from = me;
+    to = brick;
+    message = Message.Request (record c.call { phase = phase }) (Request.Collect t);
+  })
+
+-- one of these bricks, a member of the operation's view
+abbrev pub IsMemberAmong : Coordinator → List BrickId → BrickId → Type 0
+IsMemberAmong c bricks brick = (is_one_of bricks brick ≡ true) × (is_some (seat_in c.group.members brick.0) ≡ true)
+
+-- just a quorum of the members of the operation's view are among these bricks
+abbrev pub AreJustQuorum : Coordinator → List BrickId → Type 0
+AreJustQuorum c bricks = length (filter (λ brick. is_some (seat_in c.group.members brick.0)) bricks) ≡ quorum_of c.group
+
+-- the numbers of Collects of version t, in any order and as often as may be: one at least to each member among these bricks
+pub record AreCollects (w : World) (me : BrickId) (c : Coordinator) (t : Stamp) (bricks : List BrickId) (numbers : List ℕ) : Type 0 where
+  pub each : (k number : ℕ) → slice_get numbers k ≡ Some number → (brick : BrickId) × IsCollect w me c t brick number
+  pub all : (brick : BrickId) → IsMemberAmong c bricks brick → (k : ℕ) × (number : ℕ) × (slice_get numbers k ≡ Some number) × IsCollect w me c t brick number
+
+-- a brick's log of the operation's stripe has this one version
+abbrev pub HasOnly : World → Coordinator → Stamp → BrickId → Type 0
+HasOnly w c t brick = (block : List ℕ) × ((replica_at (w.nodes brick.0) c.call).log ≡ record { stamp = t; block = block } ∷ [])
+
+-- A Collect of version t was sent to each member among these bricks; and once such were delivered, to each of them and nothing else, each has only
+-- that version.
+pub record LeavesOne (setting : Setting) (w : World) (me : BrickId) (c : Coordinator) (t : Stamp) (bricks : List BrickId) : Type 0 where
+  pub sent : (brick : BrickId) → IsMemberAmong c bricks brick → (number : ℕ) × IsCollect w me c t brick number
+  pub left : (numbers : List ℕ) → AreCollects w me c t bricks numbers → (brick : BrickId) → IsMemberAmong c bricks brick
+      → HasOnly (run setting (map (λ number. Delivers number) numbers) w) c t brick
+
+-- After every schedule: where an operation ran alone among bricks of which just a quorum are members, and made a version, its Collects leave only that
+-- version at these.
+abbrev pub CollectsLeaveOne : Type 0
+CollectsLeaveOne =
+    (setting : Setting) (events : List Event) (n : ℕ) (bricks : List BrickId) → IsSound setting → EncodesBlocks setting
+    → setting.layout.records ≤ most_records → (calm : IsCalm setting (run setting events (first_world setting.layout)) n bricks)
+    → AreJustQuorum calm.coordinator bricks → (alone : List Event) (last : World)
+    → RunsAlone setting n bricks (run setting events (first_world setting.layout)) alone last → (operation : Operation) (t : Stamp)
+    → last.operations n ≡ Some operation → operation.made ≡ true → operation.version ≡ Some t
+    → LeavesOne setting last calm.operation.brick calm.coordinator t bricks

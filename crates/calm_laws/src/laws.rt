@@ -1,6 +1,6 @@
-//! The law of operations that run alone. The call does nothing: its contract is the law.
+//! The laws of operations that run alone. The calls do nothing: their contracts are the laws.
 
-ghost use Rattle.calm_laws.specs.Laws.{CalmOperationsEnd};
+ghost use Rattle.calm_laws.specs.Laws.{CalmOperationsEnd, CollectsLeaveOne};
 
 /// An operation that runs alone comes to its end, and is answered data or that it is done, and not aborted: whatever had happened before, and
 /// whatever else is open.
@@ -17,4 +17,14 @@ ghost use Rattle.calm_laws.specs.Laws.{CalmOperationsEnd};
 /// one (Frølund et al., "A Decentralized Algorithm for Erasure-Coded Virtual Disks", DSN 2004).
 pub fn calm_operations_end()
     ensures { CalmOperationsEnd }
+{}
+
+/// Where an operation ran alone and made a version, and just a quorum of the members of its view are among these bricks, its Collects leave that
+/// version only: once they were delivered to these members, each handled whole, and nothing else happened meanwhile, each of these members keeps
+/// one version of the stripe in the view, which is the operation's. One was sent to each of them; they may come in any order, and more than once.
+///
+/// Why: the members whose replies count are then all that are among these bricks, and each of them has stored the version, as its newest. A log
+/// ascends, and no stamp stands twice in it: so what is not below its newest version is that version.
+pub fn collects_leave_one()
+    ensures { CollectsLeaveOne }
 {}

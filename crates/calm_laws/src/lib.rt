@@ -1,6 +1,6 @@
-//! The law that an operation which runs alone is answered, and its proof.
+//! The laws of an operation that runs alone, and their proofs: it is answered, and its Collects leave one version.
 #![tactic(auto)]
 
 pub mod laws;
 
-pub use laws::calm_operations_end;
+pub use laws::{calm_operations_end, collects_leave_one};
