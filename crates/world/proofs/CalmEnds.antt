@@ -1,16 +1,26 @@
 -- An operation that has run alone is over.
-use Rattle.std.proofs.Common.{List, ℕ, ◌≡◌, sym, subst}
+use Rattle.std.proofs.Common.{List, [], ◌∷◌, map, ℕ, Bool, true, false, not, ◌≡◌, inl, inr, refl, sym, subst}
+use Rattle.std.specs.Prelude.{if◌then◌else◌}
 use Rattle.fab_base.specs.Layouts.{Layout}
 use Rattle.fab_base.specs.declared.identities.BrickId.{BrickId}
 use Rattle.layout.specs.Limits.{IsLayout}
-use Rattle.protocol.specs.Calms.{IsCalm, RunsAlone}
-use Rattle.protocol.specs.Worlds.{World, Event, run, first_world}
+use Rattle.fab_disk.specs.declared.mem_disk.MemDisk.{MemDisk}
+use Rattle.lines.specs.declared.forms.Line.TheVariants.{Calm}
+use Rattle.protocol.specs.Settings.{Setting}
+use Rattle.protocol.specs.Calms.{IsCalm, RunsAlone, Ended, Stuck, Next}
+use Rattle.protocol.specs.Worlds.{World, Event, Delivers, happens, run, first_world}
 use Rattle.rs_code.proofs.StripeLaws.{length-coded_block}
 use Rattle.stripe_code.specs.Codes.{coding}
 use Rattle.stripe_code.proofs.Soundness.{coding_is_sound}
 use Rattle.calm_laws.specs.Laws.{IsOver}
 use Rattle.calm_laws.proofs.Discharge.{calm_ends}
-use Rattle.world.specs.Shown.{IsReachedBy}
+use Rattle.world.specs.Ledgers.{Notes}
+use Rattle.world.specs.Runs.{brick_of}
+use Rattle.world.specs.Shown.{Shows, Comes, Refused, HasRun, HasBegun, IsReachedBy, disks_of, is_empty}
+use Rattle.world.specs.Texts.{marks_text, new_marks, outcome_text, text_of, line_text}
+use Rattle.world.specs.declared.simulations.Outcome.TheVariants.{Marks, Idle}
+use Rattle.world.specs.declared.simulations.Simulation.{Simulation}
+use Rattle.world.proofs.CalmRuns.{begins_run}
 
 pub over_alone : (layout : Layout) (is : IsLayout layout) (n : ℕ) (bricks : List BrickId) (w last : World) (events : List Event) → IsReachedBy layout w
     → IsCalm (coding layout) w n bricks → RunsAlone (coding layout) n bricks w events last → IsOver last n
@@ -18,3 +28,57 @@ over_alone layout is n bricks w last events (before, reached) calm runs =
     (calm_ends (coding layout) before n bricks (coding_is_sound layout is) (λ m content seat. length-coded_block m layout.block content seat)
     is.few_records (subst (λ (v : World). IsCalm (coding layout) v n bricks) reached calm)).over events last
     (subst (λ (v : World). RunsAlone (coding layout) n bricks v events last) reached runs)
+
+-- it leaves the world after its events
+runs_run : (setting : Setting) (n : ℕ) (bricks : List BrickId) (w last : World) (events : List Event) → RunsAlone setting n bricks w events last
+    → last ≡ run setting events w
+runs_run setting n bricks _ _ _ (Ended w ended) = refl
+runs_run setting n bricks _ _ _ (Stuck w opens none) = refl
+runs_run setting n bricks _ _ _ (Next w last number events opens next more) = runs_run setting n bricks (happens setting w (Delivers number)) last events more
+
+-- its line prints the marks that were made, or that there was nothing to do
+prints_marks : (setting : Setting) (w v : World) (n : ℕ) (numbers : List ℕ) (events : List Event) (some : Bool) → some ≡ not (is_empty events)
+    → text_of setting w events ≡ marks_text (new_marks w v)
+    → outcome_text (if some then Marks else Idle) (new_marks w v) ≡ line_text setting w (Calm n numbers) events
+prints_marks setting w v n numbers [] true is prints = absurd (let never : true ≡ false = is in cc)
+prints_marks setting w v n numbers [] false is prints = refl
+prints_marks setting w v n numbers (event ∷ events) true is prints = sym prints
+prints_marks setting w v n numbers (event ∷ events) false is prints = absurd (let never : false ≡ true = is in cc)
+
+-- the line of an operation that has run alone
+pub run_comes : (layout : Layout) (is : IsLayout layout) (w : World) (n : ℕ) (numbers : List ℕ) (disks : List MemDisk) (state : Simulation) (some : Bool)
+    → IsReachedBy layout w → IsCalm (coding layout) w n (map brick_of numbers) → HasRun layout w n (map brick_of numbers) disks state some
+    → Comes layout w disks state (Calm n numbers) (if some then Marks else Idle)
+run_comes layout is w n numbers disks state some reached calm has =
+    let after : has.last ≡ run (coding layout) has.events w = runs_run (coding layout) n (map brick_of numbers) w has.last has.events has.runs in (
+      has.events,
+      record {
+        are = inl (record {
+          calm = calm;
+          last = has.last;
+          runs = has.runs;
+          over = over_alone layout is n (map brick_of numbers) w has.last has.events reached calm has.runs;
+        });
+        shows = subst (λ (v : World). Shows layout state v) after has.shows;
+        prints =
+            prints_marks (coding layout) w (run (coding layout) has.events w) n numbers has.events some has.some_is
+            (subst (λ (v : World). text_of (coding layout) w has.events ≡ marks_text (new_marks w v)) after has.prints);
+        kept = has.kept;
+      },
+      subst (λ (v : World). Notes state.ledger v) after has.notes,
+    )
+
+-- no memory was left for an operation to run alone to its end
+pub begun_refused : (layout : Layout) (w : World) (old new : Simulation) (n : ℕ) (numbers : List ℕ) → IsCalm (coding layout) w n (map brick_of numbers)
+    → HasBegun layout w n (map brick_of numbers) (disks_of old.bricks.items) new → Refused layout w old new (Calm n numbers)
+begun_refused layout w old new n numbers calm has =
+    let after : has.last ≡ run (coding layout) has.events w = begins_run (coding layout) n (map brick_of numbers) w has.last has.events has.begins in
+    inr (
+      has.events,
+      record {
+        are = record { calm = calm; last = has.last; begins = has.begins };
+        shows = subst (λ (v : World). Shows layout new v) after has.shows;
+        kept = has.kept;
+      },
+      λ _. subst (λ (v : World). Notes new.ledger v) after has.notes,
+    )

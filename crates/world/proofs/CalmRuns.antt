@@ -128,7 +128,7 @@ module _ (w : World) (n : ℕ) (o : Operation) (says : NumbersSay w) (knows : Kn
   -- a message is left as the ledger tells
   module _ (ledger : Ledger) (origin : Origin) (numbers : List ℕ) (notes : Notes ledger w)
       (brick : origin.brick ≡ o.brick) (boot : origin.boot ≡ o.boot) (seq : origin.seq ≡ o.seq) where
-    left_as : (k : ℕ) (packet : Packet)
+    pub left_as : (k : ℕ) (packet : Packet)
         → is_left w n (map brick_of numbers) (k + 1) packet ≡ is_left_at ledger.reached.items origin numbers k packet
     left_as k packet =
         ap (λ (b : Bool). b && (not (w.reached (k + 1)) && goes_among (map brick_of numbers) packet)) (of_operation packet ∙ sym its)

@@ -190,12 +190,12 @@ EndsOrigins w brick old new (one ∷ answers) =
     ≡ cond (nat_eq (n + 1) (number_of w brick.0 one.seq)) (option_map ended_origin (slice_get old n)) (slice_get old n))
 
 -- what is told and answered changes nothing that is noted
-told_reached : (setting : Setting) (w : World) (brick : BrickId) (told : List Told) → (world_tells setting w brick told).reached ≡ w.reached
+pub told_reached : (setting : Setting) (w : World) (brick : BrickId) (told : List Told) → (world_tells setting w brick told).reached ≡ w.reached
 told_reached setting w brick [] = refl
 told_reached setting w brick (Made seq t base ∷ more) = told_reached setting (world_told setting w brick (Made seq t base)) brick more
 told_reached setting w brick (Seen seq v ∷ more) = told_reached setting (world_told setting w brick (Seen seq v)) brick more
 
-answers_reached : (w : World) (brick : BrickId) (answers : List Answered) → (world_answers w brick answers).reached ≡ w.reached
+pub answers_reached : (w : World) (brick : BrickId) (answers : List Answered) → (world_answers w brick answers).reached ≡ w.reached
 answers_reached w brick [] = refl
 answers_reached w brick (one ∷ more) = answers_reached (world_answered w brick one) brick more
 

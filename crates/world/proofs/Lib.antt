@@ -22,4 +22,5 @@ pub mod LedgerLemmas
 pub mod LedgerLists
 pub mod CalmLemmas
 pub mod CalmRuns
+pub mod CalmLoops
 pub mod CalmEnds

@@ -25,7 +25,7 @@ use Rattle.protocol.specs.Settings.{Setting}
 use Rattle.protocol.specs.Worlds.{Event}
 use Rattle.world.specs.Runs.{brick_of}
 use Rattle.world.specs.Faults.{HoldsOne, IsEventsOf, IsStartOf, IsLeft, IsLeftOpening, IsReached, IsReachedOpening, Finds, plan_of, found_of, delivery_calls}
-use Rattle.world.specs.Disks.{ShowsDisk, KeepsOthers, KeepsDisks}
+use Rattle.world.specs.Disks.{ShowsDisk, KeepsOthers, KeepsDisks, LeavesContents}
 use Rattle.lines.specs.declared.forms.Fault.{Fault}
 use Rattle.lines.specs.declared.forms.Line.{Line}
 use Rattle.lines.specs.declared.forms.Line.TheVariants.{Calm}
@@ -38,7 +38,7 @@ use Rattle.world.specs.Calms.{BeginsCalm, BeginsAlone}
 use Rattle.world.specs.Ledgers.{Notes, origin_at}
 use Rattle.world.specs.declared.ledgers.Ledger.{Ledger}
 use Rattle.world.specs.declared.ledgers.Origin.{Origin}
-use Rattle.world.specs.Texts.{outcome_of, outcome_text, new_marks, line_text}
+use Rattle.world.specs.Texts.{outcome_of, outcome_text, new_marks, marks_text, line_text, text_of}
 use Rattle.world.specs.declared.simulations.Outcome.{Outcome}
 use Rattle.world.specs.declared.simulations.Outcome.TheVariants.{Marks, Idle}
 use Rattle.world.specs.declared.histories.History.{History}
@@ -329,7 +329,7 @@ NotesOn layout w old events new = Notes old w → Notes new (run (coding layout)
 pub record StopsAt (layout : Layout) (w : World) (disks : List MemDisk) (state : Simulation) (line : Line) (events : List Event) : Type 0 where
   pub are : IsBegunBy layout w line events
   pub shows : Shows layout state (run (coding layout) events w)
-  pub kept : KeepsDisks (coding layout) w events disks (disks_of state.bricks.items)
+  pub kept : LeavesContents (coding layout) w events disks (disks_of state.bricks.items)
 
 pub record StaysAt (layout : Layout) (w : World) (disks : List MemDisk) (state : Simulation) : Type 0 where
   pub shows : Shows layout state w
@@ -385,6 +385,7 @@ pub record HasRun (layout : Layout) (w : World) (n : ℕ) (bricks : List BrickId
   pub events : List Event
   pub some_is : some ≡ not (is_empty events)
   pub last : World
+  pub prints : text_of (coding layout) w events ≡ marks_text (new_marks w last)
   pub runs : RunsAlone (coding layout) n bricks w events last
   pub shows : Shows layout state last
   pub notes : Notes state.ledger last
@@ -397,4 +398,4 @@ pub record HasBegun (layout : Layout) (w : World) (n : ℕ) (bricks : List Brick
   pub begins : BeginsAlone (coding layout) n bricks w events last
   pub shows : Shows layout state last
   pub notes : Notes state.ledger last
-  pub kept : KeepsDisks (coding layout) w events disks (disks_of state.bricks.items)
+  pub kept : LeavesContents (coding layout) w events disks (disks_of state.bricks.items)

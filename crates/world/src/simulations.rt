@@ -343,6 +343,8 @@ impl Simulation {
         if !self.is_calm(layout, operation, bricks) {
             return Ok(Outcome::Idle);
         }
+        // It tells that the layout is within its limits.
+        let _ = layout.bricks();
         if self.run_alone(alloc, layout, operation, bricks)? {
             Ok(Outcome::Marks)
         } else {

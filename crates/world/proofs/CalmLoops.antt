@@ -1,0 +1,421 @@
+-- The deliveries that an operation makes alone, one after another, as a state shows them.
+use Rattle.std.proofs.Common.{◌≡◌, ◌≢◌, ℕ, zero, suc, ◌+◌, ◌<◌, ◌≤◌, Bool, true, false, not, cond, nat_eq, ◌&&◌, ◌||◌, ◌⊎◌, inl, inr, ⊎_elim, List, [], ◌∷◌, ◌++◌, length, drop, append-nil, append_assoc, map, get_or, Option, Some, None, is_some, refl, sym, ap, ◌∙◌, subst, arith}
+use Rattle.std.specs.Prelude.{slice_get}
+use Rattle.std.proofs.lemmas.Bool.{and_parts, eqb-true, eqb-false, eq-eqb, cases_lt}
+use Rattle.std.proofs.lemmas.Bool.Decides.{nat_tests}
+use Rattle.std.proofs.Math.Seq.{drop-append_seam}
+use Rattle.std.proofs.lemmas.List.{get_or_append_left, length-append}
+use Rattle.std.proofs.lemmas.Option.{same_Some, slice_get_within, slice_get-get_or}
+use Rattle.fab_base.specs.Layouts.{Layout}
+use Rattle.fab_base.specs.declared.identities.BrickId.{BrickId}
+use Rattle.fab_disk.specs.MemDisk.{content_of}
+use Rattle.fab_disk.specs.declared.mem_disk.MemDisk.{MemDisk}
+use Rattle.lines.specs.declared.forms.Line.TheVariants.{Deliver}
+use Rattle.messages.specs.declared.packets.Message.{Message}
+use Rattle.messages.specs.declared.packets.Packet.{Packet}
+use Rattle.messages.specs.declared.requests.Request.{Request}
+use Rattle.stripe_code.specs.Codes.{coding}
+use Rattle.protocol.specs.Settings.{Setting}
+use Rattle.protocol.specs.declared.tellings.Answered.{Answered}
+use Rattle.protocol.specs.declared.tellings.Told.{Told}
+use Rattle.protocol.specs.declared.tellings.Told.TheVariants.{Made, Seen}
+use Rattle.protocol.specs.Coordinators.{Coordinator}
+use Rattle.protocol.specs.Nodes.{NodeStep, put, received}
+use Rattle.protocol.specs.Worlds.{World, Operation, Event, Delivers, is_brick, is_up, number_of, packet_of, replies_with, world_told, world_tells, world_answered, world_answers, world_stepped, first_world, happens, run}
+use Rattle.reg_model.specs.declared.marks.Mark.{Mark}
+use Rattle.reg_model.specs.declared.marks.Mark.TheVariants.{End}
+use Rattle.protocol.specs.Calms.{IsCalm, open_at, open_call, operation_of, is_one_of, goes_among, is_left, next_delivery}
+use Rattle.world.specs.Calms.{BeginsAlone}
+use Rattle.world.specs.Calms as begun
+use Rattle.world.specs.Disks.{KeepsDisks, LeavesContents}
+use Rattle.world.specs.Faults.{IsDeliveryOf, StopsMidway, IsDelivered}
+use Rattle.world.specs.Ledgers.{Notes, NotesOrigin, NoneLeft, FindsLeft, is_left_at}
+use Rattle.world.specs.Runs.{brick_of}
+use Rattle.world.specs.Shown.{Shows, Comes, HasRun, HasBegun, IsReachedBy, OpensAs, disks_of, is_empty}
+use Rattle.world.specs.Texts.{marks_if, is_deliverable, mark_text, marks_text, new_marks, outcome_text, event_text, text_of}
+use Rattle.world.specs.declared.ledgers.Origin.{Origin}
+use Rattle.world.specs.declared.simulations.Outcome.{Outcome}
+use Rattle.world.specs.declared.simulations.Simulation.{Simulation}
+use Rattle.world.proofs.CallNumbers.{NumbersSay, AreOfBricks, deliver_same, of_bricks}
+use Rattle.world.proofs.CalmLemmas.{noted_at}
+use Rattle.world.proofs.CalmRuns.{begins_more, begins_run, runs_ended, runs_stuck, keeps_more, left_as, next_found, next_none}
+use Rattle.world.proofs.LedgerLemmas.{KnowsCalls, told_reached, answers_reached}
+use Rattle.world.proofs.MachineBegins.{after_message, happens_handled}
+use Rattle.world.proofs.RunLaws.{reached_numbers, reached_knows}
+use Rattle.world.proofs.RunLemmas.{run-append}
+
+-- what is told and answered stops no brick
+told_up : (setting : Setting) (w : World) (brick : BrickId) (told : List Told) → (world_tells setting w brick told).up ≡ w.up
+told_up setting w brick [] = refl
+told_up setting w brick (Made seq t base ∷ more) = told_up setting (world_told setting w brick (Made seq t base)) brick more
+told_up setting w brick (Seen seq v ∷ more) = told_up setting (world_told setting w brick (Seen seq v)) brick more
+
+answers_up : (w : World) (brick : BrickId) (answers : List Answered) → (world_answers w brick answers).up ≡ w.up
+answers_up w brick [] = refl
+answers_up w brick (one ∷ more) = answers_up (world_answered w brick one) brick more
+
+-- what is told makes no mark, and what is answered adds some
+told_marks : (setting : Setting) (w : World) (brick : BrickId) (told : List Told) → (world_tells setting w brick told).marks ≡ w.marks
+told_marks setting w brick [] = refl
+told_marks setting w brick (Made seq t base ∷ more) = told_marks setting (world_told setting w brick (Made seq t base)) brick more
+told_marks setting w brick (Seen seq v ∷ more) = told_marks setting (world_told setting w brick (Seen seq v)) brick more
+
+answers_marks : (w : World) (brick : BrickId) (answers : List Answered) → (made : List Mark) × ((world_answers w brick answers).marks ≡ w.marks ++ made)
+answers_marks w brick [] = ([], sym (append-nil w.marks))
+answers_marks w brick (one ∷ more) =
+    let (made, are) = answers_marks (world_answered w brick one) brick more in
+    let mark : Mark = End (length w.marks) (number_of w brick.0 one.seq) one.answer in
+    (mark ∷ made, are ∙ append_assoc w.marks (mark ∷ []) made)
+
+-- the text of marks, and of events, one list behind another
+marks_text-append : (marks more : List Mark) → marks_text (marks ++ more) ≡ marks_text marks ++ marks_text more
+marks_text-append [] more = refl
+marks_text-append (mark ∷ marks) more =
+    ap (λ (text : List ℕ). mark_text mark ++ text) (marks_text-append marks more) ∙ sym (append_assoc (mark_text mark) (marks_text marks) (marks_text more))
+
+text_of-more : (setting : Setting) (w : World) (events : List Event) (event : Event)
+    → text_of setting w (events ++ event ∷ []) ≡ text_of setting w events ++ event_text setting (run setting events w) event
+text_of-more setting w [] event = append-nil (event_text setting w event)
+text_of-more setting w (first ∷ events) event =
+    ap (λ (text : List ℕ). event_text setting w first ++ text) (text_of-more setting (happens setting w first) events event)
+    ∙ sym (append_assoc (event_text setting w first) (text_of setting (happens setting w first) events) _)
+
+-- a delivery to a brick that is up: no brick stops, the message was delivered, and messages are added
+module _ (setting : Setting) (w : World) (number : ℕ) (packet : Packet) (sent : packet_of w.packets number ≡ Some packet)
+    (up : is_up setting.layout w packet.to ≡ true) where
+  abbrev step : NodeStep
+  step = received setting packet.to (w.clocks packet.to.0) (w.nodes packet.to.0) packet
+
+  abbrev marked : World
+  marked = record w { replies = replies_with setting w packet; reached = put w.reached number true }
+
+  after_is : happens setting w (Delivers number) ≡ after_message setting w number packet
+  after_is = happens_handled setting w number packet sent up
+
+  reached_after : (k : ℕ) → (happens setting w (Delivers number)).reached k ≡ put w.reached number true k
+  reached_after k =
+      ap (λ (v : World). v.reached k) after_is
+      ∙ ap (λ (f : ℕ → Bool). f k)
+      (answers_reached (world_tells setting marked packet.to step.told) packet.to step.answers ∙ told_reached setting marked packet.to step.told)
+
+  up_after : (happens setting w (Delivers number)).up ≡ w.up
+  up_after =
+      ap (λ (v : World). v.up) after_is
+      ∙ (answers_up (world_tells setting marked packet.to step.told) packet.to step.answers ∙ told_up setting marked packet.to step.told)
+
+  marks_after : (made : List Mark) × ((happens setting w (Delivers number)).marks ≡ w.marks ++ made)
+  marks_after =
+      let (made, are) = answers_marks (world_tells setting marked packet.to step.told) packet.to step.answers in
+      (made, ap (λ (v : World). v.marks) after_is ∙ are ∙ ap (λ (l : List Mark). l ++ made) (told_marks setting marked packet.to step.told))
+
+  text_after : event_text setting w (Delivers number) ≡ marks_text marks_after.0
+  text_after =
+      ap (λ (o : Outcome). outcome_text o (new_marks w (happens setting w (Delivers number))))
+      (ap (λ (p : Option Packet). marks_if (is_deliverable setting w p)) sent ∙ ap marks_if up)
+      ∙ ap marks_text (ap (drop (length w.marks)) marks_after.1 ∙ drop-append_seam w.marks marks_after.0)
+
+  packets_after : (happens setting w (Delivers number)).packets ≡ w.packets ++ step.packets
+  packets_after = ap (λ (v : World). v.packets) after_is
+
+-- the operation of a message goes by the numbers of calls
+same_operation : (w v : World) → v.numbers ≡ w.numbers → (packet : Packet) → operation_of v packet ≡ operation_of w packet
+same_operation w v same packet = by_message packet.from packet.to packet.message
+  where
+    by_message : (from to : BrickId) (message : Message)
+        → operation_of v (record { from = from; to = to; message = message }) ≡ operation_of w (record { from = from; to = to; message = message })
+    by_message from to (Message.Request call request) = ap (λ (f : ℕ → ℕ → ℕ → ℕ). f from.0 call.boot call.seq) same
+    by_message from to (Message.Reply call reply) = ap (λ (f : ℕ → ℕ → ℕ → ℕ). f to.0 call.boot call.seq) same
+    by_message from to message = refl
+
+-- none of the messages before this place is left
+abbrev pub SeenTo : World → ℕ → List BrickId → ℕ → Type 0
+SeenTo v n bricks place = (k : ℕ) (packet : Packet) → k < place → slice_get v.packets k ≡ Some packet → is_left v n bricks (k + 1) packet ≡ false
+
+-- what stands before a list that is added stays
+append_get : {A : Type 0} (xs ys : List A) (k : ℕ) (x : A) → k < length xs → slice_get (xs ++ ys) k ≡ Some x → slice_get xs k ≡ Some x
+append_get xs ys k x within at =
+    slice_get-get_or xs k x within ∙ ap Some (sym (get_or_append_left xs ys x k within))
+    ∙ sym (slice_get-get_or (xs ++ ys) k x (omega (arith, within, length-append xs ys))) ∙ at
+
+-- the first message that was left is left no more, and none before it is
+seen_after : (setting : Setting) (w : World) (n : ℕ) (bricks : List BrickId) (place : ℕ) (packet : Packet) → slice_get w.packets place ≡ Some packet
+    → is_up setting.layout w packet.to ≡ true → SeenTo w n bricks place → SeenTo (happens setting w (Delivers (place + 1))) n bricks (place + 1)
+seen_after setting w n bricks place packet at up seen k one less is = by_place (nat_eq k place) refl
+  where
+    number : place + 1 ≡ suc place
+    number = omega arith
+
+    sent : packet_of w.packets (place + 1) ≡ Some packet
+    sent = ap (packet_of w.packets) number ∙ at
+
+    v : World
+    v = happens setting w (Delivers (place + 1))
+
+    was : slice_get w.packets k ≡ Some one
+    was =
+        append_get w.packets (step setting w (place + 1) packet sent up).packets k one (omega (arith, less, slice_get_within w.packets place packet at))
+        (ap (λ (l : List Packet). slice_get l k) (sym (packets_after setting w (place + 1) packet sent up)) ∙ is)
+
+    its : operation_of v one ≡ operation_of w one
+    its = same_operation w v (deliver_same setting w (place + 1)).numbers one
+
+    no_more : (a b : Bool) → a && (not true && b) ≡ false
+    no_more true b = refl
+    no_more false b = refl
+
+    by_place : (b : Bool) → nat_eq k place ≡ b → is_left v n bricks (k + 1) one ≡ false
+    by_place true same =
+        let here : nat_eq (k + 1) (place + 1) ≡ true = eq-eqb (k + 1) (place + 1) (ap (λ (i : ℕ). i + 1) (eqb-true k place same)) in
+        ap (λ (b : Bool). nat_eq (operation_of v one) n && (not b && goes_among bricks one))
+        (reached_after setting w (place + 1) packet sent up (k + 1) ∙ ap (λ (b : Bool). cond b true (w.reached (k + 1))) here)
+        ∙ no_more (nat_eq (operation_of v one) n) (goes_among bricks one)
+    by_place false other =
+        let apart : k ≢ place = eqb-false k place other in
+        let there : nat_eq (k + 1) (place + 1) ≡ false = (let e : nat_eq k place ≡ false = other in grind (arith, nat_tests)) in
+        ap (λ (b : Bool). nat_eq (operation_of v one) n && (not b && goes_among bricks one))
+        (reached_after setting w (place + 1) packet sent up (k + 1) ∙ ap (λ (b : Bool). cond b true (w.reached (k + 1))) there)
+        ∙ ap (λ (m : ℕ). nat_eq m n && (not (w.reached (k + 1)) && goes_among bricks one)) its
+        ∙ seen k one (omega (arith, less, apart)) was
+
+-- the brick of an open operation is up
+open_up : (w : World) (n : ℕ) (o : Operation) → is_some (open_call w n) ≡ true → w.operations n ≡ Some o → w.up o.brick.0 ≡ true
+open_up w n o opens is = by_up (w.up o.brick.0) refl
+  where
+    by_up : (b : Bool) → w.up o.brick.0 ≡ b → w.up o.brick.0 ≡ true
+    by_up true up = up
+    by_up false down =
+        (let never : false ≡ true =
+        ap (λ (b : Bool). is_some (cond (b && nat_eq (w.nodes o.brick.0).boot o.boot) ((w.nodes o.brick.0).calls o.seq) None)) (sym down)
+        ∙ ap (λ (found : Option Operation). is_some (open_at w found)) (sym is) ∙ opens in absurd cc)
+
+-- one of these bricks is up, where each is
+among_up : (layout : Layout) (w : World) (bricks : List BrickId) → ((k : ℕ) (brick : BrickId) → slice_get bricks k ≡ Some brick → is_up layout w brick ≡ true)
+    → (to : BrickId) → is_one_of bricks to ≡ true → is_up layout w to ≡ true
+among_up layout w [] ups to some = absurd (let never : false ≡ true = some in cc)
+among_up layout w (one ∷ bricks) ups to some =
+    by_first (nat_eq one.0 to.0) refl (among_up layout w bricks (λ k brick at. ups (suc k) brick at) to)
+  where
+    by_first : (b : Bool) → nat_eq one.0 to.0 ≡ b → (is_one_of bricks to ≡ true → is_up layout w to ≡ true) → is_up layout w to ≡ true
+    by_first true same more = subst (λ (i : ℕ). is_up layout w (brick_of i) ≡ true) (eqb-true one.0 to.0 same) (ups 0 one refl)
+    by_first false other more = more (ap (λ (b : Bool). b || is_one_of bricks to) (sym other) ∙ some)
+
+-- a message that is left is for a brick that is up
+receiver_up : (layout : Layout) (w : World) (n : ℕ) (bricks : List BrickId) (packet : Packet) → NumbersSay w → AreOfBricks layout w → n ≢ 0
+    → is_some (open_call w n) ≡ true → ((k : ℕ) (brick : BrickId) → slice_get bricks k ≡ Some brick → is_up layout w brick ≡ true)
+    → operation_of w packet ≡ n → goes_among bricks packet ≡ true → is_up layout w packet.to ≡ true
+receiver_up layout w n bricks packet says of_brick some opens ups = by_message packet.from packet.to packet.message
+  where
+    by_message : (from to : BrickId) (message : Message) → operation_of w (record { from = from; to = to; message = message }) ≡ n
+        → goes_among bricks (record { from = from; to = to; message = message }) ≡ true → is_up layout w to ≡ true
+    by_message from to (Message.Request call (Request.Collect t)) its goes = absurd (let never : false ≡ true = goes in cc)
+    by_message from to (Message.Request call request) its goes = among_up layout w bricks ups to goes
+    by_message from to (Message.Reply call reply) its goes =
+        let found = says to.0 call.boot call.seq (λ none. some (sym its ∙ none)) in
+        let is : w.operations n ≡ Some found.1.0 = ap w.operations (sym its) ∙ found.1.1 in
+        let up : w.up found.1.0.brick.0 ≡ true = open_up w n found.1.0 opens is in
+        let there : is_up layout w found.1.0.brick ≡ true = ap (λ (b : Bool). b && w.up found.1.0.brick.0) (of_brick n found.1.0 is) ∙ up in
+        subst (λ (i : ℕ). is_up layout w (brick_of i) ≡ true) found.1.2.0 there
+    by_message from to message its goes = absurd (let never : false ≡ true = goes in cc)
+
+-- a schedule reaches the state's world
+abbrev pub Stands : Layout → Simulation → Type 0
+Stands layout state = (w : World) × IsReachedBy layout w × Shows layout state w × Notes state.ledger w
+
+-- so it does after a line
+pub stands_on : (layout : Layout) (w : World) (disks : List MemDisk) (state : Simulation) (line : _) (outcome : Outcome) → IsReachedBy layout w
+    → Comes layout w disks state line outcome → Stands layout state
+stands_on layout w disks state line outcome (before, is) (events, comes, notes) = (
+  run (coding layout) events w,
+  (before ++ events, ap (run (coding layout) events) is ∙ sym (run-append (coding layout) (first_world layout) before events)),
+  comes.shows,
+  notes,
+)
+
+-- The deliveries so far were made alone, and none of the messages that were looked at is left.
+pub record SoFar (layout : Layout) (w : World) (n : ℕ) (numbers : List ℕ) (disks : List MemDisk) (state : Simulation) (from : ℕ) (some : Bool) : Type 0 where
+  pub events : List Event
+  pub last : World
+  pub begins : BeginsAlone (coding layout) n (map brick_of numbers) w events last
+  pub reached : IsReachedBy layout last
+  pub shows : Shows layout state last
+  pub notes : Notes state.ledger last
+  pub kept : KeepsDisks (coding layout) w events disks (disks_of state.bricks.items)
+  pub some_is : some ≡ not (is_empty events)
+  pub made : List Mark
+  pub marks : last.marks ≡ w.marks ++ made
+  pub prints : text_of (coding layout) w events ≡ marks_text made
+  pub up : last.up ≡ w.up
+  pub seen : SeenTo last n (map brick_of numbers) from
+
+-- an event more is some
+some_more : (events : List Event) (event : Event) → true ≡ not (is_empty (events ++ event ∷ []))
+some_more [] event = refl
+some_more (first ∷ events) event = refl
+
+-- there is none at first
+pub none_yet : (layout : Layout) (w : World) (n : ℕ) (numbers : List ℕ) (state : Simulation) → IsReachedBy layout w → Shows layout state w
+    → Notes state.ledger w → SoFar layout w n numbers (disks_of state.bricks.items) state 0 false
+none_yet layout w n numbers state reached shows notes = record {
+  events = [];
+  last = w;
+  begins = begun.Here w;
+  reached = reached;
+  shows = shows;
+  notes = notes;
+  kept = refl;
+  some_is = refl;
+  made = [];
+  marks = sym (append-nil w.marks);
+  prints = refl;
+  up = refl;
+  seen = λ k packet less at. absurd (omega arith);
+}
+
+module _ (layout : Layout) (w : World) (n : ℕ) (numbers : List ℕ) (disks : List MemDisk) (state : Simulation) (from : ℕ) (some : Bool)
+    (calm : IsCalm (coding layout) w n (map brick_of numbers)) (so : SoFar layout w n numbers disks state from some) where
+  abbrev bricks : List BrickId
+  bricks = map brick_of numbers
+
+  prints_new : text_of (coding layout) w so.events ≡ marks_text (new_marks w so.last)
+  prints_new = so.prints ∙ ap marks_text (sym (ap (drop (length w.marks)) so.marks ∙ drop-append_seam w.marks so.made))
+
+  -- the operation has ended
+  pub has_ended : OpensAs state so.last n None → HasRun layout w n bricks disks state some
+  has_ended ended = record {
+    events = so.events;
+    some_is = so.some_is;
+    prints = prints_new;
+    last = so.last;
+    runs = runs_ended (coding layout) n bricks w so.last so.events so.begins ended;
+    shows = so.shows;
+    notes = so.notes;
+    kept = so.kept;
+  }
+
+  -- it is open, and began there
+  module _ (origin : Origin) (opens : OpensAs state so.last n (Some origin)) where
+    noted : (o : Operation) × (so.last.operations n ≡ Some o) × NotesOrigin so.last origin o × (n ≢ 0)
+    noted = noted_at so.last state.ledger n origin so.notes opens.1
+
+    says : NumbersSay so.last
+    says = reached_numbers layout so.last so.reached
+
+    knows : KnowsCalls so.last
+    knows = reached_knows layout so.last so.reached
+
+    -- what is left is what the ledger tells
+    left_is : (k : ℕ) (packet : Packet) → is_left so.last n bricks (k + 1) packet ≡ is_left_at state.ledger.reached.items origin numbers k packet
+    left_is =
+        left_as so.last n noted.0 says knows noted.3 noted.1 state.ledger origin numbers so.notes noted.2.brick noted.2.boot noted.2.seq
+
+    none_before : NoneLeft state.ledger.reached.items origin numbers so.last.packets 0 from
+    none_before k packet least less at = sym (left_is k packet) ∙ so.seen k packet less at
+
+    -- none of its messages is left
+    pub has_stuck : FindsLeft state.ledger.reached.items origin numbers from so.last.packets None → HasRun layout w n bricks disks state some
+    has_stuck none = record {
+      events = so.events;
+      some_is = so.some_is;
+      prints = prints_new;
+      last = so.last;
+      runs =
+          runs_stuck (coding layout) n bricks w so.last so.events so.begins opens.0
+          (next_none so.last n noted.0 says knows noted.3 noted.1 state.ledger origin numbers so.notes noted.2.brick noted.2.boot noted.2.seq from
+          none_before none);
+      shows = so.shows;
+      notes = so.notes;
+      kept = so.kept;
+    }
+
+    -- one is, and is delivered
+    pub goes_on : (place : ℕ) (next : Simulation) (outcome : Outcome) → FindsLeft state.ledger.reached.items origin numbers from so.last.packets (Some place)
+        → Comes layout so.last (disks_of state.bricks.items) next (Deliver (place + 1) None) outcome
+        → SoFar layout w n numbers disks next (place + 1) true
+    goes_on place next outcome found (events, comes, notes) = record {
+      events = so.events ++ Delivers (place + 1) ∷ [];
+      last = happens (coding layout) so.last (Delivers (place + 1));
+      begins = begins_more (coding layout) n bricks w so.last so.events (place + 1) so.begins opens.0 its_next;
+      reached = (so.reached.0 ++ Delivers (place + 1) ∷ [], reached_is);
+      shows = subst (λ (l : List Event). Shows layout next (run (coding layout) l so.last)) one comes.shows;
+      notes = subst (λ (l : List Event). Notes next.ledger (run (coding layout) l so.last)) one notes;
+      kept =
+          keeps_more (coding layout) w so.events (Delivers (place + 1) ∷ []) disks (disks_of state.bricks.items) (disks_of next.bricks.items) so.kept
+          (subst (λ (v : World). KeepsDisks (coding layout) v (Delivers (place + 1) ∷ []) (disks_of state.bricks.items) (disks_of next.bricks.items))
+          (begins_run (coding layout) n bricks w so.last so.events so.begins)
+          (subst (λ (l : List Event). KeepsDisks (coding layout) so.last l (disks_of state.bricks.items) (disks_of next.bricks.items)) one comes.kept));
+      some_is = some_more so.events (Delivers (place + 1));
+      made = so.made ++ (marks_after (coding layout) so.last (place + 1) packet sent up).0;
+      marks =
+          (marks_after (coding layout) so.last (place + 1) packet sent up).1
+          ∙ ap (λ (l : List Mark). l ++ (marks_after (coding layout) so.last (place + 1) packet sent up).0) so.marks
+          ∙ append_assoc w.marks so.made (marks_after (coding layout) so.last (place + 1) packet sent up).0;
+      prints =
+          text_of-more (coding layout) w so.events (Delivers (place + 1))
+          ∙ ap (λ (text : List ℕ). text ++ event_text (coding layout) (run (coding layout) so.events w) (Delivers (place + 1))) so.prints
+          ∙ ap (λ (text : List ℕ). marks_text so.made ++ text)
+          (ap (λ (v : World). event_text (coding layout) v (Delivers (place + 1))) (sym (begins_run (coding layout) n bricks w so.last so.events so.begins))
+          ∙ text_after (coding layout) so.last (place + 1) packet sent up)
+          ∙ sym (marks_text-append so.made (marks_after (coding layout) so.last (place + 1) packet sent up).0);
+      up = up_after (coding layout) so.last (place + 1) packet sent up ∙ so.up;
+      seen = seen_after (coding layout) so.last n bricks place packet at up before;
+    }
+      where
+        packet : Packet
+        packet = found.2.0
+
+        at : slice_get so.last.packets place ≡ Some packet
+        at = found.2.1
+
+        sent : packet_of so.last.packets (place + 1) ≡ Some packet
+        sent = ap (packet_of so.last.packets) (let e : place + 1 ≡ suc place = omega arith in e) ∙ at
+
+        left : is_left so.last n bricks (place + 1) packet ≡ true
+        left = left_is place packet ∙ found.2.2
+
+        goes : not (so.last.reached (place + 1)) && goes_among bricks packet ≡ true
+        goes = (and_parts (nat_eq (operation_of so.last packet) n) (not (so.last.reached (place + 1)) && goes_among bricks packet) left).1
+
+        ready_up : (k : ℕ) (brick : BrickId) → slice_get bricks k ≡ Some brick → is_up layout so.last brick ≡ true
+        ready_up k brick there = ap (λ (f : ℕ → Bool). is_brick layout brick && f brick.0) so.up ∙ (calm.ready k brick there).up
+
+        up : is_up layout so.last packet.to ≡ true
+        up =
+            receiver_up layout so.last n bricks packet says
+            (subst (AreOfBricks layout) (sym so.reached.1) (of_bricks layout so.reached.0)) noted.3 opens.0 ready_up
+            (eqb-true (operation_of so.last packet) n
+            (and_parts (nat_eq (operation_of so.last packet) n) (not (so.last.reached (place + 1)) && goes_among bricks packet) left).0)
+            (and_parts (not (so.last.reached (place + 1))) (goes_among bricks packet) goes).1
+
+        before : SeenTo so.last n bricks place
+        before k one less is = ⊎_elim
+            (λ (earlier : k < from). so.seen k one earlier is)
+            (λ (later : from ≤ k). left_is k one ∙ found.1 k one later less is) (cases_lt k from)
+
+        its_next : next_delivery so.last n bricks ≡ Some (place + 1)
+        its_next =
+            next_found so.last n noted.0 says knows noted.3 noted.1 state.ledger origin numbers so.notes noted.2.brick noted.2.boot noted.2.seq from
+            place none_before found
+
+        one : events ≡ Delivers (place + 1) ∷ []
+        one = ⊎_elim
+            (λ (stops : StopsMidway layout so.last (disks_of state.bricks.items) (disks_of next.bricks.items) (place + 1) None events).
+            absurd (omega (arith, stops.struck.reached.within.some)))
+            (λ (is : IsDelivered layout so.last (disks_of state.bricks.items) (place + 1) None events). is.events_are) comes.are
+
+        reached_is : happens (coding layout) so.last (Delivers (place + 1))
+            ≡ run (coding layout) (so.reached.0 ++ Delivers (place + 1) ∷ []) (first_world layout)
+        reached_is =
+            ap (λ (v : World). happens (coding layout) v (Delivers (place + 1))) so.reached.1
+            ∙ sym (run-append (coding layout) (first_world layout) so.reached.0 (Delivers (place + 1) ∷ []))
+
+  -- no memory was left for a delivery
+  pub has_begun : (next : Simulation) → Shows layout next so.last → Notes next.ledger so.last
+      → map content_of (disks_of next.bricks.items) ≡ map content_of (disks_of state.bricks.items) → HasBegun layout w n bricks disks next
+  has_begun next shows notes contents = record {
+    events = so.events;
+    last = so.last;
+    begins = so.begins;
+    shows = shows;
+    notes = notes;
+    kept = record { mid = disks_of state.bricks.items; kept = so.kept; contents = contents };
+  }
