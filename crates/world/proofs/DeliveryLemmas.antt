@@ -219,3 +219,7 @@ ok_three (Err e) Q R all p o q = tt
 pub err_both : {T E P O R : Type 0} (r : Result T E) → (P → O → R) → OnErr r P → OnErr r O → OnErr r R
 err_both (Ok x) both p o = tt
 err_both (Err e) both p o = both p o
+
+pub err_three : {T E P Q R O : Type 0} (r : Result T E) → (P → Q → R → O) → OnErr r P → OnErr r Q → OnErr r R → OnErr r O
+err_three (Ok x) three p q r = tt
+err_three (Err e) three p q r = three p q r

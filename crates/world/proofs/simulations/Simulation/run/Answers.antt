@@ -1,5 +1,5 @@
 -- Each line is its events.
-use Rattle.std.proofs.Common.{◌≡◌, List, None, map, refl, sym, ap, subst}
+use Rattle.std.proofs.Common.{◌≡◌, List, None, map, refl, sym, ap, ◌∙◌, subst}
 use Rattle.std.specs.Prelude.{IfOk, OnOk, OnErr}
 use Rattle.std.proofs.lemmas.Result.{on_err_weaker}
 use Rattle.fab_disk.specs.MemDisk.{content_of}
@@ -13,8 +13,9 @@ use Rattle.world.specs.Ledgers.{Notes}
 use Rattle.world.specs.Shown.{Shows, Comes, Refused, IsReachedBy, disks_of}
 use Rattle.world.specs.declared.simulations.Outcome.TheVariants.{Marks}
 use Rattle.world.specs.declared.ledgers.Ledger.{Ledger}
+use Rattle.world.proofs.CalmEnds.{begun_refused}
 use Rattle.world.proofs.DiskLemmas.{same_kept}
-use Rattle.world.proofs.DeliveryLemmas.{ok_both, ok_three, err_both, one_event, nothing_comes, refused_still}
+use Rattle.world.proofs.DeliveryLemmas.{ok_both, ok_three, err_both, err_three, one_event, nothing_comes, refused_still}
 use Rattle.world.proofs.LedgerLemmas.{notes_clock_event, notes_tick_event, notes_stop_event}
 use Rattle.world.proofs.simulations.Simulation.run.Goals as goal
 
@@ -52,11 +53,10 @@ returns-in-Deliver-clause-comes c =
 
 pub returns-in-Deliver-clause-err : goal.returns-in-Deliver-clause-err
 returns-in-Deliver-clause-err c =
-    err_both c.deliver.result (λ contents both. both contents) c.deliver.ensures.contents
-    (err_both c.deliver.result
+    err_three c.deliver.result
     (λ err kept contents w reached shows notes. refused_still c.args.layout.now w c.args.self.now c.deliver.new.self c.args.line.now (err w shows)
     contents (kept w))
-    c.deliver.ensures.err c.deliver.ensures.kept)
+    c.deliver.ensures.err c.deliver.ensures.kept c.deliver.ensures.contents
 
 pub returns-in-SetClock-clause-comes : goal.returns-in-SetClock-clause-comes
 returns-in-SetClock-clause-comes c w reached shows notes =
@@ -125,3 +125,21 @@ returns-in-Start-clause-err c =
     (λ err contents w reached shows notes. refused_still c.args.layout.now w c.args.self.now c.start.new.self c.args.line.now (err w shows)
     contents (subst (λ (ledger : Ledger). Notes ledger w) (sym c.start.ensures.ledger)))
     c.start.ensures.err c.start.ensures.contents
+
+pub returns-in-Calm-clause-comes : goal.returns-in-Calm-clause-comes
+returns-in-Calm-clause-comes c =
+    subst (λ (line : Line). IfOk c.calm.result (λ outcome. (w : World) → IsReachedBy c.args.layout.now w → Shows c.args.layout.now c.args.self.now w
+    → Notes c.args.self.now.ledger w
+    → Comes c.args.layout.now w (disks_of c.args.self.now.bricks.items) c.calm.new.self line outcome))
+    (ap (Calm c.in-Calm.operation) c.as_slice.ensures ∙ sym c.in-Calm.is) c.calm.ensures.calm
+
+pub returns-in-Calm-clause-err : goal.returns-in-Calm-clause-err
+returns-in-Calm-clause-err c =
+    subst (λ (line : Line). OnErr c.calm.result ((w : World) → IsReachedBy c.args.layout.now w → Shows c.args.layout.now c.args.self.now w
+    → Notes c.args.self.now.ledger w → Refused c.args.layout.now w c.args.self.now c.calm.new.self line))
+    (ap (Calm c.in-Calm.operation) c.as_slice.ensures ∙ sym c.in-Calm.is)
+    (on_err_weaker c.calm.result
+    (λ cut w reached shows notes.
+    (let begun = cut w reached shows notes in
+    begun_refused c.args.layout.now w c.args.self.now c.calm.new.self c.in-Calm.operation c.as_slice.result.now begun.0 begun.1))
+    c.calm.ensures.cut)

@@ -1,0 +1,32 @@
+-- The operation runs alone where it may, and else nothing happens.
+use Rattle.std.proofs.Common.{◌≡◌, Bool, true, false, List, map, sym, ap, ◌∙◌, subst}
+use Rattle.std.specs.Prelude.{if◌then◌else◌, OnErr}
+use Rattle.protocol.specs.Calms.{IsCalm}
+use Rattle.stripe_code.specs.Codes.{coding}
+use Rattle.world.specs.Runs.{brick_of}
+use Rattle.world.specs.Shown.{HasRun, disks_of}
+use Rattle.world.proofs.CalmEnds.{run_comes}
+use Rattle.world.proofs.DeliveryLemmas.{idle_comes}
+use Rattle.world.proofs.SimulationLemmas.{on_err_always}
+use Rattle.world.proofs.simulations.Simulation.calm.Goals as goal
+
+pub returns-then-not-is_calm-clause-calm : goal.returns-then-not-is_calm-clause-calm
+returns-then-not-is_calm-clause-calm c w reached shows notes =
+    idle_comes c.args.layout.now w c.args.self.now c.args.operation c.args.bricks.now
+    (λ calm. absurd (let never : true ≡ false = sym ((c.is_calm.ensures w reached shows notes).1 calm) ∙ c.if-not-is_calm.true in cc)) shows notes
+
+pub returns-then-branch-clause-calm : goal.returns-then-branch-clause-calm
+returns-then-branch-clause-calm c w reached shows notes =
+    let calm = (c.is_calm.ensures w reached shows notes).0 c.if-not-is_calm.false in
+    run_comes c.args.layout.now c.bricks.ensures.limits w c.args.operation c.args.bricks.now (disks_of c.args.self.now.bricks.items) c.run_alone.new.self
+    true reached calm
+    (subst (λ (some : Bool). HasRun c.args.layout.now w c.args.operation (map brick_of c.args.bricks.now) (disks_of c.args.self.now.bricks.items)
+    c.run_alone.new.self some) c.if-branch.true (c.in_ok-run_alone.ensures.run w reached shows notes calm))
+
+pub returns-else-branch-clause-calm : goal.returns-else-branch-clause-calm
+returns-else-branch-clause-calm c w reached shows notes =
+    let calm = (c.is_calm.ensures w reached shows notes).0 c.if-not-is_calm.false in
+    run_comes c.args.layout.now c.bricks.ensures.limits w c.args.operation c.args.bricks.now (disks_of c.args.self.now.bricks.items) c.run_alone.new.self
+    false reached calm
+    (subst (λ (some : Bool). HasRun c.args.layout.now w c.args.operation (map brick_of c.args.bricks.now) (disks_of c.args.self.now.bricks.items)
+    c.run_alone.new.self some) c.if-branch.false (c.in_ok-run_alone.ensures.run w reached shows notes calm))
