@@ -1,5 +1,5 @@
 -- What the disks of a run hold, and which of them an event may change.
-use Rattle.std.specs.Prelude.{◌≡◌, ◌≢◌, ℕ, Bool, true, false, if◌then◌else◌, List, [], ◌∷◌, length, slice_get, Option, Some, None}
+use Rattle.std.specs.Prelude.{◌≡◌, ◌≢◌, ℕ, Bool, true, false, if◌then◌else◌, List, [], ◌∷◌, length, map, slice_get, Option, Some, None}
 use Rattle.std.specs.Option.{option_map}
 use Rattle.fab_base.specs.declared.identities.BrickId.{BrickId}
 use Rattle.fab_base.specs.Layouts.{Layout}
@@ -48,3 +48,9 @@ abbrev pub KeepsDisks : Setting → World → List Event → List MemDisk → Li
 KeepsDisks setting w [] old new = new ≡ old
 KeepsDisks setting w (event ∷ events) old new =
     (next : List MemDisk) × KeepsOthers (changes_disk_of w event) old next × KeepsDisks setting (happens setting w event) events next new
+
+-- so each did, and after them a read of each disk gives what it gave
+pub record LeavesContents (setting : Setting) (w : World) (events : List Event) (old new : List MemDisk) : Type 0 where
+  pub mid : List MemDisk
+  pub kept : KeepsDisks setting w events old mid
+  pub contents : map content_of new ≡ map content_of mid

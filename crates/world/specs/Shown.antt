@@ -25,7 +25,7 @@ use Rattle.protocol.specs.Settings.{Setting}
 use Rattle.protocol.specs.Worlds.{Event}
 use Rattle.world.specs.Runs.{brick_of}
 use Rattle.world.specs.Faults.{HoldsOne, IsEventsOf, IsStartOf, IsLeft, IsLeftOpening, IsReached, IsReachedOpening, Finds, plan_of, found_of, delivery_calls}
-use Rattle.world.specs.Disks.{ShowsDisk, KeepsOthers, KeepsDisks}
+use Rattle.world.specs.Disks.{ShowsDisk, KeepsOthers, KeepsDisks, LeavesContents}
 use Rattle.lines.specs.declared.forms.Fault.{Fault}
 use Rattle.lines.specs.declared.forms.Line.{Line}
 use Rattle.lines.specs.declared.forms.Line.TheVariants.{Calm}
@@ -329,7 +329,7 @@ NotesOn layout w old events new = Notes old w → Notes new (run (coding layout)
 pub record StopsAt (layout : Layout) (w : World) (disks : List MemDisk) (state : Simulation) (line : Line) (events : List Event) : Type 0 where
   pub are : IsBegunBy layout w line events
   pub shows : Shows layout state (run (coding layout) events w)
-  pub kept : KeepsDisks (coding layout) w events disks (disks_of state.bricks.items)
+  pub kept : LeavesContents (coding layout) w events disks (disks_of state.bricks.items)
 
 pub record StaysAt (layout : Layout) (w : World) (disks : List MemDisk) (state : Simulation) : Type 0 where
   pub shows : Shows layout state w
@@ -397,4 +397,4 @@ pub record HasBegun (layout : Layout) (w : World) (n : ℕ) (bricks : List Brick
   pub begins : BeginsAlone (coding layout) n bricks w events last
   pub shows : Shows layout state last
   pub notes : Notes state.ledger last
-  pub kept : KeepsDisks (coding layout) w events disks (disks_of state.bricks.items)
+  pub kept : LeavesContents (coding layout) w events disks (disks_of state.bricks.items)

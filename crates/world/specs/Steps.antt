@@ -11,7 +11,7 @@ use Rattle.protocol.specs.Nodes.{view_at}
 use Rattle.protocol.specs.Worlds.{is_up}
 use Rattle.world.specs.Runs.{Run, Step, world_of, brick_of}
 use Rattle.world.specs.Faults.{IsEventsOf}
-use Rattle.world.specs.Disks.{KeepsDisks}
+use Rattle.world.specs.Disks.{KeepsDisks, LeavesContents}
 use Rattle.world.specs.Shown.{IsBegunBy}
 use Rattle.world.specs.Texts.{outcome_text, new_marks, line_text, step_text}
 use Rattle.world.specs.declared.simulations.Outcome.{Outcome}
@@ -54,7 +54,7 @@ pub record RunsPartly (old new : Run) (line : Line) (step : Step) : Type 0 where
   pub line_is : step.line ≡ line
   pub events_are : IsBegunBy old.layout (world_of old) line step.events
   pub run : new ≡ with_step old step new.disks
-  pub disks : KeepsDisks (coding old.layout) (world_of old) step.events old.disks new.disks
+  pub disks : LeavesContents (coding old.layout) (world_of old) step.events old.disks new.disks
 
 -- What a line leaves for which no memory was left: nothing was run, or some of it.
 abbrev pub LeavesSome : Run → Run → Line → Type 0
