@@ -27,7 +27,7 @@ use Rattle.protocol_laws.proofs.Books.{Books}
 use Rattle.world.specs.Runs.{Run, Step, world_of, all_events, brick_of, ask_of, op_of}
 use Rattle.world.specs.Faults.{IsEventsOf, IsStartOf, StaysDown, IsStarted, IsNoStart}
 use Rattle.world.specs.Disks.{ShowsDiskOf, ShowsDisks, KeepsDisks, LeavesContents}
-use Rattle.world.specs.Shown.{IsNumbered, Shows, ShowsBricks, ShowsPower, ComesTo, disk_in, disks_of, came_to}
+use Rattle.world.specs.Shown.{IsNumbered, Shows, ShowsBricks, ShowsPower, ComesTo, Refused, disk_in, disks_of, came_to}
 use Rattle.world.specs.Steps.{Runs, RunsTo, LeavesSome, with_step, is_stripe, log_at}
 use Rattle.world.specs.Standing.{Leaves}
 use Rattle.world.specs.Ledgers.{Notes}
@@ -265,6 +265,13 @@ stands_run layout old new before disks state line outcome (events, comes, notes,
   stands_step (Shows layout state) layout old new (record { line = line; events = events }) before disks grown comes.shows,
   stands_step (Notes state.ledger) layout old new (record { line = line; events = events }) before disks grown notes,
 )
+
+-- what a refusal for want of memory adds to the steps
+pub refused_leaves : (layout : Layout) (w : World) (old new : Simulation) (line : Line) → Notes old.ledger w → Refused layout w old new line
+    → (steps : List Step) × Leaves layout w (disks_of old.bricks.items) new line steps
+refused_leaves layout w old new line notes (inl (stays, on)) = ([], inl (stays, on notes, refl))
+refused_leaves layout w old new line notes (inr (events, stops, on)) =
+    (record { line = line; events = events } ∷ [], inr (events, stops, on notes, refl))
 
 -- what a line leaves for which no memory was left
 pub leaves_some : (layout : Layout) (old new : List Step) (before disks : List MemDisk) (state : Simulation) (line : Line)
