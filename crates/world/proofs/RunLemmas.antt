@@ -1,5 +1,5 @@
 -- The world that a run leaves, and what its disks keep.
-use Rattle.std.proofs.Common.{◌≡◌, ℕ, ◌+◌, ◌<◌, ◌≤◌, ◌-◌, ◌⊎◌, inl, inr, ⊎_elim, Bool, true, false, cond, nat_lt, ◌&&◌, List, [], ◌∷◌, ◌++◌, length, length-append, take, drop, take_all, length-drop, append-nil, append_assoc, Option, Some, None, refl, sym, ap, ◌∙◌, subst, arith}
+use Rattle.std.proofs.Common.{◌≡◌, ℕ, ◌+◌, ◌<◌, ◌≤◌, ◌-◌, ◌⊎◌, inl, inr, ⊎_elim, Bool, true, false, cond, nat_lt, ◌&&◌, List, [], ◌∷◌, ◌++◌, length, length-append, take, drop, map, take_all, length-drop, append-nil, append_assoc, Option, Some, None, refl, sym, ap, ◌∙◌, subst, arith}
 use Rattle.std.specs.Prelude.{slice_get}
 use Rattle.std.specs.Option.{option_map}
 use Rattle.std.proofs.lemmas.Bool.{cond_both}
@@ -7,6 +7,7 @@ use Rattle.std.proofs.lemmas.Bool.Decides.{nat_tests}
 use Rattle.std.proofs.lemmas.List.{drop_all, length-map}
 use Rattle.std.proofs.lemmas.Option.{slice_get-map}
 use Rattle.fab_base.specs.declared.identities.BrickId.{BrickId}
+use Rattle.fab_disk.specs.MemDisk.{content_of}
 use Rattle.fab_disk.specs.declared.mem_disk.MemDisk.{MemDisk}
 use Rattle.messages.specs.declared.requests.Version.{Version}
 use Rattle.messages.specs.declared.packets.Packet.{Packet}
@@ -25,9 +26,11 @@ use Rattle.protocol.specs.Worlds.{World, Event, Found, Invokes, Delivers, Sets, 
 use Rattle.protocol_laws.proofs.Books.{Books}
 use Rattle.world.specs.Runs.{Run, Step, world_of, all_events, brick_of, ask_of, op_of}
 use Rattle.world.specs.Faults.{IsEventsOf, IsStartOf, StaysDown, IsStarted, IsNoStart}
-use Rattle.world.specs.Disks.{ShowsDiskOf, ShowsDisks, KeepsDisks}
-use Rattle.world.specs.Shown.{IsNumbered, Shows, ShowsBricks, ShowsPower, ComesTo, disk_in, disks_of, came_to}
-use Rattle.world.specs.Steps.{Runs, RunsTo, with_step, is_stripe, log_at}
+use Rattle.world.specs.Disks.{ShowsDiskOf, ShowsDisks, KeepsDisks, LeavesContents}
+use Rattle.world.specs.Shown.{IsNumbered, Shows, ShowsBricks, ShowsPower, ComesTo, Refused, disk_in, disks_of, came_to}
+use Rattle.world.specs.Steps.{Runs, RunsTo, LeavesSome, with_step, is_stripe, log_at}
+use Rattle.world.specs.Standing.{Leaves}
+use Rattle.world.specs.Ledgers.{Notes}
 use Rattle.world.specs.Texts.{text_of, event_text, marks_text, outcome_text, new_marks, line_text, step_text}
 use Rattle.world.specs.declared.bricks.Brick.{Brick}
 use Rattle.world.specs.declared.bricks.Power.{Power}
@@ -53,14 +56,14 @@ world_of-with_step r step disks =
     ap (λ events. run (coding r.layout) events (first_world r.layout)) (all_events-more r.steps step)
     ∙ run-append (coding r.layout) (first_world r.layout) (all_events r.steps) step.events
 
--- the state that shows the world after a step shows the world of the run with that step
-pub shows_step : (layout : Layout) (state : Simulation) (old new : List Step) (step : Step) (before disks : List MemDisk) → new ≡ old ++ step ∷ []
-    → Shows layout state (run (coding layout) step.events (world_of (record { layout = layout; steps = old; disks = before })))
-    → Shows layout state (world_of (record { layout = layout; steps = new; disks = disks }))
-shows_step layout state old new step before disks grown shows =
-    subst (λ (v : World). Shows layout state v)
+-- what holds of the world after a step holds of the world of the run with that step
+pub stands_step : (P : World → Type 0) (layout : Layout) (old new : List Step) (step : Step) (before disks : List MemDisk) → new ≡ old ++ step ∷ []
+    → P (run (coding layout) step.events (world_of (record { layout = layout; steps = old; disks = before })))
+    → P (world_of (record { layout = layout; steps = new; disks = disks }))
+stands_step P layout old new step before disks grown holds =
+    subst P
     (sym (ap (λ (steps : List Step). world_of (record { layout = layout; steps = steps; disks = disks })) grown
-    ∙ world_of-with_step (record { layout = layout; steps = old; disks = before }) step disks)) shows
+    ∙ world_of-with_step (record { layout = layout; steps = old; disks = before }) step disks)) holds
 
 -- the disk of a brick that is shown keeps what the machine's brick keeps, or one of the two that its stop left possible
 disk_kept : (layout : Layout) (me : BrickId) (node after : Node) (up : Bool) (power : Power) → ShowsPower layout me node after up power
@@ -233,9 +236,10 @@ text_is old new line step outcome marks before text runs prints are count is =
 pub runs_to : (layout : Layout) (old new : List Step) (before disks : List MemDisk) (state : Simulation) (line : Line) (outcome : Outcome)
     → disks ≡ disks_of state.bricks.items
     → (events : List Event) × ComesTo layout (world_of (record { layout = layout; steps = old; disks = before })) before state line outcome events
+    × Notes state.ledger (run (coding layout) events (world_of (record { layout = layout; steps = old; disks = before })))
     × (new ≡ old ++ record { line = line; events = events } ∷ [])
     → RunsTo (record { layout = layout; steps = old; disks = before }) (record { layout = layout; steps = new; disks = disks }) line outcome
-runs_to layout old new before disks state line outcome same (events, comes, grown) =
+runs_to layout old new before disks state line outcome same (events, comes, notes, grown) =
     let r : Run = record { layout = layout; steps = old; disks = before } in
     record {
       step = record { line = line; events = events };
@@ -250,10 +254,74 @@ runs_to layout old new before disks state line outcome same (events, comes, grow
           ∙ world_of-with_step r (record { line = line; events = events }) disks) ∙ comes.prints;
     }
 
--- and the state shows the world behind it
-pub shows_run : (layout : Layout) (old new : List Step) (before disks : List MemDisk) (state : Simulation) (line : Line) (outcome : Outcome)
+-- and the state shows the world behind it, and its ledger notes it
+pub stands_run : (layout : Layout) (old new : List Step) (before disks : List MemDisk) (state : Simulation) (line : Line) (outcome : Outcome)
     → (events : List Event) × ComesTo layout (world_of (record { layout = layout; steps = old; disks = before })) before state line outcome events
+    × Notes state.ledger (run (coding layout) events (world_of (record { layout = layout; steps = old; disks = before })))
     × (new ≡ old ++ record { line = line; events = events } ∷ [])
     → Shows layout state (world_of (record { layout = layout; steps = new; disks = disks }))
-shows_run layout old new before disks state line outcome (events, comes, grown) =
-    shows_step layout state old new (record { line = line; events = events }) before disks grown comes.shows
+    × Notes state.ledger (world_of (record { layout = layout; steps = new; disks = disks }))
+stands_run layout old new before disks state line outcome (events, comes, notes, grown) = (
+  stands_step (Shows layout state) layout old new (record { line = line; events = events }) before disks grown comes.shows,
+  stands_step (Notes state.ledger) layout old new (record { line = line; events = events }) before disks grown notes,
+)
+
+-- what a refusal for want of memory adds to the steps
+pub refused_leaves : (layout : Layout) (w : World) (old new : Simulation) (line : Line) → Notes old.ledger w → Refused layout w old new line
+    → (steps : List Step) × Leaves layout w (disks_of old.bricks.items) new line steps
+refused_leaves layout w old new line notes (inl (stays, on)) = ([], inl (stays, on notes, refl))
+refused_leaves layout w old new line notes (inr (events, stops, on)) =
+    (record { line = line; events = events } ∷ [], inr (events, stops, on notes, refl))
+
+-- what a line leaves for which no memory was left
+pub leaves_some : (layout : Layout) (old new : List Step) (before disks : List MemDisk) (state : Simulation) (line : Line)
+    → disks ≡ disks_of state.bricks.items
+    → (steps : List Step) × Leaves layout (world_of (record { layout = layout; steps = old; disks = before })) before state line steps
+    × (new ≡ old ++ steps)
+    → LeavesSome (record { layout = layout; steps = old; disks = before }) (record { layout = layout; steps = new; disks = disks }) line
+leaves_some layout old new before disks state line same (steps, leaves, grown) = left leaves
+  where
+    r : Run
+    r = record { layout = layout; steps = old; disks = before }
+
+    s : Run
+    s = record { layout = layout; steps = new; disks = disks }
+
+    left : Leaves layout (world_of r) before state line steps → LeavesSome r s line
+    left (inl (stays, notes, none)) =
+        inl (record {
+          layout = refl;
+          steps = grown ∙ ap (λ (more : List Step). old ++ more) none ∙ append-nil old;
+          contents = ap (λ (d : List MemDisk). map content_of d) same ∙ stays.contents;
+        })
+    left (inr (events, stops, notes, one)) =
+        inr (record { line = line; events = events }, record {
+          line_is = refl;
+          events_are = stops.are;
+          run = ap (λ (steps : List Step). record { layout = layout; steps = steps; disks = disks })
+              (grown ∙ ap (λ (more : List Step). old ++ more) one);
+          disks = subst (λ (d : List MemDisk). LeavesContents (coding layout) (world_of r) events before d) (sym same) stops.kept;
+        })
+
+-- and the state shows the world behind it, and its ledger notes it
+pub stands_left : (layout : Layout) (old new : List Step) (before disks : List MemDisk) (state : Simulation) (line : Line)
+    → (steps : List Step) × Leaves layout (world_of (record { layout = layout; steps = old; disks = before })) before state line steps
+    × (new ≡ old ++ steps)
+    → Shows layout state (world_of (record { layout = layout; steps = new; disks = disks }))
+    × Notes state.ledger (world_of (record { layout = layout; steps = new; disks = disks }))
+stands_left layout old new before disks state line (steps, leaves, grown) = left leaves
+  where
+    v : List Step → World
+    v steps = world_of (record { layout = layout; steps = steps; disks = disks })
+
+    left : Leaves layout (v old) before state line steps → Shows layout state (v new) × Notes state.ledger (v new)
+    left (inl (stays, notes, none)) =
+        let same : new ≡ old = grown ∙ ap (λ (more : List Step). old ++ more) none ∙ append-nil old in (
+          subst (λ (x : List Step). Shows layout state (v x)) (sym same) stays.shows,
+          subst (λ (x : List Step). Notes state.ledger (v x)) (sym same) notes,
+        )
+    left (inr (events, stops, notes, one)) =
+        let more : new ≡ old ++ record { line = line; events = events } ∷ [] = grown ∙ ap (λ (more : List Step). old ++ more) one in (
+          stands_step (Shows layout state) layout old new (record { line = line; events = events }) before disks more stops.shows,
+          stands_step (Notes state.ledger) layout old new (record { line = line; events = events }) before disks more notes,
+        )

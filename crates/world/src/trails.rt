@@ -50,7 +50,11 @@ impl Trail {
     ghost use Rattle.std.specs.Prelude.{◌≡◌, [], ◌∷◌, ◌++◌};
     ghost use Rattle.protocol.specs.Worlds.{Event};
     ghost use Rattle.world.specs.Runs.{world_of};
-    ghost use Rattle.world.specs.Shown.{ComesTo};
+    ghost use Rattle.world.specs.Shown.{Comes, ComesTo};
+    ghost use Rattle.world.specs.Standing.{Leaves};
+    ghost use Rattle.world.specs.Ledgers.{Notes};
+    ghost use Rattle.stripe_code.specs.Codes.{coding};
+    ghost use Rattle.protocol.specs.Worlds.{run};
 
     /// No step yet.
     pub fn new() -> Trail
@@ -68,13 +72,34 @@ impl Trail {
         _outcome: &Outcome,
         _state: &Simulation,
     ) -> Trail
-        requires { (events : List Event) × ComesTo _layout.now
+        requires { Comes _layout.now
             (world_of (record { layout = _layout.now; steps = _before.now.steps; disks = _shelf.now.disks }))
-            _shelf.now.disks _state.now _line.now _outcome.now events }
+            _shelf.now.disks _state.now _line.now _outcome.now }
         ensures { (events : List Event) × ComesTo _layout.now
             (world_of (record { layout = _layout.now; steps = _before.now.steps; disks = _shelf.now.disks }))
             _shelf.now.disks _state.now _line.now _outcome.now events
+            × Notes _state.now.ledger (run (coding _layout.now) events
+                (world_of (record { layout = _layout.now; steps = _before.now.steps; disks = _shelf.now.disks })))
             × (result.steps ≡ _before.now.steps ++ record { line = _line.now; events = events } ∷ []) }
+    {
+        Trail {}
+    }
+
+    /// What a line adds for which no memory was left: no step, or one that was cut short.
+    pub fn left(
+        _before: &Trail,
+        _shelf: &Shelf,
+        _layout: &Layout,
+        _line: &Line,
+        _state: &Simulation,
+    ) -> Trail
+        requires { (steps : List Step) × Leaves _layout.now
+            (world_of (record { layout = _layout.now; steps = _before.now.steps; disks = _shelf.now.disks }))
+            _shelf.now.disks _state.now _line.now steps }
+        ensures { (steps : List Step) × Leaves _layout.now
+            (world_of (record { layout = _layout.now; steps = _before.now.steps; disks = _shelf.now.disks }))
+            _shelf.now.disks _state.now _line.now steps
+            × (result.steps ≡ _before.now.steps ++ steps) }
     {
         Trail {}
     }

@@ -87,7 +87,7 @@ impl World {
     ghost use Rattle.protocol.specs.Happenings.{happenings_of};
     ghost use Rattle.world.specs.Runs.{world_of};
     ghost use Rattle.world.specs.Disks.{ShowsDisks};
-    ghost use Rattle.world.specs.Steps.{Ran, RunsTo, IsAsBefore, Stands, log_at};
+    ghost use Rattle.world.specs.Steps.{Ran, RunsTo, LeavesSome, Stands, log_at};
     ghost use Rattle.world.specs.Walks.{AreEntriesOf};
 
     /// All bricks up, their stores fresh, their clocks at 0, and nothing sent.
@@ -109,7 +109,8 @@ impl World {
     /// # Errors
     ///
     /// `BadLine` exactly where the bytes are no line of a schedule; nothing has changed then. `NoMemory` where no memory was left: either
-    /// nothing that a disk gives or that happened has changed, or the line was run and only its text is missing.
+    /// nothing that a disk gives or that happened has changed, or the line was run and only its text is missing. Of an operation that was to run
+    /// alone, the deliveries before that stay.
     pub fn step(&mut self, content: &[u8]) -> Result<Bytes, StepFault>
         ensures ok { IfOk result (λ text. Ran self.old self.new content.now text) }
         ensures bad { IsErrOf result StepFault.BadLine → (line_of content.now ≡ None) × (self.new ≡ self.old) }
@@ -134,20 +135,33 @@ impl World {
     fn run(&mut self, line: &Line) -> Result<Outcome, NoMem>
         ensures ok { IfOk result (λ outcome. RunsTo self.old self.new line.now outcome) }
         ensures marks { OnOk result (length (world_of self.old).marks ≤ length (world_of self.new).marks) }
-        ensures err { OnErr result (IsAsBefore self.old self.new) }
+        ensures err { OnErr result (LeavesSome self.old self.new line.now) }
         ensures disks { ShowsDisks self.new }
     {
         let shelf = Shelf::of(&self.simulation);
-        let outcome = self.simulation.run(self.alloc, &self.layout, line)?;
-        self.trail = Trail::with(
-            &self.trail,
-            &shelf,
-            &self.layout,
-            line,
-            &outcome,
-            &self.simulation,
-        );
-        Ok(outcome)
+        match self.simulation.run(self.alloc, &self.layout, line) {
+            Ok(outcome) => {
+                self.trail = Trail::with(
+                    &self.trail,
+                    &shelf,
+                    &self.layout,
+                    line,
+                    &outcome,
+                    &self.simulation,
+                );
+                Ok(outcome)
+            }
+            Err(refused) => {
+                self.trail = Trail::left(
+                    &self.trail,
+                    &shelf,
+                    &self.layout,
+                    line,
+                    &self.simulation,
+                );
+                Err(refused)
+            }
+        }
     }
 
     /// The layout.

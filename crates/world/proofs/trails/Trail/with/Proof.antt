@@ -32,16 +32,14 @@ use Rattle.world.specs.contracts.trails.Trail.with.Key.{name as key}
 use Rattle.world.specs.contracts.trails.Trail.with as f
 use Rattle.world.proofs.trails.Trail.with.Statement as stated
 use Rattle.world.proofs.trails.Trail.with.Code as code
-use Rattle.std.specs.Prelude.{List}
 use Rattle.world.specs.contracts.trails.Trail as made
 use Rattle.world.specs.contracts.trails.Shelf as shelf
 use Rattle.layout.specs.contracts.layouts.Layout as layout
 use Rattle.lines.specs.contracts.forms.Line as line
 use Rattle.world.specs.contracts.simulations.Outcome as outcome
 use Rattle.world.specs.contracts.simulations.Simulation as state
-use Rattle.protocol.specs.Worlds.{Event}
 use Rattle.world.specs.Runs.{world_of}
-use Rattle.world.specs.Shown.{ComesTo}
+use Rattle.world.specs.Shown.{Comes}
 
 abbrev stayed : Stays (f.ended).signature.params (f.ended).kept
 stayed = (stay_none_ref (0 ∷ []) tt (plain (λ _. made.the_row)) yes, (stay_none_ref (1 ∷ []) tt (plain (λ _. shelf.the_row)) yes, (stay_none_ref (2 ∷ []) tt (plain (λ _. layout.the_row)) yes, (stay_none_ref (3 ∷ []) tt (plain (λ _. line.the_row)) yes, (stay_none_ref (4 ∷ []) tt (plain (λ _. outcome.the_row)) yes, (stay_none_ref (5 ∷ []) tt (plain (λ _. state.the_row)) yes, tt))))))
@@ -75,17 +73,17 @@ module _ {M : Type 1} {𝓤 : Ura M} (𝓛 : Logic 𝓤) (mem : Memory → SProp
     passed = owns (types_at f.signature.params κs) a (p0 ∷ [], (p1 ∷ [], (p2 ∷ [], (p3 ∷ [], (p4 ∷ [], (p5 ∷ [], tt))))))
 
     abbrev wanted : Type 0
-    wanted = (events : List Event) × ComesTo a.1.1.0.now (world_of (record { layout = a.1.1.0.now; steps = a.0.now.steps; disks = a.1.0.now.disks }))
-        a.1.0.now.disks a.1.1.1.1.1.0.now a.1.1.1.0.now a.1.1.1.1.0.now events
+    wanted = Comes a.1.1.0.now (world_of (record { layout = a.1.1.0.now; steps = a.0.now.steps; disks = a.1.0.now.disks })) a.1.0.now.disks
+        a.1.1.1.1.1.0.now a.1.1.1.0.now a.1.1.1.1.0.now
 
     walk : wanted → ent 𝓤 (on_entry 𝓛 f.signature κs qs a (p0 ∷ [], (p1 ∷ [], (p2 ∷ [], (p3 ∷ [], (p4 ∷ [], (p5 ∷ [], tt)))))))
         (WpFn 𝓤 H C Λ code.function (p0 ∷ p1 ∷ p2 ∷ p3 ∷ p4 ∷ p5 ∷ []) ((walk_of 𝓛 f.ended stayed (f.clauses 𝓛 mem run)).post bound))
-    walk are =
+    walk (events, comes, notes) =
         qed 𝓛 (raw (alive 𝓛 f.signature κs qs) ∷ ‵ passed ∷ []) ∵ enter ! C Λ code.function (p0 ∷ p1 ∷ p2 ∷ p3 ∷ p4 ∷ p5 ∷ []) _ $
         alloc_all ! (λ l. pass_all ! refl ((tt, tt), ((tt, tt), ((tt, tt), ((tt, tt), ((tt, tt), ((tt, tt), tt)))))) $ sets ! (agg ! (no_more !)) refl (tt, tt) $
         returns ! (look_at ! 0 refl) $ free_all ! refl $
-        suffices ! _ (ends_at 𝓛 f.ended stayed (f.clauses 𝓛 mem run) bound (vstruct vnil) (record { steps = a.0.now.steps ++ record { line = a.1.1.1.0.now; events = are.0 } ∷ [] }) (tt, (tt, (tt, (tt, (tt, (tt, tt)))))) (tt, (tt, (tt, (tt, (tt, (tt, tt))))))) $
-        says ! (are.0, are.1, refl) $ pure_i ! (made.the_row.own_val (record { steps = a.0.now.steps ++ record { line = a.1.1.1.0.now; events = are.0 } ∷ [] }) (vstruct vnil ∷ [])) ((λ vss. (tt, tt)), tt) ((tt, (refl, tt)), tt) $
+        suffices ! _ (ends_at 𝓛 f.ended stayed (f.clauses 𝓛 mem run) bound (vstruct vnil) (record { steps = a.0.now.steps ++ record { line = a.1.1.1.0.now; events = events } ∷ [] }) (tt, (tt, (tt, (tt, (tt, (tt, tt)))))) (tt, (tt, (tt, (tt, (tt, (tt, tt))))))) $
+        says ! (events, comes, notes, refl) $ pure_i ! (made.the_row.own_val (record { steps = a.0.now.steps ++ record { line = a.1.1.1.0.now; events = events } ∷ [] }) (vstruct vnil ∷ [])) ((λ vss. (tt, tt)), tt) ((tt, (refl, tt)), tt) $
         move ! (1 ∷ 2 ∷ 0 ∷ []) $ done !)
 
   walks : Walks 𝓛 f.ended stayed (WpFn 𝓤 H C Λ code.function) (f.clauses 𝓛 mem run)

@@ -14,7 +14,7 @@ returns-clause-ok c =
       step = ran.step;
       runs = ran.runs;
       text_is = text_is c.args.self.now c.run.new.self c.in-Some.line ran.step c.in_ok-outcome.outcome c.deref.result.now c.len-before.result
-          c.in_ok-print.field-0 ran.runs ran.comes
+          c.in_ok-print.field-0 ran.runs ran.prints
           (c.deref.ensures.value ∙ c.self-2.invariant.shows.history.marks ∙ ap (λ (r : Run). (world_of r).marks) c.self-2.view_is)
           (c.len-before.ensures ∙ c.self.inside.simulation.history.marks.ok.0
           ∙ ap length (c.self.invariant.shows.history.marks ∙ ap (λ (r : Run). (world_of r).marks) c.self.view_is))
