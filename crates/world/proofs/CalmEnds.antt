@@ -8,7 +8,7 @@ use Rattle.fab_disk.specs.declared.mem_disk.MemDisk.{MemDisk}
 use Rattle.lines.specs.declared.forms.Line.TheVariants.{Calm}
 use Rattle.protocol.specs.Settings.{Setting}
 use Rattle.protocol.specs.Calms.{IsCalm, RunsAlone, Ended, Stuck, Next}
-use Rattle.protocol.specs.Worlds.{World, Event, Delivers, happens, run, first_world}
+use Rattle.protocol.specs.Worlds.{World, Event, Delivers, happens, run}
 use Rattle.rs_code.proofs.StripeLaws.{length-coded_block}
 use Rattle.stripe_code.specs.Codes.{coding}
 use Rattle.stripe_code.proofs.Soundness.{coding_is_sound}

@@ -1,5 +1,5 @@
 -- When an operation may run alone: as the bricks and the ledger tell.
-use Rattle.std.proofs.Common.{◌≡◌, ◌≢◌, ℕ, zero, suc, ◌+◌, ◌<◌, ◌≤◌, Bool, true, false, not, cond, nat_eq, nat_lt, nat_le, ◌&&◌, ◌||◌, ◌-◌, ◌⊎◌, inl, inr, ⊎_elim, List, [], ◌∷◌, length, map, take, drop, take_all, get_or, Option, Some, None, is_some, refl, sym, ap, ◌∙◌, subst, arith}
+use Rattle.std.proofs.Common.{◌≡◌, ◌≢◌, ℕ, zero, suc, ◌+◌, ◌<◌, ◌≤◌, Bool, true, false, not, cond, nat_eq, nat_lt, nat_le, ◌&&◌, ◌||◌, ◌-◌, ◌⊎◌, ⊎_elim, List, [], ◌∷◌, length, map, take, drop, take_all, get_or, Option, Some, None, is_some, refl, sym, ap, ◌∙◌, subst, arith}
 use Rattle.std.specs.Prelude.{slice_get, slice_index_or, filter}
 use Rattle.std.specs.Bool.{Decides}
 use Rattle.std.specs.List.{IsDistinct, AllByRecursion, list_any}
@@ -20,7 +20,7 @@ use Rattle.protocol.specs.Nodes.{Node}
 use Rattle.protocol.specs.Coordinators.{Coordinator}
 use Rattle.protocol.specs.Settings.{Setting}
 use Rattle.protocol.specs.Worlds.{World, Operation, is_brick, is_up, number_of}
-use Rattle.protocol_laws.proofs.Books.{Books, OperationBooks}
+use Rattle.protocol_laws.proofs.Books.{Books}
 use Rattle.protocol_laws.proofs.FirstViews.{view_first}
 use Rattle.world.specs.Ledgers.{Notes, NotesOrigin, origin_at}
 use Rattle.world.specs.declared.ledgers.Ledger.{Ledger}

@@ -1,11 +1,11 @@
 -- The deliveries that an operation makes alone, one after another, as a state shows them.
-use Rattle.std.proofs.Common.{◌≡◌, ◌≢◌, ℕ, zero, suc, ◌+◌, ◌<◌, ◌≤◌, Bool, true, false, not, cond, nat_eq, ◌&&◌, ◌||◌, ◌⊎◌, inl, inr, ⊎_elim, List, [], ◌∷◌, ◌++◌, length, drop, append-nil, append_assoc, map, get_or, Option, Some, None, is_some, refl, sym, ap, ◌∙◌, subst, arith}
+use Rattle.std.proofs.Common.{◌≡◌, ◌≢◌, ℕ, suc, ◌+◌, ◌<◌, ◌≤◌, Bool, true, false, not, cond, nat_eq, ◌&&◌, ◌||◌, ⊎_elim, List, [], ◌∷◌, ◌++◌, length, drop, append-nil, append_assoc, map, Option, Some, None, is_some, refl, sym, ap, ◌∙◌, subst, arith}
 use Rattle.std.specs.Prelude.{slice_get}
 use Rattle.std.proofs.lemmas.Bool.{and_parts, eqb-true, eqb-false, eq-eqb, cases_lt}
 use Rattle.std.proofs.lemmas.Bool.Decides.{nat_tests}
 use Rattle.std.proofs.Math.Seq.{drop-append_seam}
 use Rattle.std.proofs.lemmas.List.{get_or_append_left, length-append}
-use Rattle.std.proofs.lemmas.Option.{same_Some, slice_get_within, slice_get-get_or}
+use Rattle.std.proofs.lemmas.Option.{slice_get_within, slice_get-get_or}
 use Rattle.fab_base.specs.Layouts.{Layout}
 use Rattle.fab_base.specs.declared.identities.BrickId.{BrickId}
 use Rattle.fab_disk.specs.MemDisk.{content_of}
@@ -19,16 +19,15 @@ use Rattle.protocol.specs.Settings.{Setting}
 use Rattle.protocol.specs.declared.tellings.Answered.{Answered}
 use Rattle.protocol.specs.declared.tellings.Told.{Told}
 use Rattle.protocol.specs.declared.tellings.Told.TheVariants.{Made, Seen}
-use Rattle.protocol.specs.Coordinators.{Coordinator}
 use Rattle.protocol.specs.Nodes.{NodeStep, put, received}
-use Rattle.protocol.specs.Worlds.{World, Operation, Event, Delivers, is_brick, is_up, number_of, packet_of, replies_with, world_told, world_tells, world_answered, world_answers, world_stepped, first_world, happens, run}
+use Rattle.protocol.specs.Worlds.{World, Operation, Event, Delivers, is_brick, is_up, number_of, packet_of, replies_with, world_told, world_tells, world_answered, world_answers, first_world, happens, run}
 use Rattle.reg_model.specs.declared.marks.Mark.{Mark}
 use Rattle.reg_model.specs.declared.marks.Mark.TheVariants.{End}
 use Rattle.protocol.specs.Calms.{IsCalm, open_at, open_call, operation_of, is_one_of, goes_among, is_left, next_delivery}
 use Rattle.world.specs.Calms.{BeginsAlone}
 use Rattle.world.specs.Calms as begun
-use Rattle.world.specs.Disks.{KeepsDisks, LeavesContents}
-use Rattle.world.specs.Faults.{IsDeliveryOf, StopsMidway, IsDelivered}
+use Rattle.world.specs.Disks.{KeepsDisks}
+use Rattle.world.specs.Faults.{StopsMidway, IsDelivered}
 use Rattle.world.specs.Ledgers.{Notes, NotesOrigin, NoneLeft, FindsLeft, is_left_at}
 use Rattle.world.specs.Runs.{brick_of}
 use Rattle.world.specs.Shown.{Shows, Comes, HasRun, HasBegun, IsReachedBy, OpensAs, disks_of, is_empty}

@@ -22,7 +22,7 @@ use Rattle.world.specs.Runs.{brick_of}
 use Rattle.world.specs.Faults.{IsEventsOf, IsStartOf, StaysDown, IsStarted, IsNoStart, IsReached, plan_of}
 use Rattle.world.specs.Ledgers.{Notes}
 use Rattle.world.specs.Disks.{KeepsOthers, changes_disk_of}
-use Rattle.world.specs.Shown.{Shows, ShowsBricks, StartsAs, Tells, ComesTo, Comes, IsReachedBy, Refused, HandledWhole, HandledPart, disks_of}
+use Rattle.world.specs.Shown.{Shows, ShowsBricks, StartsAs, Tells, Comes, IsReachedBy, Refused, HandledWhole, HandledPart, disks_of}
 use Rattle.world.specs.Texts.{marks_if, is_deliverable, outcome_of, marks_text, outcome_text, new_marks, event_text, text_of, line_text}
 use Rattle.world.specs.declared.simulations.Outcome.{Outcome}
 use Rattle.world.specs.declared.simulations.Outcome.TheVariants.{Marks, Idle}

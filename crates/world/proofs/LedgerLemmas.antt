@@ -4,7 +4,7 @@ use Rattle.std.specs.Prelude.{slice_get}
 use Rattle.std.specs.Option.{option_map}
 use Rattle.std.proofs.lemmas.Bool.{cond_both, and_parts, eqb-true, eqb-false, eq-eqb}
 use Rattle.std.proofs.lemmas.Bool.Decides.{nat_tests}
-use Rattle.std.proofs.lemmas.Option.{slice_get_within, slice_get-get_or, same_Some}
+use Rattle.std.proofs.lemmas.Option.{slice_get_within, same_Some}
 use Rattle.fab_base.specs.declared.asks.Ask.{Ask}
 use Rattle.fab_base.specs.declared.identities.BrickId.{BrickId}
 use Rattle.fab_base.specs.Layouts.{Layout}
@@ -15,11 +15,11 @@ use Rattle.protocol.specs.declared.tellings.Answered.{Answered}
 use Rattle.protocol.specs.declared.tellings.Told.{Told}
 use Rattle.protocol.specs.declared.tellings.Told.TheVariants.{Made, Seen}
 use Rattle.protocol.specs.Nodes.{Node, NodeStep, put, top_at, received, stopped, restarted, may_open}
-use Rattle.protocol.specs.Worlds.{World, Operation, Event, Found, Before, After, Sets, Ticks, Stops, Starts, is_brick, is_up, may_start, number_of, world_began, world_told, world_tells, world_answered, world_answers, world_stepped, world_ticked, world_stopped, world_found, world_started, happens, packet_of, replies_with, reached_at, reached_during}
-use Rattle.protocol_laws.proofs.Books.{Books, OperationBooks, CallBooks}
+use Rattle.protocol.specs.Worlds.{World, Operation, Found, Before, After, Sets, Ticks, Stops, Starts, is_brick, is_up, may_start, number_of, world_began, world_told, world_tells, world_answered, world_answers, world_stepped, world_ticked, world_stopped, world_found, world_started, happens, packet_of, replies_with, reached_at, reached_during}
+use Rattle.protocol_laws.proofs.Books.{Books}
 use Rattle.world.specs.Ledgers.{Notes, NotesOrigin, EndsAs, EndsAt, ended_origin}
 use Rattle.world.specs.Runs.{brick_of}
-use Rattle.world.specs.Shown.{ShowsBricks, ShowsPower, Rests, EndedIs}
+use Rattle.world.specs.Shown.{ShowsBricks, ShowsPower, EndedIs}
 use Rattle.world.specs.declared.bricks.Brick.{Brick}
 use Rattle.world.specs.declared.bricks.Power.{Power}
 use Rattle.world.specs.declared.bricks.Power.TheVariants.{Up, Down}

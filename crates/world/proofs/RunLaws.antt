@@ -1,7 +1,7 @@
 -- What holds in the world that a run leaves, since a schedule of events reaches it.
 use Rattle.std.proofs.Common.{refl, sym, subst}
 use Rattle.fab_base.specs.Layouts.{Layout}
-use Rattle.protocol.specs.Worlds.{World, run, first_world}
+use Rattle.protocol.specs.Worlds.{World}
 use Rattle.stripe_code.specs.Codes.{coding}
 use Rattle.protocol.specs.Settings.{IsSound}
 use Rattle.protocol.specs.Views.{layout_views}

@@ -24,7 +24,7 @@ use Rattle.protocol.specs.declared.tellings.Told.TheVariants as told
 use Rattle.protocol.specs.Settings.{Setting}
 use Rattle.protocol.specs.Worlds.{World, Event, Found, Invokes, Delivers, Sets, Ticks, Stops, Starts, Before, After, first_world, is_brick, is_up, may_begin, may_start, number_of, packet_of, replies_with, delivered, world_began, world_told, world_tells, world_answered, world_answers, world_stepped, world_ticked, world_stopped, world_found, world_started, happens, run}
 use Rattle.protocol_laws.proofs.Books.{Books}
-use Rattle.world.specs.Runs.{Run, Step, world_of, all_events, brick_of, ask_of, op_of}
+use Rattle.world.specs.Runs.{Run, Step, world_of, all_events, brick_of}
 use Rattle.world.specs.Faults.{IsEventsOf, IsStartOf, StaysDown, IsStarted, IsNoStart}
 use Rattle.world.specs.Disks.{ShowsDiskOf, ShowsDisks, KeepsDisks, LeavesContents}
 use Rattle.world.specs.Shown.{IsNumbered, Shows, ShowsBricks, ShowsPower, ComesTo, Refused, disk_in, disks_of, came_to}
@@ -295,13 +295,16 @@ leaves_some layout old new before disks state line same (steps, leaves, grown) =
           contents = ap (λ (d : List MemDisk). map content_of d) same ∙ stays.contents;
         })
     left (inr (events, stops, notes, one)) =
-        inr (record { line = line; events = events }, record {
-          line_is = refl;
-          events_are = stops.are;
-          run = ap (λ (steps : List Step). record { layout = layout; steps = steps; disks = disks })
-              (grown ∙ ap (λ (more : List Step). old ++ more) one);
-          disks = subst (λ (d : List MemDisk). LeavesContents (coding layout) (world_of r) events before d) (sym same) stops.kept;
-        })
+        inr (
+          record { line = line; events = events },
+          record {
+            line_is = refl;
+            events_are = stops.are;
+            run = ap (λ (steps : List Step). record { layout = layout; steps = steps; disks = disks })
+                (grown ∙ ap (λ (more : List Step). old ++ more) one);
+            disks = subst (λ (d : List MemDisk). LeavesContents (coding layout) (world_of r) events before d) (sym same) stops.kept;
+          },
+        )
 
 -- and the state shows the world behind it, and its ledger notes it
 pub stands_left : (layout : Layout) (old new : List Step) (before disks : List MemDisk) (state : Simulation) (line : Line)

@@ -79,7 +79,7 @@ impl Trail {
             (world_of (record { layout = _layout.now; steps = _before.now.steps; disks = _shelf.now.disks }))
             _shelf.now.disks _state.now _line.now _outcome.now events
             × Notes _state.now.ledger (run (coding _layout.now) events
-                (world_of (record { layout = _layout.now; steps = _before.now.steps; disks = _shelf.now.disks })))
+            (world_of (record { layout = _layout.now; steps = _before.now.steps; disks = _shelf.now.disks })))
             × (result.steps ≡ _before.now.steps ++ record { line = _line.now; events = events } ∷ []) }
     {
         Trail {}

@@ -152,13 +152,7 @@ impl World {
                 Ok(outcome)
             }
             Err(refused) => {
-                self.trail = Trail::left(
-                    &self.trail,
-                    &shelf,
-                    &self.layout,
-                    line,
-                    &self.simulation,
-                );
+                self.trail = Trail::left(&self.trail, &shelf, &self.layout, line, &self.simulation);
                 Err(refused)
             }
         }

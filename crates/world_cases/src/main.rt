@@ -149,7 +149,11 @@ fn write_often(alloc: Global, writes: u64) -> Result<u64> {
     for write in 1..=writes {
         play.said = String::new(alloc);
         let byte = write % 256;
-        play.run(alloc, format!(in alloc; "writeall 0 0 0 {byte:02x}")?.as_str(), "")?;
+        play.run(
+            alloc,
+            format!(in alloc; "writeall 0 0 0 {byte:02x}")?.as_str(),
+            "",
+        )?;
         play.is_past = true;
         play.run(alloc, format!(in alloc; "calm {write} 0 1 2")?.as_str(), "")?;
         play.is_past = false;

@@ -1,5 +1,4 @@
 -- The clock and the times decide.
-use Rattle.std.proofs.Common.{arith}
 use Rattle.world.proofs.CalmLemmas.{in_time_early, late_not_in_time}
 use Rattle.world.proofs.calms.is_in_time.Goals as goal
 

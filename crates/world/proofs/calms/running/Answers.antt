@@ -1,5 +1,5 @@
 -- The brick of the number runs, or it is down.
-use Rattle.std.proofs.Common.{ap, ◌∙◌, sym, arith}
+use Rattle.std.proofs.Common.{ap, ◌∙◌, arith}
 use Rattle.world.specs.declared.bricks.Brick.{Brick}
 use Rattle.world.proofs.CalmLemmas.{running_there, running_not}
 use Rattle.world.proofs.calms.running.Goals as goal

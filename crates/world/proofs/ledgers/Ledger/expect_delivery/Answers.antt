@@ -1,5 +1,5 @@
 -- A note that no message was delivered is as no note.
-use Rattle.std.proofs.Common.{◌≡◌, ℕ, false, List, Bool, get_or, refl, sym, ap, ◌∙◌, arith}
+use Rattle.std.proofs.Common.{false, List, Bool, get_or, refl, ap, ◌∙◌, arith}
 use Rattle.world.proofs.LedgerLists.{padded}
 use Rattle.world.proofs.ledgers.Ledger.expect_delivery.Goals as goal
 

@@ -1,13 +1,9 @@
 -- The operation runs alone where it may, and else nothing happens.
-use Rattle.std.proofs.Common.{◌≡◌, Bool, true, false, List, map, sym, ap, ◌∙◌, subst}
-use Rattle.std.specs.Prelude.{if◌then◌else◌, OnErr}
-use Rattle.protocol.specs.Calms.{IsCalm}
-use Rattle.stripe_code.specs.Codes.{coding}
+use Rattle.std.proofs.Common.{◌≡◌, Bool, true, false, map, sym, ◌∙◌, subst}
 use Rattle.world.specs.Runs.{brick_of}
 use Rattle.world.specs.Shown.{HasRun, disks_of}
 use Rattle.world.proofs.CalmEnds.{run_comes}
 use Rattle.world.proofs.DeliveryLemmas.{idle_comes}
-use Rattle.world.proofs.SimulationLemmas.{on_err_always}
 use Rattle.world.proofs.simulations.Simulation.calm.Goals as goal
 
 pub returns-then-not-is_calm-clause-calm : goal.returns-then-not-is_calm-clause-calm

@@ -1,21 +1,17 @@
 -- All that is asked holds, or something does not.
-use Rattle.std.proofs.Common.{◌≡◌, ℕ, ◌<◌, ◌≤◌, Bool, true, false, List, map, Option, Some, None, is_some, refl, sym, ap, ◌∙◌, subst, arith, length, filter, nat_eq}
+use Rattle.std.proofs.Common.{◌≡◌, ℕ, ◌≤◌, Bool, true, false, List, Some, None, refl, sym, ap, ◌∙◌, subst, arith, length, filter, nat_eq}
 use Rattle.std.specs.Bool.{Decides}
 use Rattle.std.proofs.lemmas.Option.{same_Some}
 use Rattle.fab_base.specs.declared.identities.BrickId.{BrickId}
 use Rattle.fab_base.specs.Layouts.{Group}
 use Rattle.messages.specs.declared.packets.Packet.{Packet}
-use Rattle.stripe_code.specs.Codes.{coding}
-use Rattle.protocol.specs.Worlds.{World}
-use Rattle.protocol.specs.Calms.{IsCalm, IsUntouched}
-use Rattle.world.specs.Ledgers.{Notes, IsUntouchedAt}
-use Rattle.world.specs.Runs.{brick_of}
-use Rattle.world.specs.Shown.{Shows, ShowsBricks, IsReachedBy, IsInTime}
+use Rattle.world.specs.Ledgers.{IsUntouchedAt}
+use Rattle.world.specs.Shown.{ShowsBricks, IsInTime}
 use Rattle.world.specs.declared.bricks.Brick.{Brick}
 use Rattle.world.specs.declared.ledgers.Origin.{Origin}
 use Rattle.quorum.specs.Quorums.{quorum_of}
 use Rattle.std.specs.List.{list_any}
-use Rattle.world.proofs.CalmLemmas.{Here, CalmParts, calm_of, parts_of, open_here}
+use Rattle.world.proofs.CalmLemmas.{calm_of, parts_of, open_here}
 use Rattle.world.proofs.CalmRuns.{untouched_as, touched_as}
 use Rattle.world.proofs.RunLaws.{reached_books, reached_bricks, reached_knows, reached_numbers}
 use Rattle.world.proofs.simulations.Simulation.is_calm.Goals as goal

@@ -1,15 +1,12 @@
 -- The ledger and the brick tell whether it is open.
-use Rattle.std.proofs.Common.{◌≡◌, ℕ, true, false, inl, inr, List, Some, None, sym, ap, ◌∙◌, subst}
-use Rattle.std.proofs.lemmas.Bool.{and_parts}
+use Rattle.std.proofs.Common.{◌≡◌, ℕ, true, false, inl, inr, List, sym, ap, ◌∙◌, subst}
 use Rattle.fab_base.specs.declared.identities.BrickId.{BrickId}
 use Rattle.stripe_code.specs.Codes.{coding}
-use Rattle.protocol.specs.Nodes.{Node}
 use Rattle.protocol.specs.Worlds.{is_brick, is_up}
 use Rattle.world.specs.Runs.{brick_of}
-use Rattle.world.specs.Shown.{ShowsBricks, IsRunning}
+use Rattle.world.specs.Shown.{ShowsBricks}
 use Rattle.world.specs.declared.bricks.Brick.{Brick}
 use Rattle.world.proofs.CalmLemmas.{open_nowhere, noted_at, open_shut, open_there, down_is, up_of, running_boot}
-use Rattle.world.proofs.CalmRuns.{begins_more, runs_ended, runs_stuck, keeps_more, next_found, next_none}
 use Rattle.world.proofs.RunLaws.{reached_books, reached_bricks}
 use Rattle.world.proofs.simulations.Simulation.open_origin.Goals as goal
 

@@ -1,11 +1,11 @@
 -- Each line is its events.
-use Rattle.std.proofs.Common.{◌≡◌, List, None, map, refl, sym, ap, ◌∙◌, subst}
-use Rattle.std.specs.Prelude.{IfOk, OnOk, OnErr}
+use Rattle.std.proofs.Common.{List, None, map, refl, sym, ap, ◌∙◌, subst}
+use Rattle.std.specs.Prelude.{IfOk, OnErr}
 use Rattle.std.proofs.lemmas.Result.{on_err_weaker}
 use Rattle.fab_disk.specs.MemDisk.{content_of}
 use Rattle.fab_disk.specs.declared.mem_disk.MemDisk.{MemDisk}
 use Rattle.lines.specs.declared.forms.Line.{Line}
-use Rattle.lines.specs.declared.forms.Line.TheVariants.{Nothing, Invoke, Deliver, SetClock, Tick, Crash, Start, Calm}
+use Rattle.lines.specs.declared.forms.Line.TheVariants.{Invoke, SetClock, Tick, Crash, Calm}
 use Rattle.protocol.specs.Worlds.{World, Event, Invokes, Sets, Ticks, Stops}
 use Rattle.world.specs.Runs.{brick_of, ask_of, op_of}
 use Rattle.world.specs.Disks.{changes_disk_of}

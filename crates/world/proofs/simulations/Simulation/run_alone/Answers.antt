@@ -1,6 +1,5 @@
 -- Each message that is left is delivered, and the operation ends, or none is left.
-use Rattle.std.proofs.Common.{rules, ◌≡◌, ℕ, ◌+◌, ◌<◌, List, length, None, Some, sym, ap, ◌∙◌, subst, arith}
-use Rattle.std.specs.Prelude.{slice_get}
+use Rattle.std.proofs.Common.{rules, ◌+◌, ◌<◌, List, length, None, Some, ◌∙◌, subst}
 use Rattle.std.proofs.lemmas.Option.{slice_get_within}
 use Rattle.lines.specs.declared.forms.Line.TheVariants.{Deliver}
 use Rattle.messages.specs.declared.packets.Packet.{Packet}
@@ -51,10 +50,10 @@ overflow_add-from c =
 pub loop-origin-preserved : goal.loop-origin-preserved
 loop-origin-preserved c = (
   (
-    let (v, reached, shows, notes) = c.loop-origin.invariant.0 in
-    stands_on c.args.layout.now v (disks_of c.loop-origin.self.bricks.items) c.deliver.new.self (Deliver (c.in-Some-next_left.place + 1) None)
-    c.in_ok-deliver.field-0 reached (c.in_ok-deliver.ensures.comes v reached shows notes)
-  ),
+      let (v, reached, shows, notes) = c.loop-origin.invariant.0 in
+      stands_on c.args.layout.now v (disks_of c.loop-origin.self.bricks.items) c.deliver.new.self (Deliver (c.in-Some-next_left.place + 1) None)
+      c.in_ok-deliver.field-0 reached (c.in_ok-deliver.ensures.comes v reached shows notes)
+      ),
   λ w reached shows notes calm.
       (let so = c.loop-origin.invariant.1 w reached shows notes calm in
       goes_on c.args.layout.now w c.args.operation c.args.bricks.now (disks_of c.args.self.now.bricks.items) c.loop-origin.self c.loop-origin.from

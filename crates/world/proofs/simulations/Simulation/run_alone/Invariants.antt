@@ -1,5 +1,5 @@
 -- The deliveries so far were made alone, and none of the messages that were looked at is left.
-use Rattle.std.proofs.Common.{◌≡◌, ℕ, ◌-◌, ◌^◌, List, map, Bool}
+use Rattle.std.proofs.Common.{◌-◌, ◌^◌, map}
 use Rattle.stripe_code.specs.Codes.{coding}
 use Rattle.protocol.specs.Worlds.{World}
 use Rattle.protocol.specs.Calms.{IsCalm}

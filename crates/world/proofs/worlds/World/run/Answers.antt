@@ -1,11 +1,11 @@
 -- The state shows the world that the run leaves, and its ledger notes it, with or without the step.
-use Rattle.std.proofs.Common.{◌≡◌, ◌≤◌, ◌⊎◌, inl, inr, List, [], ◌∷◌, ◌++◌, length, refl, sym, subst}
+use Rattle.std.proofs.Common.{◌≡◌, ◌≤◌, List, [], ◌∷◌, ◌++◌, length, refl, sym, subst}
 use Rattle.fab_disk.specs.declared.mem_disk.MemDisk.{MemDisk}
-use Rattle.protocol.specs.Worlds.{Event, World, run}
+use Rattle.protocol.specs.Worlds.{Event, run}
 use Rattle.stripe_code.specs.Codes.{coding}
 use Rattle.world.specs.Ledgers.{Notes}
 use Rattle.world.specs.Runs.{Run, Step, world_of}
-use Rattle.world.specs.Shown.{Comes, ComesTo, Refused, disks_of}
+use Rattle.world.specs.Shown.{Comes, ComesTo, disks_of}
 use Rattle.world.specs.Standing.{Leaves, run_of}
 use Rattle.world.specs.Steps.{RunsTo, LeavesSome}
 use Rattle.world.proofs.BrickListLemmas.{nodes_of}
