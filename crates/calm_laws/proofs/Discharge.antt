@@ -72,6 +72,7 @@ module _ (setting : Setting) (sound : IsSound setting) (encodes : EncodesBlocks 
   known_call : KnownCall setting w n o c
   known_call = record {
     brick = subst (λ (b : BrickId). is_brick setting.layout b ≡ true) (its.stamp_brick ∙ ap (λ (z : Operation). z.brick) the_operation) fresh.there;
+    ask = ask;
     number = its_books.number;
     boot = its.call_boot ∙ boot;
     seq = its.call_seq;

@@ -23,6 +23,7 @@ repeated (suc k) xs = xs ++ repeated k xs
 -- The operation's call, which no reply has reached: it is in its first phase.
 pub record KnownCall (setting : Setting) (w : World) (n : ℕ) (o : Operation) (c : Coordinator) : Type 0 where
   pub brick : is_brick setting.layout o.brick ≡ true
+  pub ask : c.ask ≡ o.ask
   pub number : w.numbers o.brick.0 o.boot o.seq ≡ n
   pub boot : c.call.boot ≡ o.boot
   pub seq : c.call.seq ≡ o.seq

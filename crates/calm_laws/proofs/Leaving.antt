@@ -1,9 +1,10 @@
 -- Where just a quorum of an operation's members hear one another, its Collects leave each of them its version only.
-use Rattle.std.proofs.Common.{◌≡◌, ℕ, suc, ◌+◌, ◌≤◌, true, List, [], ◌∷◌, ◌++◌, map, Option, Some, None, refl, sym, ap, ◌∙◌, subst, ⊎_elim, take, eqb-true, inl}
+use Rattle.std.proofs.Common.{◌≡◌, ℕ, suc, ◌+◌, ◌≤◌, ◌&&◌, true, not, nat_lt, List, [], ◌∷◌, ◌++◌, map, Option, Some, None, refl, sym, ap, ◌∙◌, subst, ⊎_elim, take, eqb-true, inl}
 use Rattle.std.specs.Prelude.{is_some, nat_eq, slice_get}
-use Rattle.std.proofs.lemmas.Bool.{false≢true, or_cases}
+use Rattle.std.proofs.lemmas.Bool.{false≢true, or_cases, and_parts, and_from, cond-true}
 use Rattle.std.proofs.lemmas.Option.{same_Some}
-use Rattle.fab_base.specs.Layouts.{seat_in}
+use Rattle.fab_base.specs.Layouts.{Layout, Group, group_of, seat_in}
+use Rattle.fab_base.specs.declared.asks.Ask.{Ask}
 use Rattle.fab_base.specs.declared.identities.BrickId.{BrickId}
 use Rattle.fab_base.specs.declared.stamps.Stamp.{Stamp}
 use Rattle.messages.specs.declared.calls.Call.{Call}
@@ -13,10 +14,10 @@ use Rattle.messages.specs.declared.requests.Request.{Request}
 use Rattle.messages.specs.declared.requests.Version.{Version}
 use Rattle.protocol.specs.Calms.{IsCalm}
 use Rattle.protocol.specs.Coordinators.{Coordinator}
-use Rattle.protocol.specs.Nodes.{Node, collect_packets, replica_at, to_members}
+use Rattle.protocol.specs.Nodes.{Node, collect_packets, is_served, replica_at, to_members, view_at}
 use Rattle.protocol.specs.Replicas.{Replica, not_below}
 use Rattle.protocol.specs.Settings.{IsSound, Setting}
-use Rattle.protocol.specs.Worlds.{Delivers, Event, Operation, World, first_world, happens, run}
+use Rattle.protocol.specs.Worlds.{Delivers, Event, Operation, World, first_world, happens, is_up, run}
 use Rattle.protocol.specs.declared.phases.Phase.{Phase}
 use Rattle.protocol.specs.declared.phases.Phase.TheVariants.{Bases, Descends, Looks, LooksAt, Modifies, Orders, OrdersAt, Recovers, Stores}
 use Rattle.protocol_laws.proofs.Books.{Books, CallBooks, IsMade, MadeInPhase, version_after}
@@ -33,16 +34,13 @@ use Rattle.calm_laws.proofs.Finishing.{runs_once, runs_to}
 use Rattle.calm_laws.proofs.Known.{Known}
 use Rattle.calm_laws.proofs.Once.{IsOnce, always_once, only_newest}
 use Rattle.calm_laws.proofs.Plays.{Finishes, HasEnded}
+use Rattle.calm_laws.proofs.Schedules.{run-append}
 use Rattle.calm_laws.proofs.Scenes.{Each, EndsAt, IsNewest, Part, Stage}
 use Rattle.calm_laws.proofs.Shows.{IsMember, call_same_but}
 use Rattle.calm_laws.proofs.Storing.{held_newest}
 use Rattle.calm_laws.specs.Laws.{AreCollects, AreJustQuorum, CollectsLeaveOne, EncodesBlocks, HasOnly, IsCollect, IsMemberAmong, LeavesOne, most_records}
+use Rattle.calm_laws.specs.Logs.{is_stripe, log_in}
 use Rattle.quorum.specs.Quorums.{quorum_of}
-
--- one schedule after another
-run_append : (setting : Setting) (events more : List Event) (w : World) → run setting (events ++ more) w ≡ run setting more (run setting events w)
-run_append setting [] more w = refl
-run_append setting (event ∷ events) more w = run_append setting events more (happens setting w event)
 
 -- an operation that has made a version has made its coordinator's
 made_is : (c : Coordinator) (o : Operation) (p : Phase) → MadeInPhase c o p → o.made ≡ true → IsMade c o
@@ -82,6 +80,26 @@ sent_each me call request seat (member ∷ members) brick seated = ⊎_elim
     (λ (there : is_some (seat_in members brick.0) ≡ true).
     let rest = sent_each me call request (seat + 1) members brick there in (suc rest.0, rest.1))
     (or_cases (nat_eq member.0 brick.0) (is_some (seat_in members brick.0)) (sym (seat_some member members brick.0) ∙ seated))
+
+-- a brick that serves a call shows the log that it keeps for it
+shown_log : (layout : Layout) (v : World) (brick : BrickId) (group : Group) (call : Call) (g s : ℕ) → group_of layout g ≡ Some group → call.group.0 ≡ g
+    → call.stripe.0 ≡ s → is_up layout v brick ≡ true → is_served group (v.nodes brick.0) call ≡ true
+    → log_in layout v brick g s ≡ Some (replica_at (v.nodes brick.0) call).log
+shown_log layout v brick group call g s group_is of_group of_stripe up served =
+    let within = and_parts (nat_lt call.stripe.0 group.stripes) (nat_eq call.view.0 (view_at node call.group.0) && not (node.accepted call.group.0)) served in
+    let view : call.view.0 ≡ view_at node call.group.0
+    = eqb-true call.view.0 (view_at node call.group.0)
+    (and_parts (nat_eq call.view.0 (view_at node call.group.0)) (not (node.accepted call.group.0)) within.1).0 in
+    let there : is_stripe (group_of layout g) s ≡ true
+    = ap (λ (z : Option Group). is_stripe z s) group_is ∙ ap (λ (j : ℕ). nat_lt j group.stripes) (sym of_stripe) ∙ within.0 in
+    cond-true (is_stripe (group_of layout g) s && is_up layout v brick) (Some (node.replicas g (view_at node g) s).log) None
+    (and_from (is_stripe (group_of layout g) s) (is_up layout v brick) there up)
+    ∙ ap (λ (i : ℕ). Some (node.replicas i (view_at node i) s).log) (sym of_group)
+    ∙ ap (λ (e : ℕ). Some (node.replicas call.group.0 e s).log) (sym view)
+    ∙ ap (λ (j : ℕ). Some (node.replicas call.group.0 call.view.0 j).log) (sym of_stripe)
+  where
+    node : Node
+    node = v.nodes brick.0
 
 -- where an operation has ended whose version is t, that was stored, and is the newest at the members whose replies count
 ends_stored : (stage : Stage) (c : Coordinator) (o : Operation) (parts : ℕ → Part) (t : Stamp) (seen stored : Option Stamp)
@@ -131,7 +149,7 @@ module _ (setting : Setting) (events : List Event) (n : ℕ) (bricks : List Bric
     -- the books of the world before the last delivery
     its : CallBooks setting before calm.operation.brick.0 d.call.seq d
     its =
-        (subst (λ (z : World). Books setting z) (run_append setting events end.events (first_world setting.layout))
+        (subst (λ (z : World). Books setting z) (run-append setting (first_world setting.layout) events end.events)
         (books setting (events ++ end.events))).calls calm.operation.brick.0 d.call.seq d end.call
 
     its_operation : its.operation ≡ end.before
@@ -152,7 +170,7 @@ module _ (setting : Setting) (events : List Event) (n : ℕ) (bricks : List Bric
     -- the world is a run's
     reached : run setting (events ++ finish.events) (first_world setting.layout) ≡ last
     reached =
-        run_append setting events finish.events (first_world setting.layout)
+        run-append setting (first_world setting.layout) events finish.events
         ∙ runs_to setting n bricks w finish.events last finish.alone
 
     module _ (brick : BrickId) (among : IsMemberAmong c bricks brick) where
@@ -177,7 +195,7 @@ module _ (setting : Setting) (events : List Event) (n : ℕ) (bricks : List Bric
 
       -- and all that is left once a Collect of it was delivered
       only_one : (numbers : List ℕ) → AreCollects last calm.operation.brick c t bricks numbers
-          → HasOnly (run setting (map (λ number. Delivers number) numbers) last) c t brick
+          → HasOnly setting.layout (run setting (map (λ number. Delivers number) numbers) last) calm.operation.ask t brick
       only_one numbers collects =
           let own = collects.all brick among in
           let seat = seat_there (seat_in c.group.members brick.0) among.1 in
@@ -192,7 +210,12 @@ module _ (setting : Setting) (events : List Event) (n : ℕ) (bricks : List Bric
             packets = λ number packet is. is;
           })) in (
             newest.0.block,
-            keeps.log_is ∙ ap (λ (s : Stamp). (let x : Version = record { stamp = s; block = newest.0.block } in x) ∷ []) newest.2,
+            shown_log setting.layout (run setting (map (λ number. Delivers number) numbers) last) brick c.group c.call calm.operation.ask.group.0
+                calm.operation.ask.stripe.0 (ap (λ (a : Ask). group_of setting.layout a.group.0) (sym known.call.ask) ∙ known.call.group_is)
+                (ap (λ g. g.0) known.call.of_group ∙ ap (λ (a : Ask). a.group.0) known.call.ask)
+                (ap (λ s. s.0) known.call.stripe ∙ ap (λ (a : Ask). a.stripe.0) known.call.ask) keeps.member.up keeps.member.served
+                ∙ ap (λ (l : List Version). Some l) keeps.log_is
+                ∙ ap (λ (s : Stamp). Some ((let x : Version = record { stamp = s; block = newest.0.block } in x) ∷ [])) newest.2,
           )
 
       -- the Collect was sent
@@ -214,17 +237,17 @@ module _ (setting : Setting) (events : List Event) (n : ℕ) (bricks : List Bric
           )
 
     -- so its Collects leave one version
-    leaves_one : LeavesOne setting last calm.operation.brick c t bricks
+    leaves_one : LeavesOne setting last calm.operation c t bricks
     leaves_one = record { sent = λ brick among. was_sent brick among; left = λ numbers collects brick among. only_one brick among numbers collects }
 
 -- after every schedule
 pub collects_leave : CollectsLeaveOne
-collects_leave setting events n bricks sound encodes small calm exactly alone last runs operation t is made version =
+collects_leave setting events n bricks sound encodes small calm alone last runs exactly operation t is made version =
     let w : World = run setting events (first_world setting.layout) in
     let finish = finishes setting sound encodes w n bricks calm (known_of setting events n bricks sound encodes small calm) in
     let same : finish.last ≡ last = (runs_once setting n bricks w finish.events finish.last finish.alone alone last runs).1 in
     let its : finish.end.operation ≡ operation
     = same_Some finish.end.operation operation (sym finish.end.is ∙ ap (λ (z : World). z.operations n) same ∙ is) in
-    subst (λ (z : World). LeavesOne setting z calm.operation.brick calm.coordinator t bricks) same
+    subst (λ (z : World). LeavesOne setting z calm.operation calm.coordinator t bricks) same
     (leaves_one setting events n bricks sound encodes small calm exactly t finish
     (ap (λ (o : Operation). o.made) its ∙ made) (ap (λ (o : Operation). o.version) its ∙ version))

@@ -1,14 +1,15 @@
 -- The laws of an operation that runs alone: it is answered, and its Collects leave one version.
 use Rattle.quorum.specs.Quorums.{quorum_of}
-use Rattle.protocol.specs.Nodes.{replica_at}
 use Rattle.protocol.specs.Coordinators.{Coordinator}
 use Rattle.messages.specs.declared.requests.Request.{Request}
 use Rattle.messages.specs.declared.packets.Message.{Message}
 use Rattle.fab_base.specs.declared.stamps.Stamp.{Stamp}
-use Rattle.fab_base.specs.Layouts.{seat_in}
+use Rattle.fab_base.specs.declared.asks.Ask.{Ask}
+use Rattle.fab_base.specs.Layouts.{Layout, seat_in}
 use Rattle.std.proofs.Common.{List, None, Some, length, true, ℕ, ◌≡◌, ◌≤◌, [], ◌∷◌}
 use Rattle.std.specs.Prelude.{◌^◌, filter, is_some, map, slice_get}
 use Rattle.fab_base.specs.declared.identities.BrickId.{BrickId}
+use Rattle.calm_laws.specs.Logs.{log_in}
 use Rattle.protocol.specs.Calms.{IsCalm, RunsAlone, open_call, is_one_of}
 use Rattle.protocol.specs.Settings.{IsSound, Setting}
 use Rattle.protocol.specs.Worlds.{Event, Operation, World, first_world, run, Delivers, packet_of}
@@ -64,24 +65,29 @@ pub record AreCollects (w : World) (me : BrickId) (c : Coordinator) (t : Stamp) 
   pub each : (k number : ℕ) → slice_get numbers k ≡ Some number → (brick : BrickId) × IsCollect w me c t brick number
   pub all : (brick : BrickId) → IsMemberAmong c bricks brick → (k : ℕ) × (number : ℕ) × (slice_get numbers k ≡ Some number) × IsCollect w me c t brick number
 
--- a brick's log of the operation's stripe has this one version
-abbrev pub HasOnly : World → Coordinator → Stamp → BrickId → Type 0
-HasOnly w c t brick = (block : List ℕ) × ((replica_at (w.nodes brick.0) c.call).log ≡ record { stamp = t; block = block } ∷ [])
+-- a brick's log of the stripe that is asked for has this one version
+abbrev pub HasOnly : Layout → World → Ask → Stamp → BrickId → Type 0
+HasOnly layout w ask t brick =
+    (block : List ℕ) × (log_in layout w brick ask.group.0 ask.stripe.0 ≡ Some (record { stamp = t; block = block } ∷ []))
 
 -- A Collect of version t was sent to each member among these bricks; and once such were delivered, to each of them and nothing else, each has only
 -- that version.
-pub record LeavesOne (setting : Setting) (w : World) (me : BrickId) (c : Coordinator) (t : Stamp) (bricks : List BrickId) : Type 0 where
-  pub sent : (brick : BrickId) → IsMemberAmong c bricks brick → (number : ℕ) × IsCollect w me c t brick number
-  pub left : (numbers : List ℕ) → AreCollects w me c t bricks numbers → (brick : BrickId) → IsMemberAmong c bricks brick
-      → HasOnly (run setting (map (λ number. Delivers number) numbers) w) c t brick
+pub record LeavesOne (setting : Setting) (w : World) (o : Operation) (c : Coordinator) (t : Stamp) (bricks : List BrickId) : Type 0 where
+  pub sent : (brick : BrickId) → IsMemberAmong c bricks brick → (number : ℕ) × IsCollect w o.brick c t brick number
+  pub left : (numbers : List ℕ) → AreCollects w o.brick c t bricks numbers → (brick : BrickId) → IsMemberAmong c bricks brick
+      → HasOnly setting.layout (run setting (map (λ number. Delivers number) numbers) w) o.ask t brick
 
--- After every schedule: where an operation ran alone among bricks of which just a quorum are members, and made a version, its Collects leave only that
--- version at these.
+-- Where an operation ran alone among bricks of which just a quorum are members, and made a version, its Collects leave only that version at these.
+abbrev pub LeavesItsOwn : (setting : Setting) (w : World) (n : ℕ) (bricks : List BrickId) → IsCalm setting w n bricks → World → Type 0
+LeavesItsOwn setting w n bricks calm last =
+    AreJustQuorum calm.coordinator bricks → (operation : Operation) (t : Stamp)
+    → last.operations n ≡ Some operation → operation.made ≡ true → operation.version ≡ Some t
+    → LeavesOne setting last calm.operation calm.coordinator t bricks
+
+-- so after every schedule
 abbrev pub CollectsLeaveOne : Type 0
 CollectsLeaveOne =
     (setting : Setting) (events : List Event) (n : ℕ) (bricks : List BrickId) → IsSound setting → EncodesBlocks setting
     → setting.layout.records ≤ most_records → (calm : IsCalm setting (run setting events (first_world setting.layout)) n bricks)
-    → AreJustQuorum calm.coordinator bricks → (alone : List Event) (last : World)
-    → RunsAlone setting n bricks (run setting events (first_world setting.layout)) alone last → (operation : Operation) (t : Stamp)
-    → last.operations n ≡ Some operation → operation.made ≡ true → operation.version ≡ Some t
-    → LeavesOne setting last calm.operation.brick calm.coordinator t bricks
+    → (alone : List Event) (last : World) → RunsAlone setting n bricks (run setting events (first_world setting.layout)) alone last
+    → LeavesItsOwn setting (run setting events (first_world setting.layout)) n bricks calm last

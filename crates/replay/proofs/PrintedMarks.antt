@@ -15,7 +15,7 @@ use Rattle.protocol.specs.Worlds.{World, Event, Found, Invokes, Delivers, Sets, 
 use Rattle.lines.specs.declared.forms.Line.{Line}
 use Rattle.lines.specs.declared.forms.Line.TheVariants.{Calm}
 use Rattle.world.specs.Runs.{Step, all_events}
-use Rattle.world.proofs.RunLemmas.{run-append}
+use Rattle.calm_laws.proofs.Schedules.{run-append}
 use Rattle.world.specs.Texts.{mark_text, marks_text, new_marks, is_deliverable, marks_if, outcome_of, outcome_text, event_text, text_of, line_text, step_text, refused_or_begun}
 use Rattle.world.specs.declared.simulations.Outcome.{Outcome}
 use Rattle.world.specs.declared.simulations.Outcome.TheVariants.{Marks, Refused, Idle}

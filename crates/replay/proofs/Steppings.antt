@@ -10,7 +10,8 @@ use Rattle.protocol.specs.Worlds.{World, run}
 use Rattle.world.specs.Runs.{Run, Step, world_of, all_events}
 use Rattle.world.specs.Steps.{Runs}
 use Rattle.world.specs.Texts.{step_text}
-use Rattle.world.proofs.RunLemmas.{run-append, world_of-with_step}
+use Rattle.calm_laws.proofs.Schedules.{run-append}
+use Rattle.world.proofs.RunLemmas.{world_of-with_step}
 use Rattle.replay.specs.Outputs.{steps_text}
 use Rattle.replay.specs.LineSteps.{LeadsTo, AreLinesOfSteps}
 

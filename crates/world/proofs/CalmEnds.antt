@@ -12,8 +12,9 @@ use Rattle.protocol.specs.Worlds.{World, Event, Delivers, happens, run}
 use Rattle.rs_code.proofs.StripeLaws.{length-coded_block}
 use Rattle.stripe_code.specs.Codes.{coding}
 use Rattle.stripe_code.proofs.Soundness.{coding_is_sound}
-use Rattle.calm_laws.specs.Laws.{IsOver}
+use Rattle.calm_laws.specs.Laws.{IsOver, LeavesItsOwn}
 use Rattle.calm_laws.proofs.Discharge.{calm_ends}
+use Rattle.calm_laws.proofs.Leaving.{collects_leave}
 use Rattle.world.specs.Ledgers.{Notes}
 use Rattle.world.specs.Runs.{brick_of}
 use Rattle.world.specs.Shown.{Shows, Comes, Refused, HasRun, HasBegun, IsReachedBy, disks_of, is_empty}
@@ -22,12 +23,22 @@ use Rattle.world.specs.declared.simulations.Outcome.TheVariants.{Marks, Idle}
 use Rattle.world.specs.declared.simulations.Simulation.{Simulation}
 use Rattle.world.proofs.CalmRuns.{begins_run}
 
-pub over_alone : (layout : Layout) (is : IsLayout layout) (n : ℕ) (bricks : List BrickId) (w last : World) (events : List Event) → IsReachedBy layout w
+-- it is over
+over_alone : (layout : Layout) (is : IsLayout layout) (n : ℕ) (bricks : List BrickId) (w last : World) (events : List Event) → IsReachedBy layout w
     → IsCalm (coding layout) w n bricks → RunsAlone (coding layout) n bricks w events last → IsOver last n
 over_alone layout is n bricks w last events (before, reached) calm runs =
     (calm_ends (coding layout) before n bricks (coding_is_sound layout is) (λ m content seat. length-coded_block m layout.block content seat)
     is.few_records (subst (λ (v : World). IsCalm (coding layout) v n bricks) reached calm)).over events last
     (subst (λ (v : World). RunsAlone (coding layout) n bricks v events last) reached runs)
+
+-- and its Collects leave its own version only
+leaves_own : (layout : Layout) (is : IsLayout layout) (n : ℕ) (bricks : List BrickId) (w last : World) (events : List Event) → IsReachedBy layout w
+    → (calm : IsCalm (coding layout) w n bricks) → RunsAlone (coding layout) n bricks w events last → LeavesItsOwn (coding layout) w n bricks calm last
+leaves_own layout is n bricks w last events (before, reached) =
+    subst (λ (v : World). (calm : IsCalm (coding layout) v n bricks) → RunsAlone (coding layout) n bricks v events last
+    → LeavesItsOwn (coding layout) v n bricks calm last) (sym reached)
+    (λ calm runs. collects_leave (coding layout) before n bricks (coding_is_sound layout is)
+    (λ m content seat. length-coded_block m layout.block content seat) is.few_records calm events last runs)
 
 -- it leaves the world after its events
 runs_run : (setting : Setting) (n : ℕ) (bricks : List BrickId) (w last : World) (events : List Event) → RunsAlone setting n bricks w events last
@@ -50,14 +61,15 @@ pub run_comes : (layout : Layout) (is : IsLayout layout) (w : World) (n : ℕ) (
     → IsReachedBy layout w → IsCalm (coding layout) w n (map brick_of numbers) → HasRun layout w n (map brick_of numbers) disks state some
     → Comes layout w disks state (Calm n numbers) (if some then Marks else Idle)
 run_comes layout is w n numbers disks state some reached calm has =
-    let after : has.last ≡ run (coding layout) has.events w = runs_run (coding layout) n (map brick_of numbers) w has.last has.events has.runs in (
+    let after : has.last ≡ run (coding layout) has.events w = runs_run (coding layout) n (map brick_of numbers) w has.last has.events has.runs in
+    let runs = subst (λ (v : World). RunsAlone (coding layout) n (map brick_of numbers) w has.events v) after has.runs in (
       has.events,
       record {
         are = inl (record {
           calm = calm;
-          last = has.last;
-          runs = has.runs;
-          over = over_alone layout is n (map brick_of numbers) w has.last has.events reached calm has.runs;
+          runs = runs;
+          over = over_alone layout is n (map brick_of numbers) w (run (coding layout) has.events w) has.events reached calm runs;
+          leaves = leaves_own layout is n (map brick_of numbers) w (run (coding layout) has.events w) has.events reached calm runs;
         });
         shows = subst (λ (v : World). Shows layout state v) after has.shows;
         prints =

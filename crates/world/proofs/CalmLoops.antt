@@ -41,7 +41,7 @@ use Rattle.world.proofs.CalmRuns.{begins_more, begins_run, runs_ended, runs_stuc
 use Rattle.world.proofs.LedgerLemmas.{KnowsCalls, told_reached, answers_reached}
 use Rattle.world.proofs.MachineBegins.{after_message, happens_handled}
 use Rattle.world.proofs.RunLaws.{reached_numbers, reached_knows}
-use Rattle.world.proofs.RunLemmas.{run-append}
+use Rattle.calm_laws.proofs.Schedules.{run-append}
 
 -- what is told and answered stops no brick
 told_up : (setting : Setting) (w : World) (brick : BrickId) (told : List Told) → (world_tells setting w brick told).up ≡ w.up

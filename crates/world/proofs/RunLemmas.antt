@@ -28,7 +28,9 @@ use Rattle.world.specs.Runs.{Run, Step, world_of, all_events, brick_of}
 use Rattle.world.specs.Faults.{IsEventsOf, IsStartOf, StaysDown, IsStarted, IsNoStart}
 use Rattle.world.specs.Disks.{ShowsDiskOf, ShowsDisks, KeepsDisks, LeavesContents}
 use Rattle.world.specs.Shown.{IsNumbered, Shows, ShowsBricks, ShowsPower, ComesTo, Refused, disk_in, disks_of, came_to}
-use Rattle.world.specs.Steps.{Runs, RunsTo, LeavesSome, with_step, is_stripe, log_at}
+use Rattle.calm_laws.specs.Logs.{is_stripe}
+use Rattle.calm_laws.proofs.Schedules.{run-append}
+use Rattle.world.specs.Steps.{Runs, RunsTo, LeavesSome, with_step, log_at}
 use Rattle.world.specs.Standing.{Leaves}
 use Rattle.world.specs.Ledgers.{Notes}
 use Rattle.world.specs.Texts.{text_of, event_text, marks_text, outcome_text, new_marks, line_text, step_text}
@@ -38,11 +40,6 @@ use Rattle.world.specs.declared.bricks.Power.TheVariants.{Up, Down}
 use Rattle.world.specs.declared.simulations.Outcome.{Outcome}
 use Rattle.world.specs.declared.simulations.Simulation.{Simulation}
 use Rattle.world.proofs.MachineBegins.{after_message}
-
--- events behind others
-pub run-append : (setting : Setting) (w : World) (events more : List Event) → run setting (events ++ more) w ≡ run setting more (run setting events w)
-run-append setting w [] more = refl
-run-append setting w (event ∷ events) more = run-append setting (happens setting w event) events more
 
 -- the events of one step more
 pub all_events-more : (steps : List Step) (step : Step) → all_events (steps ++ step ∷ []) ≡ all_events steps ++ step.events

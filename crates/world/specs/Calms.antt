@@ -2,16 +2,17 @@
 use Rattle.std.specs.Prelude.{◌≡◌, ◌⊎◌, ℕ, true, is_some, List, [], ◌∷◌, Some}
 use Rattle.fab_base.specs.declared.identities.BrickId.{BrickId}
 use Rattle.protocol.specs.Settings.{Setting}
-use Rattle.protocol.specs.Worlds.{World, Event, Delivers, happens}
+use Rattle.protocol.specs.Worlds.{World, Event, Delivers, happens, run}
 use Rattle.protocol.specs.Calms.{IsCalm, RunsAlone, open_call, next_delivery}
-use Rattle.calm_laws.specs.Laws.{IsOver}
+use Rattle.calm_laws.specs.Laws.{IsOver, LeavesItsOwn}
 
--- An operation may run alone among these bricks, and does. It is over then: it was answered data, or that it is done.
+-- An operation may run alone among these bricks, and does. It is over then: it was answered data, or that it is done. And the Collects of a version
+-- that it made leave only that, where just a quorum of its members are among these bricks.
 pub record RunsCalm (setting : Setting) (w : World) (n : ℕ) (bricks : List BrickId) (events : List Event) : Type 0 where
   pub calm : IsCalm setting w n bricks
-  pub last : World
-  pub runs : RunsAlone setting n bricks w events last
-  pub over : IsOver last n
+  pub runs : RunsAlone setting n bricks w events (run setting events w)
+  pub over : IsOver (run setting events w) n
+  pub leaves : LeavesItsOwn setting w n bricks calm (run setting events w)
 
 -- so it does where it may, and else nothing happens
 abbrev pub IsCalmRun : Setting → World → ℕ → List BrickId → List Event → Type 0

@@ -1,14 +1,12 @@
 -- What a step of a run comes to.
-use Rattle.std.specs.Prelude.{◌≡◌, ℕ, ◌⊎◌, nat_lt, ◌&&◌, if◌then◌else◌, Bool, false, List, [], ◌∷◌, ◌++◌, map, Option, Some, None, Result, Ok, Err}
+use Rattle.std.specs.Prelude.{◌≡◌, ℕ, ◌⊎◌, List, [], ◌∷◌, ◌++◌, map, Option, Some, None, Result, Ok, Err}
 use Rattle.messages.specs.declared.requests.Version.{Version}
 use Rattle.fab_disk.specs.MemDisk.{content_of}
 use Rattle.fab_disk.specs.declared.mem_disk.MemDisk.{MemDisk}
 use Rattle.lines.specs.Grammar.{line_of}
 use Rattle.lines.specs.declared.forms.Line.{Line}
 use Rattle.stripe_code.specs.Codes.{coding}
-use Rattle.fab_base.specs.Layouts.{Group, group_of}
-use Rattle.protocol.specs.Nodes.{view_at}
-use Rattle.protocol.specs.Worlds.{is_up}
+use Rattle.calm_laws.specs.Logs.{log_in}
 use Rattle.world.specs.Runs.{Run, Step, world_of, brick_of}
 use Rattle.world.specs.Faults.{IsEventsOf}
 use Rattle.world.specs.Disks.{KeepsDisks, LeavesContents}
@@ -69,13 +67,6 @@ Stands old new content (Err NoMemory) =
     IsAsBefore old new
     ⊎ ((line : Line) × (step : Step) × (line_of content ≡ Some line) × (Runs old new line step ⊎ RunsPartly old new line step))
 
--- a stripe of the group
-abbrev pub is_stripe : Option Group → ℕ → Bool
-is_stripe None s = false
-is_stripe (Some group) s = nat_lt s group.stripes
-
 -- the log of a brick's part of a stripe in the view that it has learnt, where there is such a brick, it is up, and there is such a stripe
 abbrev pub log_at : Run → ℕ → ℕ → ℕ → Option (List Version)
-log_at r b g s =
-    if is_stripe (group_of r.layout g) s && is_up r.layout (world_of r) (brick_of b)
-    then Some (((world_of r).nodes b).replicas g (view_at ((world_of r).nodes b) g) s).log else None
+log_at r b g s = log_in r.layout (world_of r) (brick_of b) g s
