@@ -20,6 +20,7 @@ pub mod CallSteps
 pub mod TimeLemmas
 pub mod LedgerLemmas
 pub mod LedgerLists
+pub mod Numberless
 pub mod CalmLemmas
 pub mod CalmRuns
 pub mod CalmLoops

@@ -198,6 +198,16 @@ impl Ledger {
         }
     }
 
+    /// Whether the message of a number was delivered. There is none of number 0.
+    pub fn was_delivered(&self, number: u64) -> bool
+        ensures { (w : World) → Notes self.now w → w.reached 0 ≡ false → result ≡ w.reached number }
+    {
+        if number == 0 {
+            return false;
+        }
+        self.is_reached((number - 1) as usize)
+    }
+
     /// Whether no message of an operation was delivered, of those that were sent.
     pub fn is_untouched(&self, sent: &[Packet], origin: Origin) -> bool
         ensures { IsUntouchedAt self.now.reached.items sent.now origin result }

@@ -179,6 +179,14 @@ impl World {
         self.simulation.history.sent.as_slice()
     }
 
+    /// Whether the message of a number, from 1 as in a line `deliver K`, was delivered to a brick that was up, or in the midst of
+    /// whose handling of it a call of its disk was cut short or failed. False for a number of which no message was sent.
+    pub fn was_delivered(&self, number: u64) -> bool
+        ensures { result ≡ (world_of self.now).reached number }
+    {
+        self.simulation.ledger.was_delivered(number)
+    }
+
     /// A brick's part of a stripe, with its log, oldest version first. None exactly where there is no such
     /// group or stripe, or no such brick that is up.
     pub fn log_of(
