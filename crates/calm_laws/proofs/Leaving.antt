@@ -17,7 +17,7 @@ use Rattle.protocol.specs.Coordinators.{Coordinator}
 use Rattle.protocol.specs.Nodes.{Node, collect_packets, is_served, replica_at, to_members, view_at}
 use Rattle.protocol.specs.Replicas.{Replica, not_below}
 use Rattle.protocol.specs.Settings.{IsSound, Setting}
-use Rattle.protocol.specs.Worlds.{Delivers, Event, Operation, World, first_world, happens, is_up, run}
+use Rattle.protocol.specs.Worlds.{Delivers, Event, Operation, World, first_world, is_up, run}
 use Rattle.protocol.specs.declared.phases.Phase.{Phase}
 use Rattle.protocol.specs.declared.phases.Phase.TheVariants.{Bases, Descends, Looks, LooksAt, Modifies, Orders, OrdersAt, Recovers, Stores}
 use Rattle.protocol_laws.proofs.Books.{Books, CallBooks, IsMade, MadeInPhase, version_after}
