@@ -34,7 +34,8 @@ use Rattle.protocol_laws.proofs.OwnStamps.{not_made_yet}
 use Rattle.protocol_laws.proofs.Parts.{part_of}
 use Rattle.calm_laws.specs.Laws.{EncodesBlocks, CalmOperationsEnd, most_records}
 use Rattle.calm_laws.proofs.Known.{Known, KnownCall, KnownMessages, KnownLogs, repeated}
-use Rattle.calm_laws.proofs.Fresh.{IsFresh, IsNumbered, IsOpenAt, opens_at, always_fresh}
+use Rattle.calm_laws.proofs.Fresh.{IsFresh, IsNumbered, IsOpenAt, opens_at}
+use Rattle.calm_laws.proofs.FreshRuns.{always_fresh}
 use Rattle.calm_laws.proofs.Lives.{CountsLives, always_count, log_within}
 
 module _ (setting : Setting) (sound : IsSound setting) (encodes : EncodesBlocks setting) (small : setting.layout.records ≤ most_records) (w : World)

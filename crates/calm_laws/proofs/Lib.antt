@@ -1,6 +1,12 @@
 pub mod Discharge
 pub mod Lives
 pub mod Fresh
+pub mod FreshBegun
+pub mod FreshDelivered
+pub mod FreshRuns
+pub mod FreshStopped
+pub mod FreshTicked
+pub mod Keys
 pub mod StepsOf
 pub mod Asking
 pub mod Beginnings

@@ -1,0 +1,209 @@
+-- An operation that begins is fresh, and the others stay so.
+use Rattle.std.proofs.lemmas.Option.{same_Some}
+use Rattle.std.proofs.Common.{◌≡◌, ◌≢◌, ℕ, ◌+◌, ◌≤◌, ◌<◌, true, false, List, [], ◌++◌, length, Some, None, refl, sym, ap, ◌∙◌, subst, ⊎_elim, arith, length-append}
+use Rattle.std.specs.Prelude.{slice_get, nat_eq, filter}
+use Rattle.std.proofs.lemmas.Bool.{cases_eq, eq-eqb, ne_eqb, and_parts, cases_lt}
+use Rattle.std.proofs.lemmas.List.{append-nil}
+use Rattle.fab_base.specs.declared.identities.BrickId.{BrickId}
+use Rattle.fab_base.specs.declared.asks.Ask.{Ask}
+use Rattle.fab_base.specs.Layouts.{Group}
+use Rattle.messages.specs.declared.packets.Message.{Message}
+use Rattle.messages.specs.declared.packets.Packet.{Packet}
+use Rattle.protocol.specs.Settings.{Setting}
+use Rattle.protocol.specs.Coordinators.{Coordinator, request_of}
+use Rattle.protocol.specs.Nodes.{Node, NodeStep, put, began_in, new_coordinator, top_at}
+use Rattle.protocol.specs.Worlds.{World, Operation, world_began, is_brick, is_up}
+use Rattle.protocol.specs.Calms.{operation_of}
+use Rattle.protocol_laws.proofs.Books.{Books, IsOperation}
+use Rattle.protocol_laws.proofs.Tables.{put_each, put_same, get_grown}
+use Rattle.protocol_laws.proofs.Puts.{put_other}
+use Rattle.calm_laws.proofs.StepsOf.{members_are_of}
+use Rattle.calm_laws.proofs.Fresh.{packets_of, IsFresh, IsNumbered, AreFresh, filter_none, filter_every, packets_added, IsOpenAt, opens_at, opens_in, fresh_kept}
+
+module _ (setting : Setting) (w : World) (books : Books setting w) (numbered : IsNumbered w) (fresh : AreFresh setting w) where
+  -- a brick begins an operation
+  module _ (brick : BrickId) (ask : Ask) (group : Group) (up : is_up setting.layout w brick ≡ true) where
+    abbrev began_coordinator : Coordinator
+    began_coordinator = new_coordinator group brick (w.clocks brick.0) (w.nodes brick.0) ask
+
+    abbrev began_step : NodeStep
+    began_step = began_in setting brick (w.nodes brick.0) began_coordinator
+
+    abbrev begun_world : World
+    begun_world = world_began w brick ask began_step
+
+    -- no call had its number before
+    new_number : w.numbers brick.0 (w.nodes brick.0).boot ((w.nodes brick.0).seq + 1) ≡ 0
+    new_number = ⊎_elim
+        (λ (none : w.numbers brick.0 (w.nodes brick.0).boot ((w.nodes brick.0).seq + 1) < 1). omega (arith, none))
+        (λ (some : 1 ≤ w.numbers brick.0 (w.nodes brick.0).boot ((w.nodes brick.0).seq + 1)).
+        let was = numbered.numbers brick.0 (w.nodes brick.0).boot ((w.nodes brick.0).seq + 1) some in
+        let most : was.0.seq ≤ (w.nodes was.0.brick.0).seq
+        = (books.operations (w.numbers brick.0 (w.nodes brick.0).boot ((w.nodes brick.0).seq + 1)) was.0 was.1).called.1
+        (was.3 ∙ ap (λ (j : ℕ). (w.nodes j).boot) (sym was.2)) in
+        let same : (w.nodes was.0.brick.0).seq ≡ (w.nodes brick.0).seq = ap (λ (j : ℕ). (w.nodes j).seq) was.2 in
+        let seq = was.4 in
+        absurd (omega (arith, most, same, seq)))
+        (cases_lt (w.numbers brick.0 (w.nodes brick.0).boot ((w.nodes brick.0).seq + 1)) 1)
+
+    -- the numbers that there were stay
+    old_number : (j b k : ℕ) → 1 ≤ w.numbers j b k → begun_world.numbers j b k ≡ w.numbers j b k
+    old_number j b k some =
+        put_each (λ i f. 1 ≤ w.numbers i b k → f b k ≡ w.numbers i b k) w.numbers brick.0
+        (put (w.numbers brick.0) (w.nodes brick.0).boot (put (w.numbers brick.0 (w.nodes brick.0).boot) ((w.nodes brick.0).seq + 1) (w.begun + 1)))
+        (put_each (λ c f. 1 ≤ w.numbers brick.0 c k → f k ≡ w.numbers brick.0 c k) (w.numbers brick.0) (w.nodes brick.0).boot
+        (put (w.numbers brick.0 (w.nodes brick.0).boot) ((w.nodes brick.0).seq + 1) (w.begun + 1))
+        (put_each (λ l v. 1 ≤ w.numbers brick.0 (w.nodes brick.0).boot l → v ≡ w.numbers brick.0 (w.nodes brick.0).boot l)
+        (w.numbers brick.0 (w.nodes brick.0).boot) ((w.nodes brick.0).seq + 1) (w.begun + 1)
+        (λ bad. absurd (omega (arith, new_number, bad))) (λ l other is. refl) k)
+        (λ c other is. refl) b)
+        (λ i other is. refl) j some
+
+    -- and so do the operations of the packets that there were
+    old_belongs : (from to : BrickId) (message : Message) → 1 ≤ operation_of w (record { from = from; to = to; message = message })
+        → operation_of begun_world (record { from = from; to = to; message = message }) ≡ operation_of w (record { from = from; to = to; message = message })
+    old_belongs from to (Message.Request call request) some = old_number from.0 call.boot call.seq some
+    old_belongs from to (Message.Reply call reply) some = old_number to.0 call.boot call.seq some
+    old_belongs from to message some = refl
+
+    old_packets : (j : ℕ) (packet : Packet) → slice_get w.packets j ≡ Some packet → operation_of begun_world packet ≡ operation_of w packet
+    old_packets j packet at = old_belongs packet.from packet.to packet.message (numbered.packets j packet at)
+
+    -- the new operation's number
+    its_number : begun_world.numbers brick.0 (w.nodes brick.0).boot ((w.nodes brick.0).seq + 1) ≡ w.begun + 1
+    its_number =
+        ap (λ f. f (w.nodes brick.0).boot ((w.nodes brick.0).seq + 1)) (put_same w.numbers brick.0
+        (put (w.numbers brick.0) (w.nodes brick.0).boot (put (w.numbers brick.0 (w.nodes brick.0).boot) ((w.nodes brick.0).seq + 1) (w.begun + 1))))
+        ∙ ap (λ f. f ((w.nodes brick.0).seq + 1)) (put_same (w.numbers brick.0) (w.nodes brick.0).boot
+        (put (w.numbers brick.0 (w.nodes brick.0).boot) ((w.nodes brick.0).seq + 1) (w.begun + 1)))
+        ∙ put_same (w.numbers brick.0 (w.nodes brick.0).boot) ((w.nodes brick.0).seq + 1) (w.begun + 1)
+
+    new_packets : (j : ℕ) (packet : Packet) → slice_get began_step.packets j ≡ Some packet → operation_of begun_world packet ≡ w.begun + 1
+    new_packets j packet at =
+        members_are_of begun_world brick began_coordinator.call (request_of setting.code began_coordinator) 0 group.members j packet at ∙ its_number
+
+    -- the operation that begins
+    abbrev new_operation : Operation
+    new_operation = record {
+      brick = brick;
+      boot = (w.nodes brick.0).boot;
+      seq = (w.nodes brick.0).seq + 1;
+      begin = length w.marks;
+      ask = ask;
+      version = None;
+      made = false;
+      base = None;
+      answered = false;
+      floor = λ j. top_at (w.nodes j) ask.group.0 ask.stripe.0;
+    }
+
+    new_is : begun_world.operations (w.begun + 1) ≡ Some new_operation
+    new_is = put_same w.operations (w.begun + 1) (Some new_operation)
+
+    -- the operations that there were stay
+    old_operations : (a : ℕ) (o : Operation) → IsOperation w a o → begun_world.operations a ≡ w.operations a
+    old_operations a o is =
+        put_other w.operations (w.begun + 1) (Some new_operation) a
+        (λ same. let most = (books.operations a o is).begun in absurd (omega (arith, most, same)))
+
+    -- an operation of this number, at this call
+    abbrev IsAt : ℕ → ℕ → ℕ → ℕ → Type 0
+    IsAt v j b k = (o : Operation) × IsOperation begun_world v o × (o.brick.0 ≡ j) × (o.boot ≡ b) × (o.seq ≡ k)
+
+    old_at : (j b k : ℕ) → 1 ≤ w.numbers j b k → IsAt (w.numbers j b k) j b k
+    old_at j b k some =
+        let was = numbered.numbers j b k some in
+        (was.0, old_operations (w.numbers j b k) was.0 was.1 ∙ was.1, was.2, was.3, was.4)
+
+    all_at : (j b k : ℕ) → 1 ≤ begun_world.numbers j b k → IsAt (begun_world.numbers j b k) j b k
+    all_at j b k =
+        put_each (λ i f. 1 ≤ f b k → IsAt (f b k) i b k) w.numbers brick.0
+        (put (w.numbers brick.0) (w.nodes brick.0).boot (put (w.numbers brick.0 (w.nodes brick.0).boot) ((w.nodes brick.0).seq + 1) (w.begun + 1)))
+        (put_each (λ c f. 1 ≤ f k → IsAt (f k) brick.0 c k) (w.numbers brick.0) (w.nodes brick.0).boot
+        (put (w.numbers brick.0 (w.nodes brick.0).boot) ((w.nodes brick.0).seq + 1) (w.begun + 1))
+        (put_each (λ l v. 1 ≤ v → IsAt v brick.0 (w.nodes brick.0).boot l) (w.numbers brick.0 (w.nodes brick.0).boot) ((w.nodes brick.0).seq + 1) (w.begun + 1)
+        (λ some. (new_operation, new_is, refl, refl, refl)) (λ l other. old_at brick.0 (w.nodes brick.0).boot l) k)
+        (λ c other. old_at brick.0 c k) b)
+        (λ i other. old_at i b k) j
+
+    pub began_numbered : IsNumbered begun_world
+    began_numbered = record {
+      numbers = all_at;
+      packets = λ k packet at. ⊎_elim
+          (λ (old : slice_get w.packets k ≡ Some packet). let same = old_packets k packet old in omega (arith, same, numbered.packets k packet old))
+          (λ (new : (j : ℕ) × (slice_get began_step.packets j ≡ Some packet)). let own = new_packets new.0 packet new.1 in omega (arith, own))
+          (get_grown w.packets began_step.packets k packet at);
+      reached = λ k beyond.
+          let longer = length-append w.packets began_step.packets in numbered.reached k (omega (arith, longer, beyond));
+    }
+
+    -- no packet was of the new operation before
+    number_within : (j b k : ℕ) → w.numbers j b k ≤ w.begun
+    number_within j b k = ⊎_elim
+        (λ (none : w.numbers j b k < 1). omega (arith, none))
+        (λ (some : 1 ≤ w.numbers j b k). let was = numbered.numbers j b k some in (books.operations (w.numbers j b k) was.0 was.1).begun)
+        (cases_lt (w.numbers j b k) 1)
+
+    packet_within : (from to : BrickId) (message : Message) → operation_of w (record { from = from; to = to; message = message }) ≤ w.begun
+    packet_within from to (Message.Request call request) = number_within from.0 call.boot call.seq
+    packet_within from to (Message.Reply call reply) = number_within to.0 call.boot call.seq
+    packet_within from to message = omega arith
+
+    none_before : packets_of w (w.begun + 1) ≡ []
+    none_before =
+        filter_none (λ packet. nat_eq (operation_of w packet) (w.begun + 1)) w.packets
+        (λ j packet at. ne_eqb (operation_of w packet) (w.begun + 1)
+        (λ same. let most = packet_within packet.from packet.to packet.message in absurd (omega (arith, same, most))))
+
+    -- the new operation is as it began
+    new_fresh : IsFresh setting begun_world (w.begun + 1) began_coordinator
+    new_fresh = record {
+      there = (and_parts (is_brick setting.layout brick) (w.up brick.0) up).0;
+      counted = refl;
+      phase = refl;
+      number = refl;
+      round = refl;
+      base = refl;
+      content = refl;
+      copies = 0;
+      packets =
+          packets_added w begun_world (w.begun + 1) began_step.packets refl old_packets
+          ∙ ap (λ (l : List Packet). l ++ filter (λ packet. nat_eq (operation_of begun_world packet) (w.begun + 1)) began_step.packets) none_before
+          ∙ filter_every (λ packet. nat_eq (operation_of begun_world packet) (w.begun + 1)) began_step.packets
+          (λ j packet at. eq-eqb (operation_of begun_world packet) (w.begun + 1) (new_packets j packet at))
+          ∙ sym (append-nil began_step.packets);
+    }
+
+    -- its brick's call of it is its coordinator
+    new_call : (c : Coordinator) → IsOpenAt begun_world (w.begun + 1) c → began_coordinator ≡ c
+    new_call c at =
+        let same : at.operation ≡ new_operation = same_Some at.operation new_operation (sym at.operation_is ∙ new_is) in
+        let here : (put w.nodes brick.0 began_step.node brick.0).calls ((w.nodes brick.0).seq + 1) ≡ Some c
+        = ap (λ (o : Operation). (put w.nodes brick.0 began_step.node o.brick.0).calls o.seq) (sym same) ∙ at.call in
+        same_Some began_coordinator c
+        (sym (ap (λ (x : Node). x.calls ((w.nodes brick.0).seq + 1)) (put_same w.nodes brick.0 began_step.node)
+        ∙ put_same (w.nodes brick.0).calls ((w.nodes brick.0).seq + 1) (Some began_coordinator)) ∙ here)
+
+    pub began_fresh : AreFresh setting begun_world
+    began_fresh n c opens untouched = ⊎_elim
+        (λ (own : n ≡ w.begun + 1).
+        subst (λ (a : ℕ). IsFresh setting begun_world a c) (sym own)
+        (subst (λ (d : Coordinator). IsFresh setting begun_world (w.begun + 1) d)
+        (new_call c (subst (λ (a : ℕ). IsOpenAt begun_world a c) own (opens_at begun_world n c opens))) new_fresh))
+        (λ (other : n ≢ w.begun + 1).
+        let at : IsOpenAt begun_world n c = opens_at begun_world n c opens in
+        let o : Operation = at.operation in
+        let is : IsOperation w n o = sym (put_other w.operations (w.begun + 1) (Some new_operation) n other) ∙ at.operation_is in
+        let boot : (w.nodes o.brick.0).boot ≡ o.boot
+        = sym (put_each (λ j x. x.boot ≡ (w.nodes j).boot) w.nodes brick.0 began_step.node refl (λ j apart'. refl) o.brick.0) ∙ at.boot in
+        let most : o.seq ≤ (w.nodes o.brick.0).seq = (books.operations n o is).called.1 (sym boot) in
+        let call : (w.nodes o.brick.0).calls o.seq ≡ Some c
+        = sym (put_each (λ j x. j ≡ o.brick.0 → x.calls o.seq ≡ (w.nodes j).calls o.seq) w.nodes brick.0 began_step.node
+        (λ same. put_other (w.nodes brick.0).calls ((w.nodes brick.0).seq + 1) (Some began_coordinator) o.seq
+        (λ equal. let seqs : (w.nodes brick.0).seq ≡ (w.nodes o.brick.0).seq = ap (λ (j : ℕ). (w.nodes j).seq) same in
+        absurd (omega (arith, most, equal, seqs))))
+        (λ j apart' same. refl) o.brick.0 refl) ∙ at.call in
+        fresh_kept setting w begun_world began_step.packets fresh refl old_packets (λ k is_false. is_false) n c untouched
+        (opens_in w n o c is at.up boot call)
+        (λ j packet at' same. other (sym same ∙ new_packets j packet at')))
+        (cases_eq n (w.begun + 1))

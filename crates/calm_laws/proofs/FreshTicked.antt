@@ -1,0 +1,216 @@
+-- Where a brick's clock ticks, fresh operations stay fresh: those of the brick send their packets once more.
+use Rattle.protocol_laws.proofs.BooksEvents.{brick_of}
+use Rattle.std.proofs.lemmas.Option.{same_Some}
+use Rattle.std.proofs.Common.{◌≡◌, ◌≢◌, ℕ, zero, suc, ◌+◌, ◌≤◌, ◌<◌, Bool, true, false, List, [], ◌∷◌, ◌++◌, Option, Some, None, refl, sym, ap, ◌∙◌, subst, ⊎_elim, arith, length-append, nat_lt, lt-ltb, le-ltb, ltb-true, ltb-false}
+use Rattle.std.specs.Prelude.{slice_get, nat_eq, filter, if◌then◌else◌}
+use Rattle.std.proofs.lemmas.Bool.{cond_both, cond-true, cond-false, cases_Bool, cases_eq, eq-eqb, ne_eqb, cases_lt}
+use Rattle.std.proofs.lemmas.List.{append-nil}
+use Rattle.std.proofs.lemmas.List.Elements.{filter-append}
+use Rattle.fab_base.specs.declared.identities.BrickId.{BrickId}
+use Rattle.messages.specs.declared.calls.Call.{Call}
+use Rattle.messages.specs.declared.packets.Message.{Message}
+use Rattle.messages.specs.declared.packets.Packet.{Packet}
+use Rattle.messages.specs.declared.requests.Request.{Request}
+use Rattle.protocol.specs.Settings.{Setting}
+use Rattle.protocol.specs.declared.phases.Counted.{Counted}
+use Rattle.protocol.specs.Coordinators.{Coordinator, request_of, has_seat}
+use Rattle.protocol.specs.Nodes.{phase_packets, to_members, resent_to, resent, resent_up_to, ticked}
+use Rattle.protocol.specs.Worlds.{World, Operation, number_of, world_ticked}
+use Rattle.protocol.specs.Calms.{operation_of, IsUntouched}
+use Rattle.protocol_laws.proofs.Books.{Books, CallBooks}
+use Rattle.protocol_laws.proofs.Tables.{get_grown}
+use Rattle.calm_laws.proofs.Fresh.{packets_of, repeated_more, IsFresh, IsNumbered, AreFresh, filter_none, filter_every, packets_added, packets_kept, fresh_on, IsOpenAt, opens_at, untouched_before, own_number}
+
+module _ (setting : Setting) (w : World) (books : Books setting w) (numbered : IsNumbered w) (fresh : AreFresh setting w) where
+  -- a brick's clock ticks: each of its open operations sends its present phase again
+  module _ (brick : BrickId) where
+    abbrev ticked_packets : List Packet
+    ticked_packets = ticked setting brick (w.nodes brick.0)
+
+    abbrev ticked_world : World
+    ticked_world = world_ticked setting w brick
+
+    -- what is sent again to members is the operation's
+    resent_are : (call : Call) (request : ℕ → Request) (counted : List Counted) (seat : ℕ) (members : List BrickId) (j : ℕ) (packet : Packet)
+        → slice_get (resent_to brick call request counted seat members) j ≡ Some packet → operation_of w packet ≡ w.numbers brick.0 call.boot call.seq
+    resent_are call request counted seat [] j packet at = let never : ⊥ = cc in absurd never
+    resent_are call request counted seat (member ∷ members) j packet at =
+        cond_both (has_seat seat counted) (resent_to brick call request counted (seat + 1) members)
+        (record { from = brick; to = member; message = Message.Request call (request seat) } ∷ resent_to brick call request counted (seat + 1) members)
+        (λ (l : List Packet). slice_get l j ≡ Some packet → operation_of w packet ≡ w.numbers brick.0 call.boot call.seq)
+        (λ has here. resent_are call request counted (seat + 1) members j packet here)
+        (λ hasnt here. first (λ k there. resent_are call request counted (seat + 1) members k packet there) j here) at
+      where
+        first : ((k : ℕ) → slice_get (resent_to brick call request counted (seat + 1) members) k ≡ Some packet
+            → operation_of w packet ≡ w.numbers brick.0 call.boot call.seq) → (k : ℕ)
+            → slice_get (record { from = brick; to = member; message = Message.Request call (request seat) }
+            ∷ resent_to brick call request counted (seat + 1) members) k ≡ Some packet
+            → operation_of w packet ≡ w.numbers brick.0 call.boot call.seq
+        first rest zero here =
+            let same : record { from = brick; to = member; message = Message.Request call (request seat) } ≡ packet = cc in
+            subst (λ (z : Packet). operation_of w z ≡ w.numbers brick.0 call.boot call.seq) same refl
+        first rest (suc k) here = rest k here
+
+    -- where no reply counts, the whole phase
+    resent_whole : (call : Call) (request : ℕ → Request) (seat : ℕ) (members : List BrickId)
+        → resent_to brick call request [] seat members ≡ to_members brick call request seat members
+    resent_whole call request seat [] = refl
+    resent_whole call request seat (member ∷ members) =
+        ap (λ (l : List Packet). record { from = brick; to = member; message = Message.Request call (request seat) } ∷ l)
+        (resent_whole call request (seat + 1) members)
+
+    -- of the operation of call k
+    call_are : (k : ℕ) (z : Option Coordinator) → (w.nodes brick.0).calls k ≡ z → (j : ℕ) (packet : Packet)
+        → slice_get (resent setting brick z) j ≡ Some packet → (operation_of w packet ≡ number_of w brick.0 k) × (1 ≤ number_of w brick.0 k)
+    call_are k None is j packet at = let never : ⊥ = cc in absurd never
+    call_are k (Some c) is j packet at =
+        let its : CallBooks setting w brick.0 k c = books.calls brick.0 k c is in
+        let some = (books.operations (number_of w brick.0 k) its.operation its.operation_is).from_one in (
+          resent_are c.call (request_of setting.code c) c.counted 0 c.group.members j packet at
+              ∙ ap (λ (b : ℕ). w.numbers brick.0 b c.call.seq) its.call_boot ∙ ap (λ (l : ℕ). number_of w brick.0 l) its.call_seq,
+          some,
+        )
+
+    -- each packet that is sent again is of the operation of a call of the brick
+    each_are : (k : ℕ) (j : ℕ) (packet : Packet) → slice_get (resent_up_to setting brick (w.nodes brick.0).calls k) j ≡ Some packet
+        → (l : ℕ) × (l ≤ k) × (1 ≤ l) × (operation_of w packet ≡ number_of w brick.0 l) × (1 ≤ number_of w brick.0 l)
+    each_are zero j packet at = let never : ⊥ = cc in absurd never
+    each_are (suc k) j packet at = ⊎_elim
+        (λ (old : slice_get (resent_up_to setting brick (w.nodes brick.0).calls k) j ≡ Some packet).
+        let was = each_are k j packet old in (was.0, omega (arith, was.1), was.2, was.3, was.4))
+        (λ (new : (i : ℕ) × (slice_get (resent setting brick ((w.nodes brick.0).calls (suc k))) i ≡ Some packet)).
+        let own = call_are (suc k) ((w.nodes brick.0).calls (suc k)) refl new.0 packet new.1 in (suc k, omega arith, omega arith, own.0, own.1))
+        (get_grown (resent_up_to setting brick (w.nodes brick.0).calls k) (resent setting brick ((w.nodes brick.0).calls (suc k))) j packet at)
+
+    pub ticked_numbered : IsNumbered ticked_world
+    unfolding ticked
+    ticked_numbered = record {
+      numbers = numbered.numbers;
+      packets = λ k packet at. ⊎_elim
+          (λ (old : slice_get w.packets k ≡ Some packet). numbered.packets k packet old)
+          (λ (new : (j : ℕ) × (slice_get (resent_up_to setting brick (w.nodes brick.0).calls (w.nodes brick.0).seq) j ≡ Some packet)).
+          let own = each_are (w.nodes brick.0).seq new.0 packet new.1 in omega (arith, own.3, own.4))
+          (get_grown w.packets (resent_up_to setting brick (w.nodes brick.0).calls (w.nodes brick.0).seq) k packet at);
+      reached = λ k beyond.
+          let longer = length-append w.packets (resent_up_to setting brick (w.nodes brick.0).calls (w.nodes brick.0).seq) in
+          numbered.reached k (omega (arith, longer, beyond));
+    }
+
+    -- an operation of this brick, as it began: its phase is sent once more
+    module _ (n : ℕ) (c : Coordinator) (at : IsOpenAt w n c) (own : at.operation.brick.0 ≡ brick.0) (its : IsFresh setting w n c) where
+      abbrev o : Operation
+      o = at.operation
+
+      abbrev is_n : Packet → Bool
+      is_n packet = nat_eq (operation_of w packet) n
+
+      here : (w.nodes brick.0).calls o.seq ≡ Some c
+      here = ap (λ (j : ℕ). (w.nodes j).calls o.seq) (sym own) ∙ at.call
+
+      number : number_of w brick.0 o.seq ≡ n
+      number = ap (λ (j : ℕ). number_of w j o.seq) (sym own) ∙ own_number setting w books n o at.operation_is at.boot
+
+      call_books : CallBooks setting w brick.0 o.seq c
+      call_books = books.calls brick.0 o.seq c here
+
+      the_brick : c.stamp.brick ≡ brick
+      the_brick = call_books.stamp_brick ∙ brick_of call_books.operation.brick brick call_books.brick
+
+      -- another call of the brick is another operation's
+      other_call : (k : ℕ) → k ≢ o.seq → 1 ≤ number_of w brick.0 k → number_of w brick.0 k ≢ n
+      other_call k other some same =
+          let was = numbered.numbers brick.0 (w.nodes brick.0).boot k some in
+          let one : was.0 ≡ o = same_Some was.0 o (sym was.1 ∙ ap (λ a. w.operations a) same ∙ at.operation_is) in
+          other (sym was.4 ∙ ap (λ x. x.seq) one)
+
+      resent_other : (k : ℕ) → k ≢ o.seq → filter is_n (resent setting brick ((w.nodes brick.0).calls k)) ≡ []
+      resent_other k other =
+          filter_none is_n (resent setting brick ((w.nodes brick.0).calls k))
+          (λ j packet at'.
+          let of = call_are k ((w.nodes brick.0).calls k) refl j packet at' in
+          ne_eqb (operation_of w packet) n (λ same. other_call k other of.1 (sym of.0 ∙ same)))
+
+      resent_own : filter is_n (resent setting brick ((w.nodes brick.0).calls o.seq)) ≡ phase_packets setting c.stamp.brick c
+      resent_own =
+          filter_every is_n (resent setting brick ((w.nodes brick.0).calls o.seq))
+          (λ j packet at'.
+          let of = call_are o.seq ((w.nodes brick.0).calls o.seq) refl j packet at' in
+          eq-eqb (operation_of w packet) n (of.0 ∙ number))
+          ∙ ap (λ (z : Option Coordinator). resent setting brick z) here
+          ∙ ap (λ (l : List Counted). resent_to brick c.call (request_of setting.code c) l 0 c.group.members) its.counted
+          ∙ resent_whole c.call (request_of setting.code c) 0 c.group.members
+          ∙ ap (λ (b : BrickId). phase_packets setting b c) (sym the_brick)
+
+      -- so it is among the calls up to any that is not before it
+      resent_to_call : (k : ℕ)
+          → filter is_n (resent_up_to setting brick (w.nodes brick.0).calls k)
+          ≡ (if nat_lt k o.seq then [] else phase_packets setting c.stamp.brick c)
+      resent_to_call zero =
+          sym (cond-true (nat_lt 0 o.seq) [] (phase_packets setting c.stamp.brick c)
+          (lt-ltb 0 o.seq (let some = (books.operations n o at.operation_is).called.0 in omega (arith, some))))
+      resent_to_call (suc k) =
+          filter-append is_n (resent_up_to setting brick (w.nodes brick.0).calls k) (resent setting brick ((w.nodes brick.0).calls (suc k)))
+          ∙ ap (λ (l : List Packet). l ++ filter is_n (resent setting brick ((w.nodes brick.0).calls (suc k)))) (resent_to_call k)
+          ∙ ⊎_elim
+          (λ (same : suc k ≡ o.seq).
+          ap (λ (b : Bool). (if b then [] else phase_packets setting c.stamp.brick c) ++ filter is_n (resent setting brick ((w.nodes brick.0).calls (suc k))))
+          (lt-ltb k o.seq (omega (arith, same)))
+          ∙ ap (λ (l : ℕ). filter is_n (resent setting brick ((w.nodes brick.0).calls l))) same ∙ resent_own
+          ∙ sym (cond-false (nat_lt (suc k) o.seq) [] (phase_packets setting c.stamp.brick c) (le-ltb (suc k) o.seq (omega (arith, same)))))
+          (λ (other : suc k ≢ o.seq).
+          ap (λ (l : List Packet). (if nat_lt k o.seq then [] else phase_packets setting c.stamp.brick c) ++ l) (resent_other (suc k) other)
+          ∙ append-nil (if nat_lt k o.seq then [] else phase_packets setting c.stamp.brick c)
+          ∙ ap (λ (b : Bool). if b then [] else phase_packets setting c.stamp.brick c) (same_side k other))
+          (cases_eq (suc k) o.seq)
+        where
+          same_side : (k : ℕ) → suc k ≢ o.seq → nat_lt k o.seq ≡ nat_lt (suc k) o.seq
+          same_side k other = ⊎_elim
+              (λ (less : nat_lt (suc k) o.seq ≡ true).
+              lt-ltb k o.seq (let below = ltb-true (suc k) o.seq less in omega (arith, below)) ∙ sym less)
+              (λ (most : nat_lt (suc k) o.seq ≡ false).
+              le-ltb k o.seq (let above = ltb-false (suc k) o.seq most in ⊎_elim
+              (λ (lower : k < o.seq). absurd (other (omega (arith, above, lower)))) (λ (rest : o.seq ≤ k). rest) (cases_lt k o.seq)) ∙ sym most)
+              (cases_Bool (nat_lt (suc k) o.seq))
+
+      once_more : IsFresh setting ticked_world n c
+      unfolding ticked
+      once_more = record {
+        there = its.there;
+        counted = its.counted;
+        phase = its.phase;
+        number = its.number;
+        round = its.round;
+        base = its.base;
+        content = its.content;
+        copies = suc its.copies;
+        packets =
+            packets_added w ticked_world n (resent_up_to setting brick (w.nodes brick.0).calls (w.nodes brick.0).seq) refl (λ j packet at'. refl)
+            ∙ ap (λ (l : List Packet). packets_of w n ++ l) (resent_to_call (w.nodes brick.0).seq
+            ∙ cond-false (nat_lt (w.nodes brick.0).seq o.seq) [] (phase_packets setting c.stamp.brick c) (le-ltb (w.nodes brick.0).seq o.seq within))
+            ∙ ap (λ (l : List Packet). l ++ phase_packets setting c.stamp.brick c) its.packets
+            ∙ repeated_more (suc its.copies) (phase_packets setting c.stamp.brick c);
+      }
+        where
+          within : o.seq ≤ (w.nodes brick.0).seq
+          within =
+              let most = (books.operations n o at.operation_is).called.1 (sym at.boot) in
+              subst (λ (j : ℕ). o.seq ≤ (w.nodes j).seq) own most
+
+    pub ticked_fresh : AreFresh setting ticked_world
+    unfolding ticked
+    ticked_fresh n c opens untouched =
+        let at : IsOpenAt w n c = opens_at w n c opens in
+        let was : IsUntouched w n = untouched_before w ticked_world n ticked_packets refl (λ j packet at'. refl) (λ k is. is) untouched in
+        ⊎_elim
+        (λ (own : at.operation.brick.0 ≡ brick.0). once_more n c at own (fresh n c opens was))
+        (λ (other : at.operation.brick.0 ≢ brick.0).
+        fresh_on setting w ticked_world n c
+        (packets_kept w ticked_world n (resent_up_to setting brick (w.nodes brick.0).calls (w.nodes brick.0).seq) refl (λ j packet at'. refl)
+        (λ j packet at' same.
+        let of = each_are (w.nodes brick.0).seq j packet at' in
+        let theirs = numbered.numbers brick.0 (w.nodes brick.0).boot of.0 of.4 in
+        let one : theirs.0 ≡ at.operation
+        = same_Some theirs.0 at.operation (sym theirs.1 ∙ ap (λ a. w.operations a) (sym of.3 ∙ same) ∙ at.operation_is) in
+        other (ap (λ x. x.brick.0) (sym one) ∙ theirs.2)))
+        (fresh n c opens was))
+        (cases_eq at.operation.brick.0 brick.0)
