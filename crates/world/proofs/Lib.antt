@@ -18,6 +18,7 @@ pub mod DeliveryLemmas
 pub mod CallNumbers
 pub mod CallSteps
 pub mod TimeLemmas
+pub mod Firsts
 pub mod LedgerLemmas
 pub mod LedgerLists
 pub mod Numberless

@@ -7,6 +7,8 @@ use Rattle.std.specs.Ordering.{nat_cmp, is_eq, ordering_then}
 use Rattle.std.specs.BTreeMap.{is_at}
 use Rattle.std.proofs.lemmas.Bool.{cond_both, eqb-true, eqb-false, eq-eqb, ne_eqb}
 use Rattle.std.proofs.lemmas.Bool.Decides.{nat_tests}
+use Rattle.std.proofs.lemmas.List.{get_or_append_left, length-append}
+use Rattle.std.proofs.lemmas.Option.{slice_get-get_or}
 use Rattle.protocol.specs.Nodes.{put}
 use Rattle.world.specs.Shown.{pair_cmp}
 
@@ -90,3 +92,9 @@ pub with_room : {A E : Type 0} (old new more : List A) (r : Result (Unit {0}) E)
     → new ≡ old ++ more
 with_room old new more (Ok done) is room = is
 with_room old new more (Err refused) is room = absurd (let never : false ≡ true = room in cc)
+
+-- what stands before a list that is added stays
+pub append_get : {A : Type 0} (xs ys : List A) (k : ℕ) (x : A) → k < length xs → slice_get (xs ++ ys) k ≡ Some x → slice_get xs k ≡ Some x
+append_get xs ys k x within at =
+    slice_get-get_or xs k x within ∙ ap Some (sym (get_or_append_left xs ys x k within))
+    ∙ sym (slice_get-get_or (xs ++ ys) k x (omega (arith, within, length-append xs ys))) ∙ at

@@ -22,6 +22,8 @@ pub struct Origin {
     pub seq: u64,
     /// Whether it was answered or aborted.
     pub ended: bool,
+    /// The place of its first message among those that were sent, from 0: none of its messages stands before it.
+    pub first: usize,
 }
 
 /// Where each operation began, and which messages were delivered.
@@ -106,11 +108,11 @@ impl Ledger {
         Ok(())
     }
 
-    /// Notes an operation that begins. There is room for it.
-    pub fn begin(&mut self, brick: BrickId, boot: u32, seq: u64)
+    /// Notes an operation that begins, and whose messages stand from this place on. There is room for it.
+    pub fn begin(&mut self, brick: BrickId, boot: u32, seq: u64, first: usize)
         requires { vec_len self.old.origins < vec_capacity self.old.origins }
         ensures origins { self.new.origins.items
-            ≡ self.old.origins.items ++ record { brick = brick; boot = boot; seq = seq; ended = false } ∷ [] }
+            ≡ self.old.origins.items ++ record { brick = brick; boot = boot; seq = seq; ended = false; first = first } ∷ [] }
         ensures reached { self.new.reached ≡ self.old.reached }
     {
         self.origins.push_reserved(Origin {
@@ -118,6 +120,7 @@ impl Ledger {
             boot,
             seq,
             ended: false,
+            first,
         });
     }
 
@@ -212,7 +215,7 @@ impl Ledger {
     pub fn is_untouched(&self, sent: &[Packet], origin: Origin) -> bool
         ensures { IsUntouchedAt self.now.reached.items sent.now origin result }
     {
-        for place in 0..sent.len() {
+        for place in origin.first..sent.len() {
             if is_of(origin, &sent[place]) && self.is_reached(place) {
                 return false;
             }

@@ -180,10 +180,11 @@ impl Simulation {
         let boot = boot_of(&self.bricks, brick);
         self.history.expect_call(brick, next)?;
         self.ledger.make_room()?;
+        let first = self.history.sent.len();
         match ask_brick(&mut self.bricks, brick, &ask) {
             Ok(begun) => {
                 self.history.begin(brick, ask, begun.messages);
-                self.ledger.begin(brick, boot, begun.seq);
+                self.ledger.begin(brick, boot, begun.seq, first);
                 Ok(Outcome::Marks)
             }
             Err(NodeFault::Refused(refusal)) => Ok(Outcome::Refused(refusal)),
@@ -371,9 +372,10 @@ impl Simulation {
         let mut from = 0;
         let mut some = false;
         while let Some(origin) = self.open_origin(operation) {
+            let start = from.max(origin.first);
             let Some(place) = self
                 .ledger
-                .next_left(&self.history.sent, origin, bricks, from)
+                .next_left(&self.history.sent, origin, bricks, start)
             else {
                 return Ok(some);
             };

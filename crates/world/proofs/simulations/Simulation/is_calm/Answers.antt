@@ -94,7 +94,7 @@ returns c w reached shows notes =
                 ((c.is_in_time.ensures c.args.layout.now w first).0 c.if-not-is_in_time.false);
             able = (c.are_able.ensures w second).0 c.if-not-are_able.false;
             untouched = untouched_as w c.args.operation here.at.operation (reached_numbers c.args.layout.now w reached) (reached_knows c.args.layout.now w reached)
-                here.some here.at.is c.args.self.now.ledger c.in-Some.origin c.deref-3.result.now notes sent here.noted.brick here.noted.boot here.noted.seq
+                here.some here.at.is c.args.self.now.ledger c.in-Some.origin c.deref-3.result.now notes sent here.noted.brick here.noted.boot here.noted.seq here.noted.first
                 (subst (λ (b : Bool). IsUntouchedAt c.args.self.now.ledger.reached.items c.deref-3.result.now c.in-Some.origin b) on c.is_untouched.ensures);
           }),
       λ calm. by_untouched c.args.self.now.ledger.reached.items c.deref-3.result.now c.in-Some.origin c.is_untouched.result c.is_untouched.ensures

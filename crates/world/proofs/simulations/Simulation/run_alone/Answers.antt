@@ -20,8 +20,9 @@ pub returns-in_default-next_left-clause-run : goal.returns-in_default-next_left-
 returns-in_default-next_left-clause-run c w reached shows notes calm =
     let so = c.loop-origin.invariant.1 w reached shows notes calm in
     has_stuck c.args.layout.now w c.args.operation c.args.bricks.now (disks_of c.args.self.now.bricks.items) c.loop-origin.self c.loop-origin.from
-    c.loop-origin.some calm so c.in-Some.origin (c.in-Some.ensures c.args.layout.now so.last so.reached so.shows so.notes)
-    (subst (λ (sent : List Packet). FindsLeft c.loop-origin.self.ledger.reached.items c.in-Some.origin c.args.bricks.now c.loop-origin.from sent None)
+    c.loop-origin.some calm so c.in-Some.origin (c.in-Some.ensures c.args.layout.now so.last so.reached so.shows so.notes) c.max-start.result
+    c.max-start.ensures
+    (subst (λ (sent : List Packet). FindsLeft c.loop-origin.self.ledger.reached.items c.in-Some.origin c.args.bricks.now c.max-start.result sent None)
     (c.deref.ensures.value ∙ so.shows.history.packets) c.in_default-next_left.ensures)
 
 pub overflow_add-place : goal.overflow_add-place
@@ -57,9 +58,10 @@ loop-origin-preserved c = (
   λ w reached shows notes calm.
       (let so = c.loop-origin.invariant.1 w reached shows notes calm in
       goes_on c.args.layout.now w c.args.operation c.args.bricks.now (disks_of c.args.self.now.bricks.items) c.loop-origin.self c.loop-origin.from
-      c.loop-origin.some calm so c.in-Some.origin (c.in-Some.ensures c.args.layout.now so.last so.reached so.shows so.notes) c.in-Some-next_left.place
+      c.loop-origin.some calm so c.in-Some.origin (c.in-Some.ensures c.args.layout.now so.last so.reached so.shows so.notes) c.max-start.result
+      c.max-start.ensures c.in-Some-next_left.place
       c.deliver.new.self c.in_ok-deliver.field-0
-      (subst (λ (sent : List Packet). FindsLeft c.loop-origin.self.ledger.reached.items c.in-Some.origin c.args.bricks.now c.loop-origin.from sent
+      (subst (λ (sent : List Packet). FindsLeft c.loop-origin.self.ledger.reached.items c.in-Some.origin c.args.bricks.now c.max-start.result sent
       (Some c.in-Some-next_left.place)) (c.deref.ensures.value ∙ so.shows.history.packets) c.in-Some-next_left.ensures)
       (c.in_ok-deliver.ensures.comes so.last so.reached so.shows so.notes)),
 )
