@@ -2,3 +2,4 @@ pub mod Content
 mod Copies
 pub mod Keeping
 mod Pieces
+pub mod Told
