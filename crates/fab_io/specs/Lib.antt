@@ -4,4 +4,5 @@ pub mod Ends
 pub mod Fault
 pub mod Memory
 pub mod Moments
+pub mod Scripts
 pub mod Standard

@@ -12,6 +12,7 @@ mod ends;
 mod fault;
 mod links;
 mod memory;
+mod scripts;
 mod standard;
 
 pub use clocks::Clock;
@@ -19,4 +20,5 @@ pub use ends::{Sink, Source};
 pub use fault::IoFault;
 pub use links::{Datagram, Link};
 pub use memory::{MemSink, MemSource};
+pub use scripts::{MemClock, MemLink};
 pub use standard::{StdSink, StdSource};
