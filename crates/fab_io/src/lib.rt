@@ -14,6 +14,7 @@ mod links;
 mod memory;
 mod scripts;
 mod standard;
+mod system;
 
 pub use clocks::Clock;
 pub use ends::{Sink, Source};
@@ -22,3 +23,4 @@ pub use links::{Datagram, Link};
 pub use memory::{MemSink, MemSource};
 pub use scripts::{MemClock, MemLink};
 pub use standard::{StdSink, StdSource};
+pub use system::{FileSource, MOST_WAIT, SystemClock, UdpLink};
