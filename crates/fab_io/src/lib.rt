@@ -16,9 +16,10 @@ mod scripts;
 mod standard;
 mod system;
 
+pub use calls::Calls;
 pub use clocks::Clock;
 pub use ends::{Sink, Source};
-pub use fault::IoFault;
+pub use fault::{IoFault, raise};
 pub use links::{Datagram, Link};
 pub use memory::{MemSink, MemSource};
 pub use scripts::{MemClock, MemLink};
