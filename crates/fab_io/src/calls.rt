@@ -1,6 +1,6 @@
 // Which calls of an end in memory are to fail.
-ghost use Rattle.std.specs.Prelude.{◌≡◌, ◌↔◌, IsTrue, OnOk, OnErr};
-ghost use Rattle.fab_io.specs.Ends.{Kept, one_more};
+ghost use Rattle.std.specs.Prelude.{◌≡◌, ◌≤◌, ◌↔◌, IsTrue, OnOk, OnErr};
+ghost use Rattle.fab_io.specs.Ends.{Kept, Rose, one_more};
 ghost use Rattle.fab_io.specs.Calls.{no_calls, FailsNext, NoneToFail, after_call, after_failed_call};
 
 use crate::fault::{IoFault, raise};
@@ -73,6 +73,8 @@ impl Calls {
     /// Counts a fault that has another cause, in a call that was counted.
     pub fn refuse(&mut self) -> IoFault
         ensures counted { self.new ≡ record self.old { faults = one_more self.old.faults } }
+        ensures later { self.old.faults ≤ self.new.faults }
+        ensures rose { Rose self.old.faults self.new.faults }
         ensures answer { result ≡ IoFault.Failed }
     {
         raise(&mut self.faults)
