@@ -1,5 +1,8 @@
 pub mod Calls
+pub mod Datagrams
 pub mod Ends
 pub mod Fault
 pub mod Memory
+pub mod Moments
+pub mod Scripts
 pub mod Standard

@@ -1,6 +1,6 @@
 // Which calls of an end in memory are to fail.
-ghost use Rattle.std.specs.Prelude.{◌≡◌, ◌↔◌, IsTrue, OnOk, OnErr};
-ghost use Rattle.fab_io.specs.Ends.{Kept};
+ghost use Rattle.std.specs.Prelude.{◌≡◌, ◌≤◌, ◌↔◌, IsTrue, OnOk, OnErr};
+ghost use Rattle.fab_io.specs.Ends.{Kept, Rose, one_more};
 ghost use Rattle.fab_io.specs.Calls.{no_calls, FailsNext, NoneToFail, after_call, after_failed_call};
 
 use crate::fault::{IoFault, raise};
@@ -9,7 +9,7 @@ use std::marker::Model;
 
 /// The calls made of an end in memory. They are numbered from 1, and the listed ones fail.
 #[derive(Drop)]
-pub(crate) struct Calls {
+pub struct Calls {
     made: u64,
     failing: Vec<u64>,
     faults: u64,
@@ -25,7 +25,7 @@ impl Model for Calls {
 
 impl Calls {
     /// No call was made, and none is to fail.
-    pub(crate) fn new(alloc: Global) -> Calls
+    pub fn new(alloc: Global) -> Calls
         ensures { result ≡ no_calls }
     {
         Calls {
@@ -36,14 +36,14 @@ impl Calls {
     }
 
     /// Puts this list of the calls that are to fail in the place of the one before.
-    pub(crate) fn fail_at(&mut self, calls: Vec<u64>)
+    pub fn fail_at(&mut self, calls: Vec<u64>)
         ensures { self.new ≡ record self.old { failing = calls.items } }
     {
         self.failing = calls;
     }
 
     /// Whether the coming call is to fail.
-    pub(crate) fn fails_next(&self) -> bool
+    pub fn fails_next(&self) -> bool
         ensures { IsTrue result ↔ FailsNext self.now }
     {
         let failing = self.failing.as_slice();
@@ -54,7 +54,7 @@ impl Calls {
     }
 
     /// Counts one more call, and fails where it is a listed one.
-    pub(crate) fn count(&mut self) -> Result<(), IoFault>
+    pub fn count(&mut self) -> Result<(), IoFault>
         ensures ok { OnOk result (self.new ≡ after_call self.old) }
         ensures err { OnErr result (self.new ≡ after_failed_call self.old) }
         ensures fails { (result ≡ Err IoFault.Failed) ↔ FailsNext self.old }
@@ -68,5 +68,15 @@ impl Calls {
             return Err(raise(&mut self.faults));
         }
         Ok(())
+    }
+
+    /// Counts a fault that has another cause, in a call that was counted.
+    pub fn refuse(&mut self) -> IoFault
+        ensures counted { self.new ≡ record self.old { faults = one_more self.old.faults } }
+        ensures later { self.old.faults ≤ self.new.faults }
+        ensures rose { Rose self.old.faults self.new.faults }
+        ensures answer { result ≡ IoFault.Failed }
+    {
+        raise(&mut self.faults)
     }
 }

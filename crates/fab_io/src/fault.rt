@@ -41,7 +41,7 @@ impl From<AllocError> for IoFault {
 }
 
 /// Counts one more fault and gives the answer for it. A count that stands at `u64::MAX` stays there.
-pub(crate) fn raise(faults: &mut u64) -> IoFault
+pub fn raise(faults: &mut u64) -> IoFault
     ensures counted { faults.new ≡ one_more faults.old }
     ensures later { faults.old ≤ faults.new }
     ensures rose { Rose faults.old faults.new }

@@ -1,17 +1,27 @@
-//! The ends of byte streams: where a program's bytes come from, and where they go.
+//! The ends of a program: where its bytes come from and where they go, the link over which it sends and receives datagrams,
+//! and its clock.
 //!
-//! [`Source`] and [`Sink`] are what a program asks of them. Each has a kind in memory, which tells what it
-//! holds and fails where it is told to, and an adapter over the readers and writers of std, as standard
-//! input and output.
+//! [`Source`], [`Sink`], [`Link`] and [`Clock`] are what a program asks of them. [`Source`] and [`Sink`] have each a kind in
+//! memory, which tells what it holds and fails where it is told to, and an adapter over the readers and writers of std,
+//! as standard input and output.
 #![tactic(auto)]
 
 mod calls;
+mod clocks;
 mod ends;
 mod fault;
+mod links;
 mod memory;
+mod scripts;
 mod standard;
+mod system;
 
+pub use calls::Calls;
+pub use clocks::Clock;
 pub use ends::{Sink, Source};
-pub use fault::IoFault;
+pub use fault::{IoFault, raise};
+pub use links::{Datagram, Link};
 pub use memory::{MemSink, MemSource};
+pub use scripts::{MemClock, MemLink};
 pub use standard::{StdSink, StdSource};
+pub use system::{FileSource, MOST_WAIT, SystemClock, UdpLink};
