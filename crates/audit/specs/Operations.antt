@@ -167,3 +167,19 @@ pub record Shows (claims : List Claim) (marks : List Mark) (past : ℕ) (index :
   pub count : length (begun_numbers marks) ≡ length index.found
   pub bounded : (k : ℕ) (o : Operation) → slice_get index.found k ≡ Some o
       → (o.brick < length index.crashes) × (o.crashes ≤ length (crashes_of index.crashes o.brick))
+
+-- the last position at which an operation may happen
+abbrev pub reach : Option ℕ → Option ℕ → ℕ → ℕ
+reach (Some p) crash past = p
+reach None (Some p) past = p
+reach None None past = past
+
+-- the data of an answer
+abbrev pub data_said : Outcome → Option (List ℕ)
+data_said (Data bytes) = Some bytes
+data_said Done = None
+data_said (Aborted reason) = None
+
+abbrev pub data_at : List Claim → Option ℕ → Option (List ℕ)
+data_at claims None = None
+data_at claims (Some p) = data_said (outcome_at claims p)

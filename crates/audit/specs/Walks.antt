@@ -54,3 +54,22 @@ walked_along block lives walk (h ∷ happenings) = walked_along block lives (wal
 -- before any happening of a stripe
 abbrev pub walk_from : List Bool → List ℕ → Walk
 walk_from happened registers = record { last = 0; happened = happened; registers = registers }
+
+-- the lives of the operations of a stripe that is looked at
+abbrev pub lives_of : Stripe → ℕ → Option Life
+lives_of stripe n = life_among stripe.claims.now stripe.operations.now stripe.past stripe.group stripe.stripe n
+
+-- a happening was taken, where it goes on, and nothing else goes on
+abbrev pub TakesHappening : ℕ → (ℕ → Option Life) → ℕ → List Bool → List ℕ → Happening → List Bool → List ℕ → Bool → Type 0
+TakesHappening block lives last happened registers h happened_after registers_after true =
+    GoesOn block lives (record { last = last; happened = happened; registers = registers }) h
+    × (walked block lives (record { last = last; happened = happened; registers = registers }) h
+    ≡ record { last = h.position; happened = happened_after; registers = registers_after })
+TakesHappening block lives last happened registers h happened_after registers_after false =
+    GoesOn block lives (record { last = last; happened = happened; registers = registers }) h → ⊥
+
+-- happenings were walked along, where they go on
+abbrev pub WalksAlong : ℕ → (ℕ → Option Life) → Walk → List Happening → List Bool → Bool → Type 0
+WalksAlong block lives walk happenings happened_after true =
+    GoOn block lives walk happenings × ((walked_along block lives walk happenings).happened ≡ happened_after)
+WalksAlong block lives walk happenings happened_after false = GoOn block lives walk happenings → ⊥

@@ -42,3 +42,130 @@ fn apply(access: Option<&Access>, block: usize, registers: &mut [u8])
         Some(Access::ReadBlock(_)) | Some(Access::ReadStripe) | None => {}
     }
 }
+
+/// A stripe whose happenings are looked at.
+#[derive(Clone, Copy)]
+pub(crate) struct Stripe<'a> {
+    /// The marks of the text.
+    pub claims: &'a [Claim],
+    /// The operations that begin in them.
+    pub operations: &'a Operations,
+    /// The group.
+    pub group: u64,
+    /// The stripe within the group.
+    pub stripe: u64,
+    /// As late as here an operation may happen that is still open.
+    pub past: u64,
+    /// How many data blocks the stripe has.
+    pub m: u8,
+    /// How many bytes a block has.
+    pub block: usize,
+}
+
+/// Whether an operation may happen at this position.
+fn is_in_time(operations: &Operations, operation: &Operation, past: u64, position: u64) -> bool
+    ensures { IsTrue result ↔ ((operation.now.begin ≤ position)
+        × (position ≤ reach operation.now.end (crash_after operations.now.crashes operation.now) past)) }
+{
+    if position < operation.begin as u64 {
+        return false;
+    }
+    match operation.end {
+        Some(place) => position <= place as u64,
+        None => match operations.crash_after(operation) {
+            Some(crash) => position <= crash,
+            None => position <= past,
+        },
+    }
+}
+
+/// Whether an operation is no answered read, or was answered what the registers hold.
+fn is_read_right(claims: &[Claim], operation: &Operation, block: usize, registers: &[u8]) -> bool
+    requires { FitsRegisters block registers.now (op_of (access_at claims.now operation.now.begin)) }
+    ensures { IsTrue result ↔ IsRead (read_of block (op_of (access_at claims.now operation.now.begin)) registers.now) (data_at claims.now operation.now.end) }
+{
+    match operation.end {
+        Some(place) => match outcome_at(claims, place) {
+            Some(Outcome::Data(bytes)) => reads(
+                access_at(claims, operation.begin),
+                block,
+                registers,
+                bytes.as_slice(),
+            ),
+            Some(Outcome::Done) | Some(Outcome::Aborted(_)) | None => true,
+        },
+        None => true,
+    }
+}
+
+impl Stripe<'_> {
+    /// The operation of a number, where it is of this stripe.
+    fn find(&self, operation: u64) -> Option<Operation>
+        ensures { option_map (life_in self.now.claims.now self.now.operations.now.crashes self.now.past) result
+            ≡ life_among self.now.claims.now self.now.operations.now self.now.past self.now.group self.now.stripe operation }
+    {
+        if operation == 0 {
+            return None;
+        }
+        let found = self.operations.as_slice().get(operation as usize - 1).copied()?;
+        if found.group == self.group && found.stripe == self.stripe {
+            Some(found)
+        } else {
+            None
+        }
+    }
+
+    /// Takes a happening after the last one, and answers whether it goes on.
+    fn take(
+        &self,
+        happening: Happening,
+        last: u64,
+        happened: &mut [bool],
+        registers: &mut [u8],
+    ) -> bool
+        requires fits { (n : ℕ) → LifeFits self.now.m self.now.block (lives_of self.now n) }
+        requires room { length registers.old ≡ self.now.m * self.now.block }
+        requires marks { length happened.old ≡ length self.now.operations.now.found }
+        ensures { TakesHappening self.now.block (lives_of self.now) last happened.old registers.old happening happened.new registers.new result }
+    {
+        if happening.position < last {
+            return false;
+        }
+        let Some(found) = self.find(happening.operation) else {
+            return false;
+        };
+        let at = happening.operation as usize - 1;
+        if happened[at] || !is_in_time(self.operations, &found, self.past, happening.position) {
+            return false;
+        }
+        if !is_read_right(self.claims, &found, self.block, registers) {
+            return false;
+        }
+        apply(access_at(self.claims, found.begin), self.block, registers);
+        happened[at] = true;
+        true
+    }
+
+    /// Walks along happenings, and answers whether all go on. The registers are zero before. Where one does not go on, `happened` says
+    /// nothing of this stripe's operations.
+    pub(crate) fn walk(
+        &self,
+        happenings: &[Happening],
+        happened: &mut [bool],
+        registers: &mut [u8],
+    ) -> bool
+        requires fits { (n : ℕ) → LifeFits self.now.m self.now.block (lives_of self.now n) }
+        requires room { length registers.old ≡ self.now.m * self.now.block }
+        requires marks { length happened.old ≡ length self.now.operations.now.found }
+        ensures { WalksAlong self.now.block (lives_of self.now) (walk_from happened.old registers.old) happenings.now happened.new result }
+    {
+        let mut last = 0;
+        for happening in happenings {
+            if !self.take(*happening, last, happened, registers) {
+                return false;
+            }
+            last = happening.position;
+        }
+        true
+    }
+}

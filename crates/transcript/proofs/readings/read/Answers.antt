@@ -3,7 +3,7 @@ use Rattle.std.proofs.Common.{◌≡◌, ℕ, sym, subst, arith}
 use Rattle.std.specs.Io.KnownBytes.{prepend_known}
 use Rattle.fab_io.proofs.Keeping.{Kept-refl, Kept-trans, Kept-calm}
 use Rattle.transcript.specs.declared.readings.Text.{Text}
-use Rattle.transcript.specs.Transcripts.{IsTextOf, EndsWhole}
+use Rattle.transcript.specs.Transcripts.{IsTextOf, EndsWhole, most_lines}
 use Rattle.transcript.proofs.Turns.{ends_whole, none_left_at, many_come, from_start}
 use Rattle.transcript.proofs.readings.read.Goals as goal
 
@@ -47,3 +47,15 @@ loop-count-preserved g c =
       leads = λ text behind. c.loop-count.invariant.leads text (turn c.loop-count.count _ _ c.loop-count-test.true c.in_ok-piece.ensures.says text behind);
       source = Kept-trans c.loop-count.invariant.source (Kept-calm c.next_line.ensures.kept);
     }
+
+pub returns-in-Ended-more-clause-text : goal.returns-in-Ended-more-clause-text
+returns-in-Ended-more-clause-text g c =
+    let says = rw c.in-Ended-more.is at c.in_ok-more.ensures.says in
+    let all : c.loop-count.count ≡ most_lines = omega arith in
+    subst (λ (t : Text). IsTextOf (prepend_known c.args.unread.now (g.S.Source.told c.args.source.now)) t) (sym c.finish-in-Ended-more.ensures)
+    (c.loop-count.invariant.leads _ (none_left_at c.loop-count.count most_lines _ _ all says.0))
+
+pub returns-clause-text : goal.returns-clause-text
+returns-clause-text g c =
+    c.loop-count.invariant.leads _
+    (many_come c.loop-count.count _ _ _ _ (omega arith) c.in_default.not-Ended c.in_ok-more.ensures.says)
