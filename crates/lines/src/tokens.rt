@@ -21,8 +21,8 @@ pub(crate) fn split(alloc: Global, content: &[u8]) -> Result<Vec<&[u8]>, AllocEr
         .collect(alloc)
 }
 
-/// The number that a token spells.
-pub(crate) fn parse_number(token: &[u8]) -> Option<u64>
+/// The number that a token spells: 1 to 20 decimal digits with a value below 2^64.
+pub fn parse_number(token: &[u8]) -> Option<u64>
     ensures { result ≡ number token.now }
 {
     if token.len() > MOST_DIGITS || !is_digits(token) {
@@ -41,8 +41,8 @@ fn is_digits(token: &[u8]) -> bool
     token.iter().all(|byte| byte.is_ascii_digit())
 }
 
-/// The bytes that a token spells in hex.
-pub(crate) fn parse_hex(alloc: Global, token: &[u8]) -> Result<Option<Bytes>, NoMem>
+/// The bytes that a token spells in hex of either case, at least one. `NoMemory` where there was no memory for them.
+pub fn parse_hex(alloc: Global, token: &[u8]) -> Result<Option<Bytes>, NoMem>
     ensures { IfOk result (λ bytes. bytes ≡ bytes_of_hex token.now) }
 {
     if token.len() < 2 {

@@ -1,0 +1,4 @@
+pub mod Lists
+pub mod Indexes
+pub mod Steps
+pub mod Taking

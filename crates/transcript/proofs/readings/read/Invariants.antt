@@ -1,0 +1,13 @@
+-- what is left of the text is what all of it is
+use Rattle.std.specs.Io.KnownBytes.{prepend_known}
+use Rattle.fab_io.specs.Ends.{Kept}
+use Rattle.transcript.specs.declared.readings.Text.{Text}
+use Rattle.transcript.specs.Transcripts.{IsTextBehind, IsTextOf}
+use Rattle.transcript.proofs.readings.read.Given as goal
+
+abbrev pub invariant-loop-count : goal.invariant-loop-count
+invariant-loop-count g l = record {
+  leads : (text : Text) → IsTextBehind l.count l.said (prepend_known l.unread (g.S.Source.told l.source)) text
+      → IsTextOf (prepend_known l.initial.unread (g.S.Source.told l.initial.source)) text;
+  source : Kept (g.S.Source.faults l.initial.source) (g.S.Source.faults l.source) (g.S.Source.sound l.initial.source) (g.S.Source.sound l.source) ⊥;
+}
