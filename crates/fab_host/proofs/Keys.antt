@@ -16,6 +16,7 @@ use Rattle.fab_host.specs.Slots.{held_in, under, TakesOut}
 abbrev pub IsExact : {K : Type 0} → (K → K → Bool) → Type 0
 IsExact {K} same = (a b : K) → same a b ≡ true → a ≡ b
 
+-- what stands under a key is in the first slot that has it
 under_here : {K T : Type 0} (same : K → K → Bool) (slots : List (Slot K T)) (key : K) (i : ℕ) (d : Slot K T) → i < length slots
     → same (slice_index_or slots i d).key key ≡ true
     → ((k : ℕ) → k < i → same (slice_index_or slots k d).key key ≡ false)
@@ -33,6 +34,7 @@ under_at same slots key i d at =
     let first = position-Some (λ (slot : Slot _ _). same slot.key key) slots i d at in
     under_here same slots key i d first.0 first.1 first.2
 
+-- nothing stands under a key that no slot has, by the place at which it was looked for
 under_nowhere : {K T : Type 0} (same : K → K → Bool) (slots : List (Slot K T)) (key : K)
     → length slots ≤ position_or_len (λ (slot : Slot K T). same slot.key key) slots
     → under same slots key ≡ absent
@@ -62,6 +64,7 @@ apart same exact a b other miss own =
       | inr far ↦ far
     ]
 
+-- what stands under each key where a slot that was found holds another thing
 under_changed : {K T : Type 0} (same : K → K → Bool) (exact : IsExact same) (slots : List (Slot K T)) (key : K) (i : ℕ) (d : Slot K T) (thing : Option T)
     (other : K) → i < length slots
     → same (slice_index_or slots i d).key key ≡ true
@@ -94,6 +97,7 @@ held_in_known : {T : Type 0} (thing : Option T) → held_in thing ≡ absent →
 held_in_known None e = cc
 held_in_known (Some x) e = cc
 
+-- what stands under each key where a slot is added
 under_more : {K T : Type 0} (same : K → K → Bool) (exact : IsExact same) (slots : List (Slot K T)) (s : Slot K T) (other : K)
     → under same slots s.key ≡ absent
     → under same (slots ++ s ∷ []) other ≡ at_key same (under same slots) s.key (held_in s.thing) other
@@ -155,10 +159,11 @@ pub IsKnown-found : {K T : Type 0} (same : K → K → Bool) (slots : List (Slot
     → ⊥
 IsKnown-found same slots key known at = subst IsKnown (under_none same slots key at) known
 
--- names and ports are told apart
+-- names are told apart
 pub names_exact : IsExact bytes_eq
 names_exact a b e = (bytes_eq-Decides a b).0 e
 
+-- and ports
 pub ports_exact : IsExact nat_eq
 ports_exact a b e = (unsigned_Decides a b).0 e
 
@@ -169,22 +174,25 @@ pub here-at : {K T : Type 0} (same : K → K → Bool) (slots : List (Slot K T))
     → under same slots key ≡ here thing
 here-at same slots key i d thing at is = under_at same slots key i d at ∙ ap held_in is
 
+-- and that nothing is in one
 pub lent-at : {K T : Type 0} (same : K → K → Bool) (slots : List (Slot K T)) (key : K) (i : ℕ) (d : Slot K T)
     → position (λ (slot : Slot K T). same slot.key key) slots ≡ Some i
     → (slice_index_or slots i d).thing ≡ None
     → IsMissing (under same slots key)
 lent-at same slots key i d at is = subst IsMissing (sym (under_at same slots key i d at ∙ ap held_in is)) tt
 
+-- and that there is none
 pub missing-none : {K T : Type 0} (same : K → K → Bool) (slots : List (Slot K T)) (key : K)
     → position (λ (slot : Slot K T). same slot.key key) slots ≡ None
     → IsMissing (under same slots key)
 missing-none same slots key at = subst IsMissing (sym (under_none same slots key at)) tt
 
+-- a slot is known
 held_in-IsKnown : {T : Type 0} (thing : Option T) → IsKnown (held_in thing)
 held_in-IsKnown None = tt
 held_in-IsKnown (Some x) = tt
 
--- a key that has a slot is known, and another is absent
+-- a key for which a slot was found is known
 pub known_where_found : {K T : Type 0} (same : K → K → Bool) (slots : List (Slot K T)) (key : K) (r : Option ℕ)
     → r ≡ position (λ (slot : Slot K T). same slot.key key) slots
     → IsSome r
@@ -194,6 +202,7 @@ known_where_found same (s ∷ ss) key (Some i) at some =
     subst IsKnown (sym (under_at same (s ∷ ss) key i s (sym at))) (held_in-IsKnown (slice_index_or (s ∷ ss) i s).thing)
 known_where_found same slots key None at some = cc
 
+-- and absent where none was found
 pub absent_where_not : {K T : Type 0} (same : K → K → Bool) (slots : List (Slot K T)) (key : K) (r : Option ℕ)
     → r ≡ position (λ (slot : Slot K T). same slot.key key) slots
     → IsNone r
@@ -210,6 +219,7 @@ under_replaced {K} {T} same exact slots key i old thing at from =
     subst (λ (z : Slot K T). under same (slice_set slots i (record { key = z.key; thing = thing })) ≡ at_key same (under same slots) key (held_in thing))
     (sym from) (under_put same exact slots key i old thing at)
 
+-- and one that is known by itself is emptied
 pub TakesOut-replaced : {K T : Type 0} (same : K → K → Bool) (exact : IsExact same) (slots : List (Slot K T)) (key : K) (i : ℕ) (old : Slot K T) (r left : Option T)
     → position (λ (slot : Slot K T). same slot.key key) slots ≡ Some i
     → old ≡ slice_index_or slots i old

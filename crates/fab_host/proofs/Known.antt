@@ -6,6 +6,7 @@ use Rattle.std.specs.Cmp.{unsigned_Decides}
 use Rattle.std.specs.Str.{bytes_eq}
 use Rattle.fab_host.specs.Held.{Held, at_key, at_name, at_port, IsKnown}
 
+-- what was put under a key is under it
 own : {K T : Type 0} (same : K → K → Bool) (held : K → Held T) (key : K) (now : Held T) → same key key ≡ true → at_key same held key now key ≡ now
 own same held key now is = rw is refl
 
@@ -17,6 +18,7 @@ at_name-own held name now = own bytes_eq held name now ((bytes_eq-Decides name n
 pub at_port-own : {T : Type 0} (held : ℕ → Held T) (port : ℕ) (now : Held T) → at_port held port now port ≡ now
 at_port-own held port now = own nat_eq held port now ((unsigned_Decides port port).1 refl)
 
+-- under a key that is not the same all stays
 other_than : {K T : Type 0} (same : K → K → Bool) (held : K → Held T) (key other : K) (now : Held T) → same key other ≡ false
     → at_key same held key now other ≡ held other
 other_than same held key other now miss = rw miss refl

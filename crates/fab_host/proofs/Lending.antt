@@ -7,6 +7,7 @@ use Rattle.fab_host.specs.Held.{Held, lent, here, at_key, AllHere}
 use Rattle.fab_host.specs.Slots.{held_in}
 use Rattle.fab_host.specs.Opening.{OpeningKept}
 
+-- what is lent is not here
 lent_is_not_here : {T : Type 0} (thing : T) → lent ≡ here thing → ⊥
 lent_is_not_here thing e = cc
 
@@ -19,6 +20,7 @@ AllHere-lent {K} {T} same P f g key e all =
       | inr miss ↦ all other thing (let l : cond (same key other) lent (f other) ≡ f other = rw miss refl in sym l ∙ is)
     ])
 
+-- what is here is one thing
 here-injective : {T : Type 0} (a b : T) → here a ≡ here b → a ≡ b
 here-injective a b e = cc
 
@@ -48,11 +50,12 @@ kept_refused first then rose stays cause =
 pub missing_lent : {T : Type 0} (place : Option T) (x : T) → place ≡ None → held_in place ≡ here x → ⊥
 missing_lent {T} place x gone is = lent_is_not_here x (ap (λ (p : Option T). held_in p) (sym gone) ∙ is)
 
--- what follows at `Ok`, and at `Err`
+-- what follows at `Ok`
 pub OnOk-with : {T E : Type 0} {A B : Type 0} (r : Result T E) → (A → B) → OnOk r A → OnOk r B
 OnOk-with (Ok x) f a = f a
 OnOk-with (Err e) f a = a
 
+-- the same at `Err`
 pub OnErr-with : {T E : Type 0} {A B : Type 0} (r : Result T E) → (A → B) → OnErr r A → OnErr r B
 OnErr-with (Ok x) f a = a
 OnErr-with (Err e) f a = f a
