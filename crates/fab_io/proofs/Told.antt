@@ -9,23 +9,26 @@ pub Stays-refl : (a : Option (List Datagram)) → Stays a a
 Stays-refl None = tt
 Stays-refl (Some x) = refl
 
+-- what stays has lost none
 pub Loses-none : (a b : Option (List Datagram)) → Stays a b → Loses a b []
 Loses-none None b p = tt
 Loses-none (Some x) None p = absurd p
 Loses-none (Some x) (Some y) p = sym p
 
+-- and has grown by none
 pub Grows-none : (a b : Option (List Datagram)) → Stays a b → Grows a b []
 Grows-none None b p = tt
 Grows-none (Some x) None p = absurd p
 Grows-none (Some x) (Some y) p = p ∙ sym (append-nil x)
 
--- some, and then more
+-- they lost some, and then more
 pub Loses-trans : (a b c : Option (List Datagram)) (first then : List Datagram) → Loses a b first → Loses b c then → Loses a c (first ++ then)
 Loses-trans None b c first then p q = tt
 Loses-trans (Some x) None c first then p q = absurd p
 Loses-trans (Some x) (Some y) None first then p q = absurd q
 Loses-trans (Some x) (Some y) (Some z) first then p q = p ∙ ap (λ l. first ++ l) q ∙ sym (append_assoc first then z)
 
+-- they grew by some, and then by more
 pub Grows-trans : (a b c : Option (List Datagram)) (first then : List Datagram) → Grows a b first → Grows b c then → Grows a c (first ++ then)
 Grows-trans None b c first then p q = tt
 Grows-trans (Some x) None c first then p q = absurd p
@@ -38,6 +41,7 @@ Begins-same f g h [] same p = λ k. p k ∙ same k
 Begins-same f g h (m ∷ ms) same (is, p) =
     (is ∙ same 0, Begins-same (λ k. f (k + 1)) (λ k. g (k + 1)) h ms (λ k. same (k + 1)) p)
 
+-- some of them, and then those behind them
 Begins-trans : (f g h : ℕ → ℕ) (first then : List ℕ) → Begins f g first → Begins g h then → Begins f h (first ++ then)
 Begins-trans f g h [] then p q = Begins-same f g h then p q
 Begins-trans f g h (m ∷ ms) then (is, p) q = (is, Begins-trans (λ k. f (k + 1)) g h ms then p q)

@@ -1,5 +1,5 @@
 // Adapters over the system: a file, a UDP socket, and its clock. They tell nothing of what the system does.
-ghost use Rattle.std.specs.Prelude.{◌≡◌, ◌≤◌, length, IfOk, IfSome, IsErr, IsOkUnless};
+ghost use Rattle.std.specs.Prelude.{◌≡◌, ◌≤◌, length, IfOk, IfSome};
 ghost use Rattle.fab_io.specs.Ends.{Kept};
 
 use crate::clocks::Clock;
@@ -71,18 +71,11 @@ impl UdpLink {
         Ok(UdpLink { socket, faults: 0 })
     }
 
-    /// From now on a look waits, or it doesn't.
-    ///
-    /// # Errors
-    /// `Failed` where the system refuses.
-    pub fn set_waiting(&mut self, waits: bool) -> Result<(), IoFault>
-        ensures kept { Kept self.old.faults self.new.faults ⊥ ⊥ (IsErr result) }
-        ensures only { IsOkUnless result IoFault.Failed }
+    /// From now on a look waits, or it doesn't. Where the system refuses, it goes on as before.
+    pub fn set_waiting(&mut self, waits: bool)
+        ensures { self.new.faults ≡ self.old.faults }
     {
-        match self.socket.set_nonblocking(!waits) {
-            Ok(()) => Ok(()),
-            Err(_) => Err(raise(&mut self.faults)),
-        }
+        let _ = self.socket.set_nonblocking(!waits);
     }
 }
 

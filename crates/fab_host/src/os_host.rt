@@ -1,0 +1,200 @@
+// A host over the system, which tells nothing of what the system does.
+ghost use Rattle.std.specs.Prelude.{◌≡◌, IfOk};
+ghost use Rattle.std.specs.Io.{ReadsAtMost};
+
+use crate::asking::{ask, name_of};
+use crate::hosts::{Asked, Host};
+use crate::os_links::{OsLink, Turns};
+use fab_disk::FileDisk;
+use fab_io::{FileSource, IoFault, Source, SystemClock, UdpLink, raise};
+use std::alloc::Global;
+use std::fs::{File, Files};
+use std::net::Net;
+use std::path::Path;
+use std::rc::Rc;
+use std::{io, time};
+
+/// A host that opens the files, the UDP ports of 127.0.0.1 and the clock of the system, and gives as standard input the source that
+/// it was made over, once.
+///
+/// A disk is a file that is locked while it is open, so that one that is open elsewhere is a fault. A fresh one is made
+/// exclusively, and its folder is synced. Each error of the system is a fault. A host tells the calls asked of it and nothing
+/// else, and is never sound; what it is given back it closes.
+#[derive(Drop)]
+pub struct OsHost<'r, R: Files<File = File> + Net + time::Clock, I: Source + Drop> {
+    system: &'r R,
+    input: Option<I>,
+    turns: Rc<Turns>,
+    asked: Vec<Asked>,
+    faults: u64,
+}
+
+impl<'r, R: Files<File = File> + Net + time::Clock, I: Source + Drop> OsHost<'r, R, I> {
+    /// A host over this system, whose standard input is this source.
+    ///
+    /// # Errors
+    /// `NoMemory`.
+    pub fn new(alloc: Global, system: &'r R, input: I) -> Result<OsHost<'r, R, I>, IoFault> {
+        let turns = match Rc::new(alloc, Turns::none()) {
+            Ok(turns) => turns,
+            Err(_) => return Err(IoFault::NoMemory),
+        };
+        Ok(OsHost {
+            system,
+            input: Some(input),
+            turns,
+            asked: Vec::new(alloc),
+            faults: 0,
+        })
+    }
+}
+
+impl<'r, R: Files<File = File> + Net + time::Clock, I: Source + Drop> Host for OsHost<'r, R, I> {
+    ghost use Rattle.std.specs.Prelude.{None};
+
+    type Source = OsSource<I>;
+
+    type Disk = FileDisk;
+
+    type Link = OsLink;
+
+    type Clock = SystemClock<&'r R>;
+
+    ghost faults = { λ h. h.faults };
+
+    ghost asked = { λ h. h.asked.items };
+
+    ghost holds = { λ _. None };
+
+    ghost sound = { λ _. ⊥ };
+
+    fn source(&mut self, name: &str) -> Result<OsSource<I>, IoFault> {
+        let alloc: Global = *self.asked.allocator();
+        ask(&mut self.asked, Asked::Source(name_of(alloc, name)?))?;
+        if name == "-" {
+            return match self.input.take() {
+                Some(input) => Ok(OsSource::new(Origin::Input(input))),
+                None => Err(raise(&mut self.faults)),
+            };
+        }
+        match FileSource::open(self.system, name) {
+            Ok(file) => Ok(OsSource::new(Origin::File(file))),
+            Err(_) => Err(raise(&mut self.faults)),
+        }
+    }
+
+    fn disk(&mut self, name: &str, fresh: bool) -> Result<FileDisk, IoFault> {
+        let alloc: Global = *self.asked.allocator();
+        let asked = name_of(alloc, name)?;
+        ask(&mut self.asked, Asked::Disk { name: asked, fresh })?;
+        match open_disk(self.system, name, fresh) {
+            Ok(file) => Ok(FileDisk::new(file)),
+            Err(_) => Err(raise(&mut self.faults)),
+        }
+    }
+
+    fn link(&mut self, port: u16) -> Result<OsLink, IoFault> {
+        let turns = self.turns.clone()?;
+        ask(&mut self.asked, Asked::Link(port))?;
+        match UdpLink::bind(self.system, port) {
+            Ok(link) => Ok(OsLink::new(link, turns)),
+            Err(_) => Err(raise(&mut self.faults)),
+        }
+    }
+
+    fn clock(&mut self) -> Result<SystemClock<&'r R>, IoFault> {
+        ask(&mut self.asked, Asked::Clock)?;
+        Ok(SystemClock::new(self.system))
+    }
+
+    fn keep_source(&mut self, _name: &str, _source: OsSource<I>) {}
+
+    fn keep_disk(&mut self, _name: &str, _disk: FileDisk) {}
+
+    fn keep_link(&mut self, _port: u16, link: OsLink) {
+        link.close();
+    }
+
+    fn keep_clock(&mut self, _clock: SystemClock<&'r R>) {}
+}
+
+// Opens a disk's file and locks it. A fresh one must not be there before.
+fn open_disk<R: Files<File = File>>(files: &R, name: &str, fresh: bool) -> io::Result<File> {
+    let file = File::options()
+        .read(true)
+        .write(true)
+        .create_new(fresh)
+        .open(files, name)?;
+    file.try_lock()?;
+    if fresh {
+        sync_folder(files, name)?;
+    }
+    Ok(file)
+}
+
+// Brings to the medium that a file of this name is there.
+fn sync_folder<R: Files<File = File>>(files: &R, name: &str) -> io::Result<()> {
+    let folder = match Path::new(name).parent() {
+        Some(folder) if !folder.as_str().is_empty() => File::open(files, folder)?,
+        _ => File::open(files, ".")?,
+    };
+    folder.sync_all()
+}
+
+/// A source of an [`OsHost`]: a file, or the source that it gives as standard input. It tells nothing, and is never sound.
+#[derive(Drop)]
+pub struct OsSource<I: Source + Drop> {
+    origin: Origin<I>,
+    came: usize,
+    faults: u64,
+}
+
+// Where the bytes come from.
+#[derive(Drop)]
+enum Origin<I: Source + Drop> {
+    Input(I),
+    File(FileSource),
+}
+
+impl<I: Source + Drop> OsSource<I> {
+    fn new(origin: Origin<I>) -> OsSource<I> {
+        OsSource {
+            origin,
+            came: 0,
+            faults: 0,
+        }
+    }
+}
+
+impl<I: Source + Drop> Source for OsSource<I> {
+    ghost use Rattle.std.specs.Prelude.{None};
+
+    ghost faults = { λ s. s.faults };
+
+    ghost told = { λ _. None };
+
+    ghost came = { λ s. s.came };
+
+    ghost sound = { λ _. ⊥ };
+
+    fn read(&mut self, into: &mut [u8]) -> Result<usize, IoFault> {
+        self.came = 0;
+        match read_from(&mut self.origin, into) {
+            Ok(count) => {
+                self.came = count;
+                Ok(count)
+            }
+            Err(IoFault::Failed) => Err(raise(&mut self.faults)),
+            Err(IoFault::NoMemory) => Err(IoFault::NoMemory),
+        }
+    }
+}
+
+fn read_from<I: Source + Drop>(origin: &mut Origin<I>, into: &mut [u8]) -> Result<usize, IoFault>
+    ensures { ReadsAtMost result into.new }
+{
+    match origin {
+        Origin::Input(input) => input.read(into),
+        Origin::File(file) => file.read(into),
+    }
+}
