@@ -1,5 +1,5 @@
 -- The notes stand by place, from 0.
-use Rattle.std.proofs.Common.{ℕ, ◌+◌, ◌≡◌, sym, ap, ◌∙◌, arith}
+use Rattle.std.proofs.Common.{◌≡◌, sym, ap, ◌∙◌, arith}
 use Rattle.world.proofs.ledgers.Ledger.was_delivered.Goals as goal
 
 pub returns-then-number-eq0 : goal.returns-then-number-eq0
