@@ -369,7 +369,7 @@ impl Simulation {
             → IsCalm (coding layout.now) w operation (map brick_of bricks.now)
             → HasBegun layout.now w operation (map brick_of bricks.now) (disks_of self.old.bricks.items) self.new) }
     {
-        let mut from = 0;
+        let mut from: usize = 0;
         let mut some = false;
         while let Some(origin) = self.open_origin(operation) {
             let start = from.max(origin.first);

@@ -1,5 +1,7 @@
 -- Each message that is left is delivered, and the operation ends, or none is left.
-use Rattle.std.proofs.Common.{rules, ◌+◌, ◌<◌, List, length, None, Some, ◌∙◌, subst}
+use Rattle.std.proofs.Common.{◌≡◌, rules, arith, ◌+◌, ◌<◌, List, length, None, Some, ◌∙◌, subst}
+use Rattle.std.specs.Prelude.{max}
+use Rattle.std.proofs.lemmas.Bool.Decides.{nat_tests}
 use Rattle.std.proofs.lemmas.Option.{slice_get_within}
 use Rattle.lines.specs.declared.forms.Line.TheVariants.{Deliver}
 use Rattle.messages.specs.declared.packets.Packet.{Packet}
@@ -19,9 +21,10 @@ loop-origin-init c = (
 pub returns-in_default-next_left-clause-run : goal.returns-in_default-next_left-clause-run
 returns-in_default-next_left-clause-run c w reached shows notes calm =
     let so = c.loop-origin.invariant.1 w reached shows notes calm in
+    let start : c.max-start.result ≡ max c.loop-origin.from c.in-Some.origin.first = grind (arith, nat_tests, c.max-start.ensures) in
     has_stuck c.args.layout.now w c.args.operation c.args.bricks.now (disks_of c.args.self.now.bricks.items) c.loop-origin.self c.loop-origin.from
     c.loop-origin.some calm so c.in-Some.origin (c.in-Some.ensures c.args.layout.now so.last so.reached so.shows so.notes) c.max-start.result
-    c.max-start.ensures
+    start
     (subst (λ (sent : List Packet). FindsLeft c.loop-origin.self.ledger.reached.items c.in-Some.origin c.args.bricks.now c.max-start.result sent None)
     (c.deref.ensures.value ∙ so.shows.history.packets) c.in_default-next_left.ensures)
 
@@ -57,9 +60,10 @@ loop-origin-preserved c = (
       ),
   λ w reached shows notes calm.
       (let so = c.loop-origin.invariant.1 w reached shows notes calm in
+      let start : c.max-start.result ≡ max c.loop-origin.from c.in-Some.origin.first = grind (arith, nat_tests, c.max-start.ensures) in
       goes_on c.args.layout.now w c.args.operation c.args.bricks.now (disks_of c.args.self.now.bricks.items) c.loop-origin.self c.loop-origin.from
       c.loop-origin.some calm so c.in-Some.origin (c.in-Some.ensures c.args.layout.now so.last so.reached so.shows so.notes) c.max-start.result
-      c.max-start.ensures c.in-Some-next_left.place
+      start c.in-Some-next_left.place
       c.deliver.new.self c.in_ok-deliver.field-0
       (subst (λ (sent : List Packet). FindsLeft c.loop-origin.self.ledger.reached.items c.in-Some.origin c.args.bricks.now c.max-start.result sent
       (Some c.in-Some-next_left.place)) (c.deref.ensures.value ∙ so.shows.history.packets) c.in-Some-next_left.ensures)

@@ -1,5 +1,5 @@
 -- The ledger notes it, of the world that the run leaves.
-use Rattle.std.proofs.Common.{Bool, ◌≡◌, subst}
+use Rattle.std.proofs.Common.{◌≡◌, subst}
 use Rattle.world.specs.Runs.{Run, world_of}
 use Rattle.world.specs.Standing.{run_of}
 use Rattle.world.proofs.Numberless.{none_at_zero}
