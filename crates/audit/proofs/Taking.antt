@@ -205,8 +205,7 @@ takes layout claims marks i index later (Begin q n b g s access) shows bricks at
     same e = cc
 takes layout claims marks i index later (End q zero outcome) shows bricks at is =
     let first = cond_some _ _ later is in
-    let second = cond_some _ _ later first.1 in
-    absurd (let never : false ≡ true = second.0 in cc)
+    absurd (let never : None ≡ Some later = first.1 in cc)
 takes layout claims marks i index later (End q (suc k) outcome) shows bricks at is =
     let first = cond_some _ _ later is in
     let second = cond_some _ _ later first.1 in

@@ -1,5 +1,5 @@
 -- Which marks, happenings and counts hold under a layout.
-use Rattle.std.specs.Prelude.{◌≡◌, ℕ, ◌+◌, ◌<◌, nat_eq, nat_lt, ◌&&◌, ◌||◌, ◌⊎◌, true, if◌then◌else◌, List, [], ◌∷◌, take, slice_get, count_by, ⊤, Option, Some, None}
+use Rattle.std.specs.Prelude.{◌≡◌, ℕ, ◌+◌, ◌<◌, nat_eq, ◌&&◌, ◌⊎◌, Bool, true, false, if◌then◌else◌, List, [], ◌∷◌, take, slice_get, count_by, ⊤, Option, Some, None}
 use Rattle.fab_base.specs.declared.asks.Ask.{Ask}
 use Rattle.fab_base.specs.declared.asks.Op.{Op}
 use Rattle.fab_base.specs.declared.asks.Op.TheVariants.{ReadBlock, WriteBlock, ReadStripe, WriteStripe}
@@ -109,3 +109,8 @@ Finds layout marks lines counts Sound = MarksHold layout marks × StripesHold la
 Finds layout marks lines counts BadMarks = MarksHold layout marks → ⊥
 Finds layout marks lines counts (BadStripe g s) = MarksHold layout marks × IsFirstBad layout marks lines g s
 Finds layout marks lines counts BadCount = MarksHold layout marks × StripesHold layout marks lines × (CountsHold counts marks → ⊥)
+
+-- whether the counts hold was answered
+abbrev pub CountsAnswer : Counts → List Mark → Bool → Type 0
+CountsAnswer counts marks true = CountsHold counts marks
+CountsAnswer counts marks false = CountsHold counts marks → ⊥

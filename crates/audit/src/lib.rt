@@ -7,6 +7,12 @@
 
 mod crashes;
 mod findings;
+mod judging;
+mod lasts;
 mod operations;
+mod reviews;
+mod sweeps;
+mod walks;
 
 pub use findings::Finding;
+pub use judging::judge;
