@@ -9,19 +9,19 @@ use Rattle.reg_model.specs.declared.marks.Mark.{Mark}
 use Rattle.transcript.specs.declared.claims.Claim.{Claim}
 use Rattle.transcript.specs.declared.claims.StripeLine.{StripeLine}
 use Rattle.transcript.specs.Marks.{marks_of}
-use Rattle.transcript.specs.Transcripts.{stripe_before}
+use Rattle.transcript.specs.Transcripts.{stripe_before, StripesRise}
 use Rattle.audit.specs.declared.operations.Operation.{Operation}
 use Rattle.audit.specs.declared.reviews.Review.{Review}
 use Rattle.audit.specs.declared.sweeps.StripeName.{StripeName}
 use Rattle.audit.specs.Checks.{IsNamed, StripeHolds, IsBefore, IsFirstBad}
 use Rattle.audit.specs.Judging.{FindsBad}
 use Rattle.audit.specs.Reviews.{Reviews}
-use Rattle.audit.specs.Sweeps.{LineGoes, LinesGo, StopsAt, happened_in, none_happened, was_answered, is_missing, name_before, name_of, StripesRise}
+use Rattle.audit.specs.Sweeps.{LineGoes, LinesGo, LinesStop, StopsAt, first_missing, happened_in, none_happened, was_answered, is_missing, name_before, name_of}
 use Rattle.audit.proofs.Lists.{same_some, get_within}
 use Rattle.audit.proofs.LineGoing.{kept}
-use Rattle.audit.proofs.Marking.{stops_parts}
-use Rattle.audit.proofs.Missing.{Missing, IsFirst, FirstMeans, before_later}
-use Rattle.audit.proofs.Verdicts.{known, own_stripe, holds, misses, stopped}
+use Rattle.audit.proofs.Marking.{stops_parts, length_none}
+use Rattle.audit.proofs.Missing.{Missing, IsFirst, FirstMeans, first_means}
+use Rattle.audit.proofs.Verdicts.{known, own_stripe, length_in, holds, misses, stopped}
 
 -- the order of stripes, in its two forms
 before_test : (g s h t : ℕ) → IsBefore g s h t → name_before (record { group = g; stripe = s }) (record { group = h; stripe = t }) ≡ true
@@ -60,7 +60,7 @@ module _ (layout : Layout) (claims : List Claim) (review : Review) (reviews : Re
   pub all_went : (result : Option StripeName) → LinesGo layout claims review (none_happened (length review.operations.found)) lines
       → FirstMeans claims review.operations.found (happened_in (none_happened (length review.operations.found)) lines) None result
       → FindsBad layout (marks_of claims) lines result
-  all_went None go means g s named =
+  all_went None go means = λ g s named.
       holds layout claims review reviews lines rise (length lines) (went_all go) g s named (λ i line at group stripe. get_within lines i line at)
       (flagged claims review.operations.found (happened_in (none_happened (length review.operations.found)) (take (length lines) lines)) g s
       (subst (λ (l : List StripeLine). Missing claims review.operations.found (happened_in (none_happened (length review.operations.found)) l) g s → ⊥)
@@ -177,3 +177,38 @@ module _ (layout : Layout) (claims : List Claim) (review : Review) (reviews : Re
             (stopped layout claims review reviews lines rise k went line at not_go))
         fails_by line name went at not_go not_before m (inl group) (inr stripe) = missed line name went at not_before m (λ g s. stripe s)
         fails_by line name went at not_go not_before m (inr group) stripe = missed line name went at not_before m (λ g s. group g)
+
+-- as many operations are told of as there are
+pub room : (happened : List Bool) (count : ℕ) (lines : List StripeLine) → happened ≡ happened_in (none_happened count) lines → length happened ≡ count
+room happened count lines is = ap length is ∙ length_in (none_happened count) lines ∙ length_none count
+
+-- what is found where all lines go on, and where one stops
+pub none_bad : (layout : Layout) (claims : List Claim) (review : Review) (lines : List StripeLine) (operations : List Operation) (happened : List Bool)
+    (result : Option StripeName) → Reviews layout claims review → StripesRise lines → operations ≡ review.operations.found
+    → happened ≡ happened_in (none_happened (length operations)) lines
+    → LinesStop layout claims review (none_happened (length review.operations.found)) lines None
+    → result ≡ first_missing claims operations happened None → FindsBad layout (marks_of claims) lines result
+none_bad layout claims review lines operations happened result reviews rise same flags go is =
+    let means = first_means claims operations happened None (room happened (length operations) lines flags) in
+    let found : FirstMeans claims operations (happened_in (none_happened (length operations)) lines) None result =
+    subst (λ (r : Option StripeName). FirstMeans claims operations (happened_in (none_happened (length operations)) lines) None r) (sym is)
+    (subst (λ (f : List Bool). FirstMeans claims operations f None (first_missing claims operations happened None)) flags means) in
+    all_went layout claims review reviews lines rise result go
+    (subst (λ (o : List Operation). FirstMeans claims o (happened_in (none_happened (length o)) lines) None result) same found)
+
+pub some_bad : (layout : Layout) (claims : List Claim) (review : Review) (lines front : List StripeLine) (operations : List Operation) (happened : List Bool)
+    (place : ℕ) (stop result : Option StripeName) → Reviews layout claims review → StripesRise lines → operations ≡ review.operations.found
+    → front ≡ take place lines → happened ≡ happened_in (none_happened (length operations)) front → stop ≡ option_map name_of (slice_get lines place)
+    → LinesStop layout claims review (none_happened (length review.operations.found)) lines (Some place)
+    → result ≡ first_missing claims operations happened stop → FindsBad layout (marks_of claims) lines result
+some_bad layout claims review lines front operations happened place stop result reviews rise same before flags stops_is stops is =
+    let flags_here : happened ≡ happened_in (none_happened (length operations)) (take place lines) =
+    flags ∙ ap (happened_in (none_happened (length operations))) before in
+    let means = first_means claims operations happened stop (room happened (length operations) front flags) in
+    let one = subst (λ (r : Option StripeName). FirstMeans claims operations happened stop r) (sym is) means in
+    let two = subst (λ (f : List Bool). FirstMeans claims operations f stop result) flags_here one in
+    let three = subst (λ (s : Option StripeName). FirstMeans claims operations (happened_in (none_happened (length operations)) (take place lines)) s result)
+        stops_is two in
+    one_stopped layout claims review reviews lines rise place stops result
+    (subst (λ (o : List Operation). FirstMeans claims o (happened_in (none_happened (length o)) (take place lines)) (option_map name_of (slice_get lines place)) result)
+    same three)

@@ -23,7 +23,7 @@ use Rattle.transcript.specs.declared.claims.Outcome.{Outcome}
 use Rattle.transcript.specs.declared.claims.Outcome.TheVariants.{Data, Done, Aborted}
 use Rattle.transcript.specs.declared.claims.StripeLine.{StripeLine}
 use Rattle.transcript.specs.Marks.{marks_of, answer_of}
-use Rattle.transcript.specs.Transcripts.{stripe_before}
+use Rattle.transcript.specs.Transcripts.{stripe_before, StripesRise}
 use Rattle.audit.specs.declared.operations.Operation.{Operation}
 use Rattle.audit.specs.declared.reviews.Review.{Review}
 use Rattle.audit.specs.declared.sweeps.StripeName.{StripeName}
@@ -32,7 +32,7 @@ use Rattle.audit.specs.Operations.{ending_with, crash_after, life_in, outcome_at
 use Rattle.audit.specs.Walks.{has_happened, of_stripe, GoOn, walk_from}
 use Rattle.audit.specs.Lasts.{last_at}
 use Rattle.audit.specs.Reviews.{Reviews}
-use Rattle.audit.specs.Sweeps.{happened_along, says_answer, lives_at, GoesIn, LineGoes, LinesGo, StopsAt, happened_in, none_happened, was_answered, is_missing, name_before, StripesRise}
+use Rattle.audit.specs.Sweeps.{happened_along, says_answer, lives_at, GoesIn, LineGoes, LinesGo, StopsAt, happened_in, none_happened, was_answered, is_missing, name_before}
 use Rattle.audit.proofs.Lists.{same_some, get_within}
 use Rattle.audit.proofs.WalkLemmas.{AreKnown, alive, never_back, once, in_time, reads_right, goes_on}
 use Rattle.audit.proofs.LineGoing.{Kept, kept, lives_here}
@@ -112,7 +112,7 @@ take_take (y ∷ xs) p zero le = refl
 take_take (y ∷ xs) zero (suc i) le = absurd (omega arith)
 take_take (y ∷ xs) (suc p) (suc i) le = ap (λ l. y ∷ l) (take_take xs p i (omega arith))
 
-length_in : (flags : List Bool) (lines : List StripeLine) → length (happened_in flags lines) ≡ length flags
+pub length_in : (flags : List Bool) (lines : List StripeLine) → length (happened_in flags lines) ≡ length flags
 length_in flags [] = refl
 length_in flags (line ∷ lines) = length_in (happened_along flags line.happenings) lines ∙ length_along flags line.happenings
 

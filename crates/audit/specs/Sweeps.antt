@@ -1,5 +1,5 @@
 -- The stripes of a text, one after another: those whose happenings are said, and then the answered operations that did not happen.
-use Rattle.std.specs.Prelude.{◌≡◌, ℕ, zero, suc, ◌-◌, ◌<◌, nat_eq, nat_lt, ◌&&◌, ◌||◌, not, Bool, true, false, if◌then◌else◌, List, [], ◌∷◌, length, replicate, slice_get, slice_set, ⊤, Option, Some, None}
+use Rattle.std.specs.Prelude.{◌≡◌, ℕ, zero, suc, ◌-◌, ◌<◌, nat_eq, nat_lt, ◌&&◌, ◌||◌, not, Bool, true, false, if◌then◌else◌, List, [], ◌∷◌, length, replicate, slice_set, ⊤, Option, Some, None}
 use Rattle.fab_base.specs.Layouts.{Layout, Group, group_of}
 use Rattle.reg_model.specs.declared.marks.Happening.{Happening}
 use Rattle.reg_model.specs.Marks.{Life}
@@ -8,7 +8,6 @@ use Rattle.transcript.specs.declared.claims.Claim.{Claim}
 use Rattle.transcript.specs.declared.claims.Outcome.{Outcome}
 use Rattle.transcript.specs.declared.claims.Outcome.TheVariants.{Data, Done, Aborted}
 use Rattle.transcript.specs.declared.claims.StripeLine.{StripeLine}
-use Rattle.transcript.specs.Transcripts.{stripe_before}
 use Rattle.audit.specs.declared.operations.Operation.{Operation}
 use Rattle.audit.specs.declared.reviews.Review.{Review}
 use Rattle.audit.specs.declared.sweeps.StripeName.{StripeName}
@@ -99,10 +98,6 @@ abbrev pub first_missing : List Claim → List Operation → List Bool → Optio
 first_missing claims [] happened first = first
 first_missing claims (o ∷ operations) [] first = first
 first_missing claims (o ∷ operations) (b ∷ happened) first = first_missing claims operations happened (with_missing claims o b first)
-
--- each line is of a stripe before those of the lines behind it
-abbrev pub StripesRise : List StripeLine → Type 0
-StripesRise lines = (i j : ℕ) (a b : StripeLine) → i < j → slice_get lines i ≡ Some a → slice_get lines j ≡ Some b → stripe_before a b ≡ true
 
 -- the stripe of a line
 abbrev pub name_of : StripeLine → StripeName

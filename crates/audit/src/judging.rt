@@ -6,7 +6,8 @@ ghost use Rattle.transcript.specs.Marks.{mark_of, marks_of};
 ghost use Rattle.audit.specs.Checks.{CountsAnswer, Finds};
 ghost use Rattle.audit.specs.Judging.{FindsBad};
 ghost use Rattle.audit.specs.Reviews.{Reviews};
-ghost use Rattle.audit.specs.Sweeps.{StripesRise, name_of};
+ghost use Rattle.audit.specs.Sweeps.{name_of};
+ghost use Rattle.transcript.specs.Transcripts.{StripesRise};
 
 use crate::findings::Finding;
 use crate::reviews::{Review, go_through};

@@ -5,8 +5,8 @@ ghost use Rattle.std.specs.Io.KnownBytes.{prepend_known};
 ghost use Rattle.fab_io.specs.Ends.{Kept};
 ghost use Rattle.lines.specs.Lines.{content};
 ghost use Rattle.transcript.specs.Forms.{entry_of};
-ghost use Rattle.transcript.specs.Transcripts.{after_line, text_at_end, IsTextOf, EndsWhole};
-ghost use Rattle.transcript.specs.Turns.{TurnMeans};
+ghost use Rattle.transcript.specs.Transcripts.{after_line, text_at_end, IsTextOf, EndsWhole, StripesRise, RisesWhole};
+ghost use Rattle.transcript.specs.Turns.{TurnMeans, TurnRises};
 
 use crate::forms::{LINE_LIMIT, parse};
 use crate::transcripts::Transcript;
@@ -55,7 +55,8 @@ fn take_line(alloc: Global, said: &mut Transcript, line: &[u8]) -> Result<bool, 
 
 /// Takes what comes next.
 fn take_turn(alloc: Global, said: &mut Transcript, piece: &Piece) -> Result<Turn, NoMem>
-    ensures { IfOk result (λ turn. TurnMeans said.old said.new piece.now turn) }
+    ensures turn { IfOk result (λ turn. TurnMeans said.old said.new piece.now turn) }
+    ensures rises { IfOk result (λ turn. StripesRise said.old.stripes → TurnRises said.new turn) }
 {
     match piece {
         Piece::Whole(line) => {
@@ -80,6 +81,7 @@ fn take_turn(alloc: Global, said: &mut Transcript, piece: &Piece) -> Result<Turn
 /// The same, as a fault of a source has it.
 fn take_next(alloc: Global, said: &mut Transcript, piece: &Piece) -> Result<Turn, IoFault>
     ensures turn { IfOk result (λ turn. TurnMeans said.old said.new piece.now turn) }
+    ensures rises { IfOk result (λ turn. StripesRise said.old.stripes → TurnRises said.new turn) }
     ensures cause { result ≢ Err IoFault.Failed }
 {
     match take_turn(alloc, said, piece) {
@@ -108,6 +110,7 @@ pub fn read<S: Source>(
     source: &mut S,
     unread: &mut Unread,
 ) -> Result<Text, IoFault>
+    ensures rises { IfOk result RisesWhole }
     ensures text { IfOk result (λ text. IsTextOf (prepend_known unread.old (S.told source.old)) text) }
     ensures end { IfOk result (λ text. EndsWhole text (prepend_known unread.new (S.told source.new))) }
     ensures kept { Kept (S.faults source.old) (S.faults source.new) (S.sound source.old) (S.sound source.new)

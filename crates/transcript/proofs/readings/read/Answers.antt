@@ -45,6 +45,7 @@ loop-count-preserved g c =
     let turn = rw c.in-More.is at c.in_ok-take_next.ensures.turn in
     record {
       leads = λ text behind. c.loop-count.invariant.leads text (turn c.loop-count.count _ _ c.loop-count-test.true c.in_ok-piece.ensures.says text behind);
+      rise = rw c.in-More.is at c.in_ok-take_next.ensures.rises c.loop-count.invariant.rise;
       source = Kept-trans c.loop-count.invariant.source (Kept-calm c.next_line.ensures.kept);
     }
 
