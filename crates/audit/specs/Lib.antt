@@ -5,3 +5,4 @@ pub mod Lasts
 pub mod Reviews
 pub mod Sweeps
 pub mod Judging
+pub mod Examining

@@ -6,6 +6,7 @@
 #![tactic(auto)]
 
 mod crashes;
+mod examining;
 mod findings;
 mod judging;
 mod lasts;
@@ -14,5 +15,6 @@ mod reviews;
 mod sweeps;
 mod walks;
 
+pub use examining::{Verdict, examine};
 pub use findings::Finding;
 pub use judging::judge;

@@ -63,7 +63,7 @@ most_lines = 4194304
 -- a text that ends after n lines: the counts are its last line
 abbrev pub text_at_end : ℕ → Transcribed → Option Counts → Text
 text_at_end n t None = BadLine (n + 1)
-text_at_end n t (Some counts) = Whole t
+text_at_end n t (Some counts) = Whole t counts
 
 -- a line that is numbered n + 1: too many, or not in its place, or one that leads on
 abbrev pub text_at_line : ℕ → Bool → Option Transcribed → (Transcribed → Text) → Text
@@ -94,7 +94,7 @@ IsTextOf (Some bytes) text = text_of (map content (raw_lines bytes)) ≡ text
 
 -- a whole text was read to the end
 abbrev pub EndsWhole : Text → Option (List ℕ) → Type 0
-EndsWhole (Whole said) left = IsAtEnd left
+EndsWhole (Whole said counts) left = IsAtEnd left
 EndsWhole (BadLine line) left = ⊤
 EndsWhole TooManyLines left = ⊤
 
@@ -104,6 +104,6 @@ StripesRise stripes = (i j : ℕ) (a b : StripeLine) → i < j → slice_get str
 
 -- what a whole text says of stripes rises
 abbrev pub RisesWhole : Text → Type 0
-RisesWhole (Whole said) = StripesRise said.stripes
+RisesWhole (Whole said counts) = StripesRise said.stripes
 RisesWhole (BadLine line) = ⊤
 RisesWhole TooManyLines = ⊤

@@ -8,6 +8,7 @@ ghost use Rattle.transcript.specs.Forms.{entry_of};
 ghost use Rattle.transcript.specs.Transcripts.{after_line, text_at_end, IsTextOf, EndsWhole, StripesRise, RisesWhole};
 ghost use Rattle.transcript.specs.Turns.{TurnMeans, TurnRises};
 
+use crate::claims::Counts;
 use crate::forms::{LINE_LIMIT, parse};
 use crate::transcripts::Transcript;
 use fab_base::NoMem;
@@ -22,7 +23,7 @@ pub const MOST_LINES: u64 = 4_194_304;
 #[derive(Drop)]
 pub enum Text {
     /// It is whole: its lines have the forms and stand in their places, and the counts are the last.
-    Whole(Transcript),
+    Whole(Transcript, Counts),
     /// This line, counted from 1, is the first that has none of the forms, or is too long, or is not in its place. The end without the
     /// counts counts as the next line.
     BadLine(u64),
@@ -95,10 +96,9 @@ fn finish(said: Transcript, lines: u64) -> Text
     requires { lines ≤ MOST_LINES }
     ensures { result ≡ text_at_end lines said said.counts }
 {
-    if said.counts().is_some() {
-        Text::Whole(said)
-    } else {
-        Text::BadLine(lines + 1)
+    match said.counts() {
+        Some(counts) => Text::Whole(said, counts),
+        None => Text::BadLine(lines + 1),
     }
 }
 
