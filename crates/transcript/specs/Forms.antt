@@ -17,7 +17,6 @@ use Rattle.transcript.specs.declared.claims.Entry.TheVariants.{Mark, Other, Happ
 use Rattle.transcript.specs.Tokens.{behind, plain_number, lower_hex, number_before}
 use Rattle.transcript.specs.Words.{or_else, cause_of, is_word}
 
-
 -- an operation on a stripe begins
 abbrev pub begins : ℕ → ℕ → ℕ → ℕ → ℕ → Access → Option Entry
 begins p n b g s access = Some (Mark (Begin p n b g s access))

@@ -105,11 +105,7 @@ fn finish(said: Transcript, lines: u64) -> Text
 /// Reads the text that is left of a source, as far as it takes to know what it is.
 ///
 /// `Failed` comes only where the source failed, and `NoMemory` where there was no memory.
-pub fn read<S: Source>(
-    alloc: Global,
-    source: &mut S,
-    unread: &mut Unread,
-) -> Result<Text, IoFault>
+pub fn read<S: Source>(alloc: Global, source: &mut S, unread: &mut Unread) -> Result<Text, IoFault>
     ensures rises { IfOk result RisesWhole }
     ensures text { IfOk result (λ text. IsTextOf (prepend_known unread.old (S.told source.old)) text) }
     ensures end { IfOk result (λ text. EndsWhole text (prepend_known unread.new (S.told source.new))) }

@@ -5,10 +5,10 @@ use Rattle.audit.proofs.Bad.{room, none_bad, some_bad}
 use Rattle.audit.proofs.judging.first_bad.Goals as goal
 
 pub first_missing-requires : goal.first_missing-requires
-first_missing-requires c = ap length c.as_slice.ensures.value ∙ room _ _ _ c.in_ok-happened-in-None.ensures
+first_missing-requires c = ap length c.as_slice.ensures.value ∙ room c.in_ok-happened-in-None.happened.items (length c.as_slice-operations.result.now) c.args.lines.now c.in_ok-happened-in-None.ensures
 
 pub first_missing-requires-in-Some : goal.first_missing-requires-in-Some
-first_missing-requires-in-Some c = ap length c.as_slice-in-Some.ensures.value ∙ room _ _ _ c.in_ok-happened-in-Some.ensures
+first_missing-requires-in-Some c = ap length c.as_slice-in-Some.ensures.value ∙ room c.in_ok-happened-in-Some.happened.items (length c.as_slice-operations.result.now) c.front.result.now c.in_ok-happened-in-Some.ensures
 
 pub returns-in_ok-happened-in-None : goal.returns-in_ok-happened-in-None
 returns-in_ok-happened-in-None c =

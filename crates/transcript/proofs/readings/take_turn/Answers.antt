@@ -30,7 +30,7 @@ pub returns-then-branch-2-clause-turn : goal.returns-then-branch-2-clause-turn
 returns-then-branch-2-clause-turn c n left rest within says =
     let at = subst (λ (p : Piece). Says most_line_bytes left rest p) c.in-Last.is says in (
       leads_last n _ _ _ left rest within at.1 at.2
-      (answered _ _ _ _ _ _ c.as_slice-in-Last.ensures.value c.if-branch-2.true c.in_ok-take_line-in-Last.ensures),
+          (answered _ _ _ _ _ _ c.as_slice-in-Last.ensures.value c.if-branch-2.true c.in_ok-take_line-in-Last.ensures),
       at.2,
     )
 
