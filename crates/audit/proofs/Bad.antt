@@ -47,8 +47,14 @@ flagged claims operations happened g s none j o at group stripe was = by_test (g
   where
     by_test : (t : Bool) → get_or happened j false ≡ t → get_or happened j false ≡ true
     by_test true e = e
-    by_test false e = absurd (none (record { place = j; operation = o; at = at; group = group; stripe = stripe;
-      is = missing_test claims o (get_or happened j false) e was }))
+    by_test false e = absurd (none (record {
+      place = j;
+      operation = o;
+      at = at;
+      group = group;
+      stripe = stripe;
+      is = missing_test claims o (get_or happened j false) e was;
+    }))
 
 module _ (layout : Layout) (claims : List Claim) (review : Review) (reviews : Reviews layout claims review) (lines : List StripeLine) (rise : StripesRise lines) where
   -- all lines go on
@@ -139,6 +145,7 @@ module _ (layout : Layout) (claims : List Claim) (review : Review) (reviews : Re
             absurd (let never : true ≡ false = sym (ap (λ (n : StripeName). name_before n name) (ap name_of (sym same) ∙ is_mine) ∙ first) ∙ not_before in cc))
             (cases_lt k i))
             (cases_lt i k)
+
         -- a line of the stripe that is found stands before the one that stops, where that is of another stripe
         passed_same : (line : StripeLine) (name : StripeName) → slice_get lines k ≡ Some line → name_before (name_of line) name ≡ false
             → ((line.group ≡ name.group) → (line.stripe ≡ name.stripe) → ⊥) → (i : ℕ) (l : StripeLine) → slice_get lines i ≡ Some l
@@ -156,6 +163,7 @@ module _ (layout : Layout) (claims : List Claim) (review : Review) (reviews : Re
             absurd (other (sym (ap (λ (x : StripeLine). x.group) same) ∙ group) (sym (ap (λ (x : StripeLine). x.stripe) same) ∙ stripe)))
             (cases_lt k i))
             (cases_lt i k)
+
         missed : (line : StripeLine) (name : StripeName) → LinesGo layout claims review (none_happened (length review.operations.found)) (take k lines)
             → slice_get lines k ≡ Some line → name_before (name_of line) name ≡ false
             → Missing claims review.operations.found (happened_in (none_happened (length review.operations.found)) (take k lines)) name.group name.stripe
@@ -164,6 +172,7 @@ module _ (layout : Layout) (claims : List Claim) (review : Review) (reviews : Re
             let parts = missing_parts claims m.operation (get_or (happened_in (none_happened (length review.operations.found)) (take k lines)) m.place false) m.is in
             misses layout claims review reviews lines rise k went name.group name.stripe (passed_same line name at not_before other) m.place m.operation m.at
             m.group m.stripe parts.1 parts.0
+
         fails_by : (line : StripeLine) (name : StripeName) → LinesGo layout claims review (none_happened (length review.operations.found)) (take k lines)
             → slice_get lines k ≡ Some line
             → (LineGoes layout claims review (happened_in (none_happened (length review.operations.found)) (take k lines)) line → ⊥)
@@ -208,7 +217,7 @@ some_bad layout claims review lines front operations happened place stop result 
     let one = subst (λ (r : Option StripeName). FirstMeans claims operations happened stop r) (sym is) means in
     let two = subst (λ (f : List Bool). FirstMeans claims operations f stop result) flags_here one in
     let three = subst (λ (s : Option StripeName). FirstMeans claims operations (happened_in (none_happened (length operations)) (take place lines)) s result)
-        stops_is two in
+    stops_is two in
     one_stopped layout claims review reviews lines rise place stops result
     (subst (λ (o : List Operation). FirstMeans claims o (happened_in (none_happened (length o)) (take place lines)) (option_map name_of (slice_get lines place)) result)
     same three)

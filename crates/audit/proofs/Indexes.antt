@@ -123,8 +123,10 @@ shows_begin claims marks i index b g s access shows at brick = record {
   where
     mark : Mark
     mark = mark_of (Claim.Begin i (suc (length index.found)) b g s access)
+
     new : Operation
     new = begun i b g s (crashes_of index.crashes b)
+
     by_number : (n : ℕ) → life_onward (life_at claims index i n) (mark ∷ []) n
         ≡ life_at claims (record { found = index.found ++ new ∷ []; crashes = index.crashes }) (i + 1) n
     by_number zero =
@@ -181,13 +183,16 @@ shows_end claims marks i index k0 mine outcome shows at is no_end no_crash = rec
   where
     mark : Mark
     mark = End i (suc k0) (answer_of outcome)
+
     append_none : (xs : List ℕ) → xs ++ [] ≡ xs
     append_none [] = refl
     append_none (x ∷ xs) = ap (λ l. x ∷ l) (append_none xs)
+
     by_number : (n : ℕ) → life_onward (life_at claims index i n) (mark ∷ []) n
         ≡ life_at claims (record { found = slice_set index.found k0 (ended i mine); crashes = index.crashes }) (i + 1) n
     by_number zero = refl
     by_number (suc k) = end_lives claims i index k0 mine outcome at is no_end no_crash k (slice_get index.found k) refl
+
     by_place : (k : ℕ) (o : Operation) → slice_get (slice_set index.found k0 (ended i mine)) k ≡ Some o → (k ≡ k0) ⊎ (k ≢ k0)
         → (o.brick < length index.crashes) × (o.crashes ≤ length (crashes_of index.crashes o.brick))
     by_place k o found (inl same) =
@@ -243,20 +248,24 @@ shows_crash claims marks i index b shows = record {
   lives = λ n. life_of-append marks (mark ∷ []) n ∙ ap (λ (l : Option Life). life_onward l (mark ∷ []) n) (shows.lives n) ∙ by_number n;
   count = ap length (begun_push marks mark) ∙ ap length (append_none (begun_numbers marks)) ∙ shows.count;
   bounded = λ k o found.
-      (let old = shows.bounded k o found in
-      (subst (λ (l : ℕ). o.brick < l) (sym (length_set index.crashes b (crashes_of index.crashes b ++ i ∷ []))) old.0,
-      by_brick o old (cases_eq o.brick b)));
+      (let old = shows.bounded k o found in (
+        subst (λ (l : ℕ). o.brick < l) (sym (length_set index.crashes b (crashes_of index.crashes b ++ i ∷ []))) old.0,
+        by_brick o old (cases_eq o.brick b),
+      ));
 }
   where
     mark : Mark
     mark = Crash i (record { 0 = b })
+
     append_none : (xs : List ℕ) → xs ++ [] ≡ xs
     append_none [] = refl
     append_none (x ∷ xs) = ap (λ l. x ∷ l) (append_none xs)
+
     by_number : (n : ℕ) → life_onward (life_at claims index i n) (mark ∷ []) n
         ≡ life_at claims (record { found = index.found; crashes = crashed_at index.crashes b i }) (i + 1) n
     by_number zero = refl
     by_number (suc k) = crash_lives claims i index b k (slice_get index.found k) (λ x is. shows.bounded k x is)
+
     by_brick : (o : Operation) → (o.brick < length index.crashes) × (o.crashes ≤ length (crashes_of index.crashes o.brick))
         → (o.brick ≡ b) ⊎ (o.brick ≢ b) → o.crashes ≤ length (crashes_of (crashed_at index.crashes b i) o.brick)
     by_brick o old (inl same) =

@@ -105,17 +105,23 @@ module _ (claims : List Claim) (o : Operation) (b : Bool) (operations : List Ope
       → ((o.group ≡ g) × (o.stripe ≡ s) × (is_missing claims o b ≡ true)) ⊎ Missing claims operations happened g s
   where_at g s zero x at group stripe is =
       let same : o ≡ x = same_some o x at in
-      inl (ap (λ (y : Operation). y.group) same ∙ group, ap (λ (y : Operation). y.stripe) same ∙ stripe,
-      subst (λ (y : Operation). is_missing claims y b ≡ true) (sym same) is)
+      inl (
+        ap (λ (y : Operation). y.group) same ∙ group,
+        ap (λ (y : Operation). y.stripe) same ∙ stripe,
+        subst (λ (y : Operation). is_missing claims y b ≡ true) (sym same) is,
+      )
   where_at g s (suc place) x at group stripe is = inr (record { place = place; operation = x; at = at; group = group; stripe = stripe; is = is })
 
   -- the first is not missing
   pass_none : (stop result : Option StripeName) → is_missing claims o b ≡ false → FirstMeans claims operations happened stop result
       → FirstMeans claims (o ∷ operations) (b ∷ happened) stop result
-  pass_none stop None is means = (means.0, λ g s m. ⊎_elim
-      (λ (here : (o.group ≡ g) × (o.stripe ≡ s) × (is_missing claims o b ≡ true)). let never : true ≡ false = sym here.2 ∙ is in cc)
-      (λ (there : Missing claims operations happened g s). means.1 g s there)
-      (where_at g s m.place m.operation m.at m.group m.stripe m.is))
+  pass_none stop None is means = (
+    means.0,
+    λ g s m. ⊎_elim
+        (λ (here : (o.group ≡ g) × (o.stripe ≡ s) × (is_missing claims o b ≡ true)). let never : true ≡ false = sym here.2 ∙ is in cc)
+        (λ (there : Missing claims operations happened g s). means.1 g s there)
+        (where_at g s m.place m.operation m.at m.group m.stripe m.is),
+  )
   pass_none stop (Some name) is means = record {
     among = ⊎_elim (λ (e : stop ≡ Some name). inl e) (λ (m : Missing claims operations happened name.group name.stripe). inr (behind name.group name.stripe m))
         means.among;

@@ -96,8 +96,10 @@ reviewed_more layout claims i index later lasts lasts_later claim so_far at is l
   where
     marks : List Mark
     marks = marks_of (take i claims)
+
     taken : Takes layout claims marks i claim later
     taken = takes layout claims marks i index later claim so_far.shows so_far.bricks at is
+
     next : marks_of (take (suc i) claims) ≡ marks ++ mark_of claim ∷ []
     next = marks_next claims i claim at
 

@@ -117,11 +117,13 @@ marks_hold_more layout marks mark hold place follows = record {
   where
     all : List Mark
     all = marks ++ mark ∷ []
+
     placed : (i : ℕ) (x : Mark) → slice_get all i ≡ Some x → position_of x ≡ i
     placed i x is = ⊎_elim
         (λ (old : (slice_get marks i ≡ Some x) × (take i all ≡ take i marks)). hold.placed i x old.0)
         (λ (here : (mark ≡ x) × (take i all ≡ marks) × (i ≡ length marks)). sym (ap position_of here.0) ∙ place ∙ sym here.2)
         (push_cases marks mark x i is)
+
     ends : (p n : ℕ) (answer : Answer) → mark ≡ End p n answer → IsOpen (life_of marks n) × AnswerFits (life_of marks n) answer
     ends p n answer is = subst (λ (m : Mark). Follows layout marks m) is follows
 

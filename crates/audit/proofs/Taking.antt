@@ -139,9 +139,9 @@ takes_begin layout claims marks i index later q n b g s access shows bricks at p
     let next : suc (length index.found) ≡ n = omega arith in
     let new : Index = record { found = index.found ++ begun i b g s (crashes_of index.crashes b) ∷ []; crashes = index.crashes } in
     let P : ℕ → ℕ → Type 0 = λ p m. slice_get claims i ≡ Some (Begin p m b g s access)
-        → Shows claims (marks ++ mark_of (Begin p m b g s access) ∷ []) (i + 1) new in
+    → Shows claims (marks ++ mark_of (Begin p m b g s access) ∷ []) (i + 1) new in
     let shown : P q n = subst (λ (p : ℕ). P p n) (sym place) (subst (λ (m : ℕ). P i m) next
-        (λ here. shows_begin claims marks i index b g s access shows here (omega arith))) in
+    (λ here. shows_begin claims marks i index b g s access shows here (omega arith))) in
     record {
       place = place;
       follows = (number ∙ ap (λ (k : ℕ). k + 1) (sym shows.count), (below, group_fits_is (group_of layout g) layout.block s access parts.1));
@@ -163,7 +163,7 @@ takes_end layout claims marks i index later q k outcome mine shows bricks at pla
     shows.lives (suc k) ∙ ap (option_map (life_in claims index.crashes i)) found in
     let new : Index = record { found = slice_set index.found k (ended i mine); crashes = index.crashes } in
     let P : ℕ → Type 0 = λ p. slice_get claims i ≡ Some (End p (suc k) outcome)
-        → Shows claims (marks ++ mark_of (End p (suc k) outcome) ∷ []) (i + 1) new in
+    → Shows claims (marks ++ mark_of (End p (suc k) outcome) ∷ []) (i + 1) new in
     let shown : P q = subst P (sym place) (λ here. shows_end claims marks i index k mine outcome shows here found no_end no_crash) in
     record {
       place = place;

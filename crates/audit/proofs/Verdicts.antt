@@ -62,6 +62,7 @@ said_cases (x ∷ lines) g s = by_test (nat_eq x.group g && nat_eq x.stripe s) r
         both : (a b : Bool) → a ≡ true → b ≡ true → (a && b) ≡ true
         both true b p q = q
         both false b p q = p
+
         not_here : (i : ℕ) (line : StripeLine) → slice_get (x ∷ lines) i ≡ Some line → line.group ≡ g → line.stripe ≡ s → ⊥
         not_here zero line at group stripe =
             let same : x ≡ line = same_some x line at in
@@ -207,13 +208,14 @@ back_in layout claims review k g s (Some group) happened hs room free held =
     let lives : ℕ → Option Life = lives_at claims review g s in
     let same : (n : ℕ) → lives_at claims review g s n ≡ life_of (stripe_marks g s (marks_of claims)) n = λ n. lives_here layout claims review g s n k in
     let timely : All (λ (h : Happening). IsInTime (lives_at claims review g s h.operation) h.position) hs =
-    λ i d lt. subst (λ (l : Option Life). IsInTime l (get_or hs i d).position) (sym (same (get_or hs i d).operation)) (held.1.in_time i d lt) in
-    (held.0,
-    goes_on layout.block lives (stripe_marks g s (marks_of claims)) same (walk_from happened (zero_registers group.m layout.block)) hs
-    (subst (λ (c : ℕ). AreKnown lives c) (sym room) (known claims review g s)) (λ i d lt. omega arith)
-    (λ i d lt. let life = alive (lives (get_or hs i d).operation) (get_or hs i d).position (timely i d lt) in
-    free (get_or hs i d).operation life.0 life.1 (i, get_or hs i d, slice_get-get_or hs i d lt, refl))
-    held.1.never_back held.1.once timely held.1.reads_right)
+    λ i d lt. subst (λ (l : Option Life). IsInTime l (get_or hs i d).position) (sym (same (get_or hs i d).operation)) (held.1.in_time i d lt) in (
+      held.0,
+      goes_on layout.block lives (stripe_marks g s (marks_of claims)) same (walk_from happened (zero_registers group.m layout.block)) hs
+          (subst (λ (c : ℕ). AreKnown lives c) (sym room) (known claims review g s)) (λ i d lt. omega arith)
+          (λ i d lt. let life = alive (lives (get_or hs i d).operation) (get_or hs i d).position (timely i d lt) in
+          free (get_or hs i d).operation life.0 life.1 (i, get_or hs i d, slice_get-get_or hs i d lt, refl))
+          held.1.never_back held.1.once timely held.1.reads_right,
+    )
 
 -- the Begin of a life
 begin_at : (marks : List Mark) (n : ℕ) (life : Life) → life_of marks n ≡ Some life

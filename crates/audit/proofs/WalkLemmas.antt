@@ -77,11 +77,12 @@ module _ (block : ℕ) (lives : ℕ → Option Life) where
       let life = alive (lives h.operation) h.position goes.0.2 in
       let place = known.each h.operation life.0 life.1 in
       let other : n ≢ h.operation = λ e.
-      (let never : true ≡ false = sym has ∙ ap (has_happened walk.happened) e ∙ goes.0.1 in cc) in
-      (ne_eqb n h.operation other,
-      apart (walked block lives walk h) hs n
-      (subst (λ (k : ℕ). AreKnown lives k) (sym (length_set walk.happened (h.operation - 1) true)) known) one
-      (set_other walk.happened n h.operation one place.0 other ∙ has) goes.1)
+      (let never : true ≡ false = sym has ∙ ap (has_happened walk.happened) e ∙ goes.0.1 in cc) in (
+        ne_eqb n h.operation other,
+        apart (walked block lives walk h) hs n
+            (subst (λ (k : ℕ). AreKnown lives k) (sym (length_set walk.happened (h.operation - 1) true)) known) one
+            (set_other walk.happened n h.operation one place.0 other ∙ has) goes.1,
+      )
 
   -- no operation stands twice
   pub once : (walk : Walk) (hs : List Happening) → AreKnown lives (length walk.happened) → GoOn block lives walk hs
@@ -92,9 +93,10 @@ module _ (block : ℕ) (lives : ℕ → Option Life) where
       let life = alive (lives h.operation) h.position goes.0.2 in
       let place = known.each h.operation life.0 life.1 in
       let still : AreKnown lives (length (set walk.happened (h.operation - 1) true)) =
-      subst (λ (k : ℕ). AreKnown lives k) (sym (length_set walk.happened (h.operation - 1) true)) known in
-      (apart (walked block lives walk h) hs h.operation still place.0 (set_same walk.happened h.operation place.1) goes.1,
-      once (walked block lives walk h) hs still goes.1)
+      subst (λ (k : ℕ). AreKnown lives k) (sym (length_set walk.happened (h.operation - 1) true)) known in (
+        apart (walked block lives walk h) hs h.operation still place.0 (set_same walk.happened h.operation place.1) goes.1,
+        once (walked block lives walk h) hs still goes.1,
+      )
 
   -- each is in time
   pub in_time : (walk : Walk) (hs : List Happening) → GoOn block lives walk hs → All (λ h. IsInTime (lives h.operation) h.position) hs
@@ -106,10 +108,11 @@ module _ (block : ℕ) (lives : ℕ → Option Life) where
   pub reads_right : (marks : List Mark) → ((n : ℕ) → lives n ≡ life_of marks n) → (walk : Walk) (hs : List Happening) → GoOn block lives walk hs
       → ReadsRightAlong block marks hs walk.registers
   reads_right marks same walk [] goes = tt
-  reads_right marks same walk (h ∷ hs) goes =
-      (subst (λ (l : Option Life). ReadsRight block walk.registers l) (same h.operation) goes.0.3,
-      subst (λ (r : List ℕ). ReadsRightAlong block marks hs r) (ap (λ (l : Option Life). after_life block walk.registers l) (same h.operation))
-      (reads_right marks same (walked block lives walk h) hs goes.1))
+  reads_right marks same walk (h ∷ hs) goes = (
+    subst (λ (l : Option Life). ReadsRight block walk.registers l) (same h.operation) goes.0.3,
+    subst (λ (r : List ℕ). ReadsRightAlong block marks hs r) (ap (λ (l : Option Life). after_life block walk.registers l) (same h.operation))
+        (reads_right marks same (walked block lives walk h) hs goes.1),
+  )
 
   -- those behind a happening have not happened after it
   free_after : (flags : List Bool) (n : ℕ) (is : List Happening) → AreKnown lives (length flags) → 0 < n → AllByRecursion (λ y. eqb n y ≡ false) (map (λ i. i.operation) is)
@@ -136,12 +139,17 @@ module _ (block : ℕ) (lives : ℕ → Option Life) where
       let time = All-head (λ i. IsInTime (lives i.operation) i.position) h hs timely in
       let rest_time = All-tail (λ i. IsInTime (lives i.operation) i.position) h hs timely in
       let life = alive (lives h.operation) h.position time in
-      let place = known.each h.operation life.0 life.1 in
-      ((All-head (λ i. walk.last ≤ i.position) h hs low, All-head (λ i. has_happened walk.happened i.operation ≡ false) h hs free, time,
-      subst (λ (l : Option Life). ReadsRight block walk.registers l) (sym (same h.operation)) reads.0),
-      goes_on marks same (walked block lives walk h) hs
-      (subst (λ (k : ℕ). AreKnown lives k) (sym (length_set walk.happened (h.operation - 1) true)) known)
-      (low_after h.position hs back)
-      (free_after walk.happened h.operation hs known place.0 distinct.0 rest_time (All-tail (λ i. has_happened walk.happened i.operation ≡ false) h hs free))
-      (back_tail h.position (map (λ i. i.position) hs) back) distinct.1 rest_time
-      (subst (λ (r : List ℕ). ReadsRightAlong block marks hs r) (ap (λ (l : Option Life). after_life block walk.registers l) (sym (same h.operation))) reads.1))
+      let place = known.each h.operation life.0 life.1 in (
+        (
+          All-head (λ i. walk.last ≤ i.position) h hs low,
+          All-head (λ i. has_happened walk.happened i.operation ≡ false) h hs free,
+          time,
+          subst (λ (l : Option Life). ReadsRight block walk.registers l) (sym (same h.operation)) reads.0,
+        ),
+        goes_on marks same (walked block lives walk h) hs
+            (subst (λ (k : ℕ). AreKnown lives k) (sym (length_set walk.happened (h.operation - 1) true)) known)
+            (low_after h.position hs back)
+            (free_after walk.happened h.operation hs known place.0 distinct.0 rest_time (All-tail (λ i. has_happened walk.happened i.operation ≡ false) h hs free))
+            (back_tail h.position (map (λ i. i.position) hs) back) distinct.1 rest_time
+            (subst (λ (r : List ℕ). ReadsRightAlong block marks hs r) (ap (λ (l : Option Life). after_life block walk.registers l) (sym (same h.operation))) reads.1),
+      )

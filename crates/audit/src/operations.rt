@@ -225,7 +225,8 @@ impl Operations {
                 stripe,
                 access,
             } => {
-                if *position != place as u64 || !begin_fits(layout, *brick, *group, *stripe, access)
+                if *position != place as u64
+                    || !begin_fits(layout, *brick, *group, *stripe, access)
                 {
                     return Ok(false);
                 }

@@ -22,7 +22,11 @@ pub(crate) struct Review {
 }
 
 /// Goes through the marks of a text. None exactly where they do not hold.
-pub(crate) fn go_through(alloc: Global, layout: &Layout, claims: &[Claim]) -> Result<Option<Review>, NoMem>
+pub(crate) fn go_through(
+    alloc: Global,
+    layout: &Layout,
+    claims: &[Claim],
+) -> Result<Option<Review>, NoMem>
     ensures { IfOk result (λ found. MatchOption found (MarksHold layout.now (marks_of claims.now) → ⊥) (Reviews layout.now claims.now)) }
 {
     let mut operations = Operations::new(alloc, layout)?;

@@ -140,7 +140,11 @@ fn mark(happened: &mut [bool], happenings: &[Happening])
 }
 
 /// Which of so many operations have happened along lines.
-pub(crate) fn happened_in(alloc: Global, count: usize, lines: &[StripeLine]) -> Result<Vec<bool>, NoMem>
+pub(crate) fn happened_in(
+    alloc: Global,
+    count: usize,
+    lines: &[StripeLine],
+) -> Result<Vec<bool>, NoMem>
     ensures { IfOk result (λ happened. happened.items ≡ happened_in (none_happened count) lines.now) }
 {
     let mut happened = none_happened(alloc, count)?;

@@ -107,7 +107,11 @@ impl Stripe<'_> {
         if operation == 0 {
             return None;
         }
-        let found = self.operations.as_slice().get(operation as usize - 1).copied()?;
+        let found = self
+            .operations
+            .as_slice()
+            .get(operation as usize - 1)
+            .copied()?;
         if found.group == self.group && found.stripe == self.stripe {
             Some(found)
         } else {

@@ -1,5 +1,5 @@
 -- The stripes of a text rise.
-use Rattle.std.proofs.Common.{◌≡◌, ℕ, zero, suc, ◌+◌, ◌-◌, ◌<◌, ◌≤◌, Bool, true, false, cond, nat_lt, nat_eq, ◌&&◌, ◌||◌, List, [], ◌∷◌, ◌++◌, length, ◌⊎◌, inl, inr, ⊎_elim, Option, Some, None, refl, sym, ap, ◌∙◌, subst, arith}
+use Rattle.std.proofs.Common.{◌≡◌, ℕ, zero, suc, ◌-◌, ◌<◌, Bool, true, false, cond, nat_eq, ◌&&◌, List, [], ◌∷◌, ◌++◌, length, ◌⊎◌, inl, inr, ⊎_elim, Option, Some, None, refl, sym, ap, ◌∙◌, subst, arith}
 use Rattle.std.specs.Prelude.{slice_get}
 use Rattle.std.specs.Option.{is_none}
 use Rattle.std.proofs.lemmas.Bool.{and_parts, cases_eq}
@@ -8,9 +8,7 @@ use Rattle.transcript.specs.declared.claims.Counts.{Counts}
 use Rattle.transcript.specs.declared.claims.StripeLine.{StripeLine}
 use Rattle.transcript.specs.declared.claims.Entry.{Entry}
 use Rattle.transcript.specs.declared.claims.Entry.TheVariants.{Mark, Other, Happened, Counted}
-use Rattle.transcript.specs.declared.readings.Text.{Text}
 use Rattle.transcript.specs.Said.{Transcribed}
-use Rattle.transcript.specs.Forms.{entry_of}
 use Rattle.transcript.specs.Transcripts.{stripe_before, is_behind, is_next, is_in_marks, position_said, after_entry, after_line, text_at_end, StripesRise, RisesWhole}
 
 same_some : {A : Type 0} (a b : A) → Some a ≡ Some b → a ≡ b

@@ -1,10 +1,10 @@
 -- What is left of the text tells what all of it is.
-use Rattle.std.proofs.Common.{◌≡◌, ℕ, sym, subst, arith}
+use Rattle.std.proofs.Common.{◌≡◌, sym, subst, arith}
 use Rattle.std.specs.Io.KnownBytes.{prepend_known}
-use Rattle.fab_io.proofs.Keeping.{Kept-refl, Kept-trans, Kept-calm}
+use Rattle.fab_io.proofs.Keeping.{Kept-trans, Kept-calm}
 use Rattle.transcript.specs.declared.readings.Text.{Text}
 use Rattle.transcript.specs.Transcripts.{IsTextOf, EndsWhole, most_lines}
-use Rattle.transcript.proofs.Turns.{ends_whole, none_left_at, many_come, from_start}
+use Rattle.transcript.proofs.Turns.{ends_whole, none_left_at, many_come}
 use Rattle.transcript.proofs.readings.read.Goals as goal
 
 pub returns-in-Last-clause-text : goal.returns-in-Last-clause-text

@@ -1,5 +1,5 @@
 -- A line leads on, or is not in its place, by what it says.
-use Rattle.std.proofs.Common.{◌≡◌, ℕ, Bool, cond, List, Option, Some, None, sym, ap, ◌∙◌, subst}
+use Rattle.std.proofs.Common.{◌≡◌, ℕ, Bool, cond, List, Some, None, sym, ap, ◌∙◌, subst}
 use Rattle.lines.specs.Lines.{content}
 use Rattle.lines.specs.Reading.{Says}
 use Rattle.lines.specs.declared.reader.Piece.{Piece}
