@@ -1,26 +1,25 @@
 -- What is found of the stripes of a text.
-use Rattle.std.proofs.Common.{◌≡◌, ◌≢◌, ℕ, zero, suc, ◌+◌, ◌<◌, ◌≤◌, Bool, true, false, not, ◌&&◌, List, length, get_or, take, take_all, ◌⊎◌, inl, inr, ⊎_elim, Option, Some, None, refl, sym, ap, ◌∙◌, subst, arith}
+use Rattle.std.proofs.Common.{◌≡◌, ◌≢◌, ℕ, ◌<◌, ◌≤◌, Bool, true, false, List, length, get_or, take, take_all, ◌⊎◌, inl, inr, ⊎_elim, Option, Some, None, refl, sym, ap, ◌∙◌, subst, arith}
 use Rattle.std.specs.Prelude.{slice_get}
 use Rattle.std.specs.Option.{option_map}
-use Rattle.std.proofs.lemmas.Bool.{cases_eq, cases_lt, and_parts}
+use Rattle.std.proofs.lemmas.Bool.{cases_eq, cases_lt}
 use Rattle.std.proofs.lemmas.Bool.Decides.{nat_tests}
-use Rattle.fab_base.specs.Layouts.{Layout, group_of}
-use Rattle.reg_model.specs.declared.marks.Mark.{Mark}
+use Rattle.fab_base.specs.Layouts.{Layout}
 use Rattle.transcript.specs.declared.claims.Claim.{Claim}
 use Rattle.transcript.specs.declared.claims.StripeLine.{StripeLine}
 use Rattle.transcript.specs.Marks.{marks_of}
-use Rattle.transcript.specs.Transcripts.{stripe_before, StripesRise}
+use Rattle.transcript.specs.Transcripts.{StripesRise}
 use Rattle.audit.specs.declared.operations.Operation.{Operation}
 use Rattle.audit.specs.declared.reviews.Review.{Review}
 use Rattle.audit.specs.declared.sweeps.StripeName.{StripeName}
-use Rattle.audit.specs.Checks.{IsNamed, StripeHolds, IsBefore, IsFirstBad}
+use Rattle.audit.specs.Checks.{StripeHolds, IsBefore}
 use Rattle.audit.specs.Judging.{FindsBad}
 use Rattle.audit.specs.Reviews.{Reviews}
 use Rattle.audit.specs.Sweeps.{LineGoes, LinesGo, LinesStop, StopsAt, first_missing, happened_in, none_happened, was_answered, is_missing, name_before, name_of}
 use Rattle.audit.proofs.Lists.{same_some, get_within}
 use Rattle.audit.proofs.LineGoing.{kept}
 use Rattle.audit.proofs.Marking.{stops_parts, length_none}
-use Rattle.audit.proofs.Missing.{Missing, IsFirst, FirstMeans, first_means}
+use Rattle.audit.proofs.Missing.{Missing, FirstMeans, first_means}
 use Rattle.audit.proofs.Verdicts.{known, own_stripe, length_in, holds, misses, stopped}
 
 -- the order of stripes, in its two forms

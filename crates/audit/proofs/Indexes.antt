@@ -1,8 +1,8 @@
 -- What is kept of operations shows their lives, mark by mark.
-use Rattle.std.proofs.Common.{◌≡◌, ◌≢◌, ℕ, zero, suc, ◌+◌, ◌-◌, ◌<◌, ◌≤◌, Bool, true, false, cond, nat_eq, nat_lt, ◌&&◌, List, [], ◌∷◌, ◌++◌, length, get_or, take, ◌⊎◌, inl, inr, ⊎_elim, Option, Some, None, refl, sym, ap, ◌∙◌, subst, arith}
+use Rattle.std.proofs.Common.{◌≡◌, ◌≢◌, ℕ, zero, suc, ◌+◌, ◌<◌, ◌≤◌, Bool, cond, List, [], ◌∷◌, ◌++◌, length, take, ◌⊎◌, inl, inr, ⊎_elim, Option, Some, None, refl, sym, ap, ◌∙◌, subst, arith}
 use Rattle.std.specs.Prelude.{slice_get, slice_set}
 use Rattle.std.specs.Option.{option_map}
-use Rattle.std.proofs.lemmas.Bool.{and_parts, eqb-true, eq-eqb, ne_eqb, cases_eq}
+use Rattle.std.proofs.lemmas.Bool.{eq-eqb, ne_eqb, cases_eq}
 use Rattle.std.proofs.lemmas.List.{get_or-set_same, get_or-set_other}
 use Rattle.lines.specs.declared.forms.Access.{Access}
 use Rattle.fab_base.specs.declared.identities.BrickId.{BrickId}
@@ -10,14 +10,14 @@ use Rattle.fab_base.specs.declared.asks.Ask.{Ask}
 use Rattle.fab_base.specs.declared.answers.Answer.{Answer}
 use Rattle.reg_model.specs.declared.marks.Mark.{Mark}
 use Rattle.reg_model.specs.declared.marks.Mark.TheVariants.{Begin, End, Crash}
-use Rattle.reg_model.specs.Marks.{Ending, Answered, Interrupted, Unended, ending_of, Life, life_of, begun_numbers}
+use Rattle.reg_model.specs.Marks.{Ending, Answered, Interrupted, Unended, Life, life_of, begun_numbers}
 use Rattle.protocol_laws.proofs.Lives.{onward, life_onward, life_of-append, with_ending}
 use Rattle.transcript.specs.declared.claims.Claim.{Claim}
 use Rattle.transcript.specs.declared.claims.Outcome.{Outcome}
 use Rattle.transcript.specs.Marks.{mark_of, answer_of, op_of}
 use Rattle.audit.specs.declared.operations.Operation.{Operation}
-use Rattle.audit.specs.Operations.{access_or, access_of, outcome_or, outcome_of, ending_with, crashes_of, crash_after, life_in, Index, is_nowhere, is_open, ended, begun, crashed_at, life_at, Shows}
-use Rattle.audit.proofs.Lists.{get_front, get_found, get_last, get_past, get_within, get_beyond, get_set, get_other, length_set, length_push, push_cases, same_some}
+use Rattle.audit.specs.Operations.{access_or, access_of, outcome_or, outcome_of, ending_with, crashes_of, crash_after, life_in, Index, ended, begun, crashed_at, life_at, Shows}
+use Rattle.audit.proofs.Lists.{get_found, get_last, get_past, get_within, get_beyond, get_set, get_other, length_set, length_push, push_cases, same_some}
 
 -- the numbers that begin, with one mark more
 pub begun_push : (marks : List Mark) (mark : Mark) → begun_numbers (marks ++ mark ∷ []) ≡ begun_numbers marks ++ begun_numbers (mark ∷ [])

@@ -1,5 +1,5 @@
 -- One past the last mark of each stripe, mark by mark.
-use Rattle.std.proofs.Common.{◌≡◌, ℕ, zero, suc, ◌+◌, ◌-◌, ◌<◌, ◌≤◌, max, Bool, true, false, cond, nat_eq, ◌&&◌, List, [], ◌∷◌, ◌++◌, length, take, drop, Option, Some, None, refl, sym, ap, ◌∙◌, subst, arith}
+use Rattle.std.proofs.Common.{◌≡◌, ℕ, zero, suc, ◌+◌, ◌-◌, ◌<◌, Bool, true, false, cond, List, [], ◌∷◌, ◌++◌, take, drop, Option, Some, None, refl, sym, ap, ◌∙◌, arith}
 use Rattle.std.specs.Prelude.{slice_get}
 use Rattle.std.specs.List.{filter}
 use Rattle.std.specs.Option.{option_map}
@@ -15,7 +15,6 @@ use Rattle.audit.specs.declared.operations.Operation.{Operation}
 use Rattle.audit.specs.Checks.{MarksHold}
 use Rattle.audit.specs.Operations.{Index, life_in, Shows}
 use Rattle.audit.specs.Lasts.{past_behind, is_of, touches}
-use Rattle.audit.proofs.Lists.{same_some}
 
 -- one mark more
 pub past_push : (past : ℕ) (marks : List Mark) (mark : Mark) → past_behind past (marks ++ mark ∷ []) ≡ position_of mark + 1

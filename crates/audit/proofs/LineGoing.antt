@@ -1,8 +1,7 @@
 -- The happenings that a line says go on, or the line is the first that does not.
-use Rattle.std.proofs.Common.{◌≡◌, ℕ, zero, suc, ◌+◌, ◌*◌, ◌<◌, ◌≤◌, Bool, true, false, List, [], ◌∷◌, length, get_or, take, drop, take_all, Option, Some, None, refl, sym, ap, ◌∙◌, subst, arith}
+use Rattle.std.proofs.Common.{◌≡◌, ℕ, suc, ◌+◌, ◌<◌, ◌≤◌, Bool, true, false, List, ◌∷◌, length, get_or, take, drop, take_all, Option, Some, None, sym, ap, ◌∙◌, subst, arith}
 use Rattle.std.proofs.lemmas.List.{at_drop_more, at_drop_all}
 use Rattle.fab_base.specs.Layouts.{Layout, Group, group_of}
-use Rattle.reg_model.specs.declared.marks.Mark.{Mark}
 use Rattle.reg_model.specs.Marks.{Life, life_of, stripe_marks}
 use Rattle.reg_model.specs.Registers.{zero_registers}
 use Rattle.transcript.specs.declared.claims.Claim.{Claim}
@@ -10,10 +9,10 @@ use Rattle.transcript.specs.declared.claims.StripeLine.{StripeLine}
 use Rattle.transcript.specs.Marks.{marks_of}
 use Rattle.audit.specs.declared.reviews.Review.{Review}
 use Rattle.audit.specs.Checks.{MarksHold}
-use Rattle.audit.specs.Operations.{Index, Shows}
-use Rattle.audit.specs.Walks.{LifeFits, life_among, GoOn, walk_from, WalksAlong}
+use Rattle.audit.specs.Operations.{Shows}
+use Rattle.audit.specs.Walks.{LifeFits, life_among, walk_from, WalksAlong}
 use Rattle.audit.specs.Lasts.{past_behind, last_at}
-use Rattle.audit.specs.Reviews.{Reviewed, Reviews}
+use Rattle.audit.specs.Reviews.{Reviews}
 use Rattle.audit.specs.Sweeps.{happened_along, lives_at, GoesIn, LineGoes, AnswersLine, LinesGo, StopsAt}
 use Rattle.audit.proofs.StripeLives.{lives_are}
 use Rattle.audit.proofs.Fitting.{life_fits}

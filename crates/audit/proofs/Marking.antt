@@ -1,5 +1,5 @@
 -- Which operations have happened along happenings and lines.
-use Rattle.std.proofs.Common.{◌≡◌, ◌≢◌, ℕ, zero, suc, ◌+◌, ◌-◌, ◌<◌, ◌≤◌, Bool, true, false, List, [], ◌∷◌, length, map, get_or, set, take, replicate, ◌⊎◌, inl, inr, ⊎_elim, Option, Some, None, refl, sym, ap, ◌∙◌, subst, arith}
+use Rattle.std.proofs.Common.{◌≡◌, ◌≢◌, ℕ, zero, suc, ◌-◌, ◌<◌, Bool, true, false, List, [], ◌∷◌, length, map, get_or, set, take, ◌⊎◌, inl, inr, ⊎_elim, Option, Some, None, refl, sym, ap, ◌∙◌, subst, arith}
 use Rattle.std.specs.Prelude.{slice_get}
 use Rattle.std.specs.List.{Contains}
 use Rattle.std.proofs.lemmas.Bool.{cases_eq}
@@ -13,7 +13,7 @@ use Rattle.transcript.specs.declared.claims.StripeLine.{StripeLine}
 use Rattle.audit.specs.declared.reviews.Review.{Review}
 use Rattle.audit.specs.Walks.{Walk, has_happened, walked, GoOn, walked_along, walk_from}
 use Rattle.audit.specs.Sweeps.{happened_along, lives_at, GoesIn, LineGoes, LinesGo, StopsAt, happened_in, none_happened}
-use Rattle.audit.proofs.Lists.{same_some, get_within}
+use Rattle.audit.proofs.Lists.{same_some}
 use Rattle.audit.proofs.WalkLemmas.{AreKnown, alive, length_set}
 
 -- happenings name an operation

@@ -1,12 +1,11 @@
 -- The first stripe of an answered operation that did not happen.
-use Rattle.std.proofs.Common.{◌≡◌, ℕ, zero, suc, ◌+◌, ◌<◌, ◌≤◌, Bool, true, false, cond, nat_lt, nat_eq, ◌&&◌, ◌||◌, List, [], ◌∷◌, length, get_or, drop, ◌⊎◌, inl, inr, ⊎_elim, Option, Some, None, refl, sym, ap, ◌∙◌, subst, arith}
+use Rattle.std.proofs.Common.{◌≡◌, ℕ, zero, suc, ◌+◌, ◌<◌, Bool, true, false, cond, List, [], ◌∷◌, length, get_or, drop, ◌⊎◌, inl, inr, ⊎_elim, Option, Some, None, refl, sym, ap, ◌∙◌, subst, arith}
 use Rattle.std.specs.Prelude.{slice_get}
 use Rattle.std.proofs.lemmas.Bool.Decides.{nat_tests}
 use Rattle.std.proofs.lemmas.List.{at_drop_more}
 use Rattle.transcript.specs.declared.claims.Claim.{Claim}
 use Rattle.audit.specs.declared.operations.Operation.{Operation}
 use Rattle.audit.specs.declared.sweeps.StripeName.{StripeName}
-use Rattle.audit.specs.Checks.{IsBefore}
 use Rattle.audit.specs.Sweeps.{is_missing, name_before, earlier, with_missing, first_missing}
 use Rattle.audit.proofs.Lists.{same_some}
 

@@ -4,7 +4,7 @@ use Rattle.std.specs.Prelude.{slice_get}
 use Rattle.fab_base.specs.Layouts.{Layout}
 use Rattle.reg_model.specs.declared.marks.Mark.{Mark}
 use Rattle.reg_model.specs.declared.marks.Mark.TheVariants.{Begin, End, Crash}
-use Rattle.reg_model.specs.Marks.{Life, life_of, position_of, IsOpen, stripe_marks, concerns}
+use Rattle.reg_model.specs.Marks.{Life, position_of, IsOpen, stripe_marks}
 use Rattle.transcript.specs.declared.claims.Claim.{Claim}
 use Rattle.transcript.specs.Marks.{mark_of, marks_of}
 use Rattle.audit.specs.declared.lasts.LastMarks.{LastMarks}

@@ -1,21 +1,20 @@
 -- The lives of a stripe's operations in its marks, by what is kept of all.
-use Rattle.std.proofs.Common.{◌≡◌, ℕ, zero, suc, ◌+◌, ◌<◌, ◌≤◌, Bool, true, false, cond, nat_eq, ◌&&◌, List, [], ◌∷◌, length, Option, Some, None, refl, sym, ap, ◌∙◌, subst, arith}
+use Rattle.std.proofs.Common.{◌≡◌, ℕ, zero, suc, ◌+◌, ◌≤◌, Bool, true, false, cond, nat_eq, ◌&&◌, List, [], ◌∷◌, Option, Some, None, refl, sym, ap, ◌∙◌, arith}
 use Rattle.std.specs.Prelude.{slice_get}
 use Rattle.std.specs.Option.{option_map}
-use Rattle.std.proofs.lemmas.Bool.{cond_both}
 use Rattle.fab_base.specs.declared.asks.Ask.{Ask}
 use Rattle.fab_base.specs.declared.answers.Answer.{Answer}
 use Rattle.reg_model.specs.declared.marks.Mark.{Mark}
 use Rattle.reg_model.specs.declared.marks.Mark.TheVariants.{Begin, End, Crash}
-use Rattle.reg_model.specs.Marks.{Ending, Answered, Interrupted, Unended, ending_of, Life, life_of, IsUnended, begun_numbers, is_of_stripe, concerns, stripe_marks}
-use Rattle.protocol_laws.proofs.Lives.{EndingStays, LifeStays}
+use Rattle.reg_model.specs.Marks.{Ending, Answered, Interrupted, Unended, ending_of, Life, life_of, is_of_stripe, concerns, stripe_marks}
+use Rattle.protocol_laws.proofs.Lives.{EndingStays}
 use Rattle.protocol_laws.proofs.RisingMarks.{NumbersRise-increasing}
 use Rattle.protocol_laws.proofs.StripeLives.{life_filtered, none_filtered, others_filtered, numbers_from_one}
 use Rattle.fab_base.specs.Layouts.{Layout}
 use Rattle.transcript.specs.declared.claims.Claim.{Claim}
 use Rattle.audit.specs.declared.operations.Operation.{Operation}
 use Rattle.audit.specs.Checks.{MarksHold}
-use Rattle.audit.specs.Operations.{Index, ending_with, crash_after, life_in, life_at, Shows}
+use Rattle.audit.specs.Operations.{Index, ending_with, crash_after, life_in, Shows}
 use Rattle.audit.specs.Walks.{of_stripe, life_among}
 use Rattle.audit.specs.Lasts.{past_behind}
 use Rattle.audit.proofs.Lists.{same_some}

@@ -1,5 +1,5 @@
 -- A mark is taken where it follows those before it, and what is kept shows it then.
-use Rattle.std.proofs.Common.{◌≡◌, ◌≢◌, ℕ, zero, suc, ◌+◌, ◌-◌, ◌*◌, ◌<◌, ◌≤◌, Bool, true, false, cond, not, nat_eq, nat_lt, ◌&&◌, List, [], ◌∷◌, ◌++◌, length, Option, Some, None, refl, sym, ap, ◌∙◌, subst, arith}
+use Rattle.std.proofs.Common.{◌≡◌, ℕ, zero, suc, ◌+◌, ◌-◌, ◌*◌, ◌<◌, Bool, true, false, cond, nat_eq, nat_lt, ◌&&◌, List, [], ◌∷◌, ◌++◌, length, Option, Some, None, refl, sym, ap, ◌∙◌, subst, arith}
 use Rattle.std.specs.Prelude.{slice_get, slice_set}
 use Rattle.std.specs.Option.{option_map}
 use Rattle.std.proofs.lemmas.Bool.{and_parts, eqb-true, eq-eqb}
@@ -8,7 +8,7 @@ use Rattle.lines.specs.declared.forms.Access.{Access}
 use Rattle.lines.specs.declared.forms.Access.TheVariants.{ReadBlock, WriteBlock, ReadStripe, WriteStripe}
 use Rattle.fab_base.specs.Layouts.{Layout, Group, group_of}
 use Rattle.reg_model.specs.declared.marks.Mark.{Mark}
-use Rattle.reg_model.specs.Marks.{Ending, Life, life_of, position_of, begun_numbers, IsUnended, IsOpen}
+use Rattle.reg_model.specs.Marks.{Life, life_of, position_of, IsUnended, IsOpen}
 use Rattle.reg_model.specs.Strict.{OpFits}
 use Rattle.transcript.specs.declared.claims.Claim.{Claim}
 use Rattle.transcript.specs.declared.claims.Claim.TheVariants.{Begin, End, Crash}
@@ -16,8 +16,8 @@ use Rattle.transcript.specs.declared.claims.Outcome.{Outcome}
 use Rattle.transcript.specs.declared.claims.Outcome.TheVariants.{Data, Done, Aborted}
 use Rattle.transcript.specs.Marks.{mark_of, answer_of, op_of}
 use Rattle.audit.specs.declared.operations.Operation.{Operation}
-use Rattle.audit.specs.Checks.{GroupFits, BeginFits, WordFits, AnswerFits}
-use Rattle.audit.specs.Operations.{Index, access_at, access_fits, group_fits, begin_fits, is_write, word_fits, ending_with, crashes_of, crash_after, life_in, is_nowhere, is_open, ended, begun, may_end, change_at, crashed_at, begins_next, ends_at, crashes_at, after_claim, life_at, Shows}
+use Rattle.audit.specs.Checks.{GroupFits, WordFits, AnswerFits}
+use Rattle.audit.specs.Operations.{Index, access_at, access_fits, group_fits, begin_fits, word_fits, ending_with, crashes_of, crash_after, life_in, is_nowhere, is_open, ended, begun, may_end, change_at, crashed_at, begins_next, ends_at, crashes_at, after_claim, Shows}
 use Rattle.audit.proofs.Lists.{length_set}
 use Rattle.audit.proofs.Indexes.{shows_begin, shows_end, shows_crash}
 use Rattle.audit.proofs.Steps.{Follows}

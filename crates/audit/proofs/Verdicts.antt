@@ -1,8 +1,7 @@
 -- Which stripe is the first whose happenings do not hold.
-use Rattle.std.proofs.Common.{◌≡◌, ◌≢◌, ℕ, zero, suc, ◌+◌, ◌-◌, ◌<◌, ◌≤◌, Bool, true, false, cond, nat_eq, nat_lt, ◌&&◌, ◌||◌, eqb, List, [], ◌∷◌, length, map, get_or, take, ◌⊎◌, inl, inr, ⊎_elim, Option, Some, None, refl, sym, ap, ◌∙◌, subst, arith}
+use Rattle.std.proofs.Common.{◌≡◌, ℕ, zero, suc, ◌+◌, ◌-◌, ◌<◌, ◌≤◌, Bool, true, false, cond, nat_eq, ◌&&◌, List, [], ◌∷◌, length, get_or, take, ◌⊎◌, inl, inr, ⊎_elim, Option, Some, None, refl, sym, ap, ◌∙◌, subst, arith}
 use Rattle.std.specs.Prelude.{slice_get}
-use Rattle.std.specs.List.{All, Contains, IsDistinct}
-use Rattle.std.specs.List.Sorted.{IsNonDecreasing}
+use Rattle.std.specs.List.{All, IsDistinct}
 use Rattle.std.specs.Option.{option_map}
 use Rattle.std.proofs.lemmas.Bool.{and_parts, eqb-true, eq-eqb, cases_lt}
 use Rattle.std.proofs.lemmas.Bool.Decides.{nat_tests}
@@ -15,7 +14,7 @@ use Rattle.fab_base.specs.declared.identities.BrickId.{BrickId}
 use Rattle.reg_model.specs.declared.marks.Mark.{Mark}
 use Rattle.reg_model.specs.declared.marks.Mark.TheVariants.{Begin, End, Crash}
 use Rattle.reg_model.specs.declared.marks.Happening.{Happening}
-use Rattle.reg_model.specs.Marks.{Ending, Answered, ending_of, Life, life_of, stripe_marks}
+use Rattle.reg_model.specs.Marks.{Answered, ending_of, Life, life_of, stripe_marks}
 use Rattle.reg_model.specs.Registers.{zero_registers}
 use Rattle.reg_model.specs.Strict.{IsAnswered, WasAnswered, IsInTime, IsStrict}
 use Rattle.transcript.specs.declared.claims.Claim.{Claim}
@@ -26,18 +25,16 @@ use Rattle.transcript.specs.Marks.{marks_of, answer_of}
 use Rattle.transcript.specs.Transcripts.{stripe_before, StripesRise}
 use Rattle.audit.specs.declared.operations.Operation.{Operation}
 use Rattle.audit.specs.declared.reviews.Review.{Review}
-use Rattle.audit.specs.declared.sweeps.StripeName.{StripeName}
-use Rattle.audit.specs.Checks.{GroupFits, happenings_said, HasStripe, IsNamed, HoldsIn, StripeHolds, StripesHold, IsBefore, IsFirstBad}
+use Rattle.audit.specs.Checks.{GroupFits, happenings_said, HasStripe, IsNamed, HoldsIn, StripeHolds}
 use Rattle.audit.specs.Operations.{ending_with, crash_after, life_in, outcome_at}
 use Rattle.audit.specs.Walks.{has_happened, of_stripe, GoOn, walk_from}
 use Rattle.audit.specs.Lasts.{last_at}
 use Rattle.audit.specs.Reviews.{Reviews}
-use Rattle.audit.specs.Sweeps.{happened_along, says_answer, lives_at, GoesIn, LineGoes, LinesGo, StopsAt, happened_in, none_happened, was_answered, is_missing, name_before}
+use Rattle.audit.specs.Sweeps.{happened_along, says_answer, lives_at, GoesIn, LineGoes, LinesGo, happened_in, none_happened, was_answered}
 use Rattle.audit.proofs.Lists.{same_some, get_within}
 use Rattle.audit.proofs.WalkLemmas.{AreKnown, alive, never_back, once, in_time, reads_right, goes_on}
 use Rattle.audit.proofs.LineGoing.{Kept, kept, lives_here}
-use Rattle.audit.proofs.Marking.{Names, names_contains, contains_names, length_along, none_yet, length_none, in_group, lines_mark, lines_named, goes_at, stops_parts}
-use Rattle.audit.proofs.Missing.{Missing, IsFirst, FirstMeans}
+use Rattle.audit.proofs.Marking.{Names, names_contains, contains_names, length_along, none_yet, length_none, lines_mark, lines_named, goes_at}
 
 -- the happenings said of a stripe: none, where it has no line, or those of its first line
 said_cases : (lines : List StripeLine) (g s : ℕ)

@@ -1,6 +1,6 @@
 -- Happenings that go on, one after another, are those that are strict but for the answered operations that are not among them.
-use Rattle.std.proofs.Common.{◌≡◌, ◌≢◌, ℕ, zero, suc, ◌+◌, ◌-◌, ◌<◌, ◌≤◌, Bool, true, false, eqb, List, [], ◌∷◌, length, map, get_or, set, ◌⊎◌, inl, inr, ⊎_elim, Option, Some, None, refl, sym, ap, ◌∙◌, subst, arith}
-use Rattle.std.specs.List.{All, AllByRecursion, Contains, IsDistinct}
+use Rattle.std.proofs.Common.{◌≡◌, ◌≢◌, ℕ, zero, suc, ◌-◌, ◌<◌, ◌≤◌, Bool, true, false, eqb, List, [], ◌∷◌, length, map, set, Option, Some, None, refl, sym, ap, ◌∙◌, subst, arith}
+use Rattle.std.specs.List.{All, AllByRecursion, IsDistinct}
 use Rattle.std.specs.List.Sorted.{IsNonDecreasing}
 use Rattle.std.proofs.lemmas.Bool.{eq-eqb, ne_eqb}
 use Rattle.std.proofs.lemmas.List.{get_or-set_same, get_or-set_other}
@@ -9,7 +9,7 @@ use Rattle.reg_model.specs.declared.marks.Mark.{Mark}
 use Rattle.reg_model.specs.declared.marks.Happening.{Happening}
 use Rattle.reg_model.specs.Marks.{Life, life_of}
 use Rattle.reg_model.specs.Strict.{IsInTime, ReadsRight, ReadsRightAlong, after_life}
-use Rattle.audit.specs.Walks.{Walk, has_happened, GoesOn, walked, GoOn, walked_along}
+use Rattle.audit.specs.Walks.{Walk, has_happened, walked, GoOn}
 
 -- the operations of lives are numbered from one, and each has a place
 pub record AreKnown (lives : ℕ → Option Life) (places : ℕ) : Type 0 where

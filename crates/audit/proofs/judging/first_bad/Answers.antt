@@ -1,5 +1,5 @@
 -- The first stripe that is found among the lines and the operations.
-use Rattle.std.proofs.Common.{◌≡◌, ℕ, length, List, Option, Some, None, refl, sym, ap, ◌∙◌, subst}
+use Rattle.std.proofs.Common.{ℕ, length, Option, ap, ◌∙◌, subst}
 use Rattle.audit.specs.Sweeps.{LinesStop, none_happened}
 use Rattle.audit.proofs.Bad.{room, none_bad, some_bad}
 use Rattle.audit.proofs.judging.first_bad.Goals as goal

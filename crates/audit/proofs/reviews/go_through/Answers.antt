@@ -1,8 +1,8 @@
 -- Each mark is taken or refused.
-use Rattle.std.proofs.Common.{◌≡◌, ℕ, Bool, cond, List, Option, Some, None, length, refl, sym, ap, ◌∙◌, subst, ◌+◌}
+use Rattle.std.proofs.Common.{◌≡◌, Bool, cond, List, Option, Some, None, refl, ap, ◌∙◌, ◌+◌}
 use Rattle.std.proofs.lemmas.Option.{slice_get_read}
 use Rattle.audit.specs.declared.operations.Operation.{Operation}
-use Rattle.audit.specs.Operations.{Index, after_claim}
+use Rattle.audit.specs.Operations.{Index}
 use Rattle.audit.specs.Lasts.{last_at, touches}
 use Rattle.audit.proofs.ReviewLemmas.{reviewed_none, reviewed_more, refused}
 use Rattle.audit.proofs.reviews.go_through.Goals as goal

@@ -1,5 +1,5 @@
 -- One operation more.
-use Rattle.std.proofs.Common.{◌≡◌, ℕ, ◌+◌, ◌<◌, length, drop, sym, ap, ◌∙◌, arith}
+use Rattle.std.proofs.Common.{◌+◌, ◌<◌, length, drop, ap, ◌∙◌, arith}
 use Rattle.audit.specs.Sweeps.{first_missing}
 use Rattle.audit.proofs.Missing.{missing_more}
 use Rattle.audit.proofs.sweeps.first_missing.Goals as goal

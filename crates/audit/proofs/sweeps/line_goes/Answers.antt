@@ -1,5 +1,5 @@
 -- The happenings of a line are walked along in a group that has its stripe.
-use Rattle.std.proofs.Common.{◌≡◌, ℕ, ◌*◌, List, replicate, Option, Some, sym, ap, ◌∙◌, subst, arith}
+use Rattle.std.proofs.Common.{ℕ, ◌*◌, List, replicate, sym, ap, ◌∙◌, subst, arith}
 use Rattle.std.specs.Option.{option_copied}
 use Rattle.reg_model.specs.declared.marks.Happening.{Happening}
 use Rattle.audit.specs.Walks.{life_among, walk_from, WalksAlong}

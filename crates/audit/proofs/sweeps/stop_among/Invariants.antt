@@ -1,5 +1,5 @@
 -- what is found of the lines that are left is found of all
-use Rattle.std.proofs.Common.{◌≡◌, ℕ, ◌+◌, drop, length}
+use Rattle.std.proofs.Common.{ℕ, ◌+◌, drop}
 use Rattle.audit.specs.Sweeps.{LinesGo, StopsAt}
 use Rattle.audit.proofs.sweeps.stop_among.Given as goal
 

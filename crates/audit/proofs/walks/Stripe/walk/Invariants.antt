@@ -1,6 +1,6 @@
 -- the happenings so far went on, and those that are left go on where all do
-use Rattle.std.proofs.Common.{◌≡◌, ◌↔◌, ◌*◌, drop, length}
-use Rattle.audit.specs.Walks.{Walk, lives_of, walk_from, GoOn, walked_along}
+use Rattle.std.proofs.Common.{◌≡◌, ◌↔◌, drop}
+use Rattle.audit.specs.Walks.{lives_of, walk_from, GoOn, walked_along}
 use Rattle.audit.proofs.walks.Stripe.walk.Given as goal
 
 abbrev pub invariant-loop-happening : goal.invariant-loop-happening
