@@ -1,20 +1,23 @@
 -- What is kept of operations shows their lives, mark by mark.
-use Rattle.std.proofs.Common.{◌≡◌, ◌≢◌, ℕ, zero, suc, ◌+◌, ◌-◌, ◌<◌, ◌≤◌, Bool, true, false, cond, nat_eq, nat_lt, ◌&&◌, List, [], ◌∷◌, ◌++◌, length, get_or, take, ◌⊎◌, inl, inr, ⊎_elim, Option, Some, None, refl, sym, ap, ◌∙◌, subst, arith}
+use Rattle.std.proofs.Common.{◌≡◌, ◌≢◌, ℕ, zero, suc, ◌+◌, ◌<◌, ◌≤◌, Bool, cond, List, [], ◌∷◌, ◌++◌, length, take, ◌⊎◌, inl, inr, ⊎_elim, Option, Some, None, refl, sym, ap, ◌∙◌, subst, arith}
 use Rattle.std.specs.Prelude.{slice_get, slice_set}
 use Rattle.std.specs.Option.{option_map}
-use Rattle.std.proofs.lemmas.Bool.{and_parts, eqb-true, eq-eqb, ne_eqb, cases_eq}
+use Rattle.std.proofs.lemmas.Bool.{eq-eqb, ne_eqb, cases_eq}
 use Rattle.std.proofs.lemmas.List.{get_or-set_same, get_or-set_other}
 use Rattle.lines.specs.declared.forms.Access.{Access}
+use Rattle.fab_base.specs.declared.identities.BrickId.{BrickId}
+use Rattle.fab_base.specs.declared.asks.Ask.{Ask}
+use Rattle.fab_base.specs.declared.answers.Answer.{Answer}
 use Rattle.reg_model.specs.declared.marks.Mark.{Mark}
 use Rattle.reg_model.specs.declared.marks.Mark.TheVariants.{Begin, End, Crash}
-use Rattle.reg_model.specs.Marks.{Ending, Answered, Interrupted, Unended, ending_of, Life, life_of, begun_numbers}
+use Rattle.reg_model.specs.Marks.{Ending, Answered, Interrupted, Unended, Life, life_of, begun_numbers}
 use Rattle.protocol_laws.proofs.Lives.{onward, life_onward, life_of-append, with_ending}
 use Rattle.transcript.specs.declared.claims.Claim.{Claim}
 use Rattle.transcript.specs.declared.claims.Outcome.{Outcome}
 use Rattle.transcript.specs.Marks.{mark_of, answer_of, op_of}
 use Rattle.audit.specs.declared.operations.Operation.{Operation}
-use Rattle.audit.specs.Operations.{access_or, access_of, outcome_or, outcome_of, ending_with, crashes_of, crash_after, life_in, Index, is_nowhere, is_open, ended, begun, crashed_at, first_index, life_at, Shows}
-use Rattle.audit.proofs.Lists.{get_front, get_found, get_last, get_past, get_within, get_beyond, get_set, get_other, length_set, length_push, push_cases, same_some}
+use Rattle.audit.specs.Operations.{access_or, access_of, outcome_or, outcome_of, ending_with, crashes_of, crash_after, life_in, Index, ended, begun, crashed_at, life_at, Shows}
+use Rattle.audit.proofs.Lists.{get_found, get_last, get_past, get_within, get_beyond, get_set, get_other, length_set, length_push, push_cases, same_some}
 
 -- the numbers that begin, with one mark more
 pub begun_push : (marks : List Mark) (mark : Mark) → begun_numbers (marks ++ mark ∷ []) ≡ begun_numbers marks ++ begun_numbers (mark ∷ [])
@@ -24,19 +27,19 @@ begun_push (End p n answer ∷ marks) mark = begun_push marks mark
 begun_push (Crash p b ∷ marks) mark = begun_push marks mark
 
 -- a life, once a mark that is not its operation's has come
-onward_begin : (claims : List Claim) (e c : Option ℕ) (i n m brick : ℕ) (b : _) (ask : _)
+onward_begin : (claims : List Claim) (e c : Option ℕ) (i n m brick : ℕ) (b : BrickId) (ask : Ask)
     → onward (ending_with claims e c i) (Begin i n b ask ∷ []) m brick ≡ ending_with claims e c (i + 1)
 onward_begin claims (Some p) c i n m brick b ask = refl
 onward_begin claims None (Some p) i n m brick b ask = refl
 onward_begin claims None None i n m brick b ask = refl
 
-onward_end : (claims : List Claim) (e c : Option ℕ) (i n m brick : ℕ) (answer : _) → n ≢ m
+onward_end : (claims : List Claim) (e c : Option ℕ) (i n m brick : ℕ) (answer : Answer) → n ≢ m
     → onward (ending_with claims e c i) (End i n answer ∷ []) m brick ≡ ending_with claims e c (i + 1)
 onward_end claims (Some p) c i n m brick answer other = refl
 onward_end claims None (Some p) i n m brick answer other = refl
 onward_end claims None None i n m brick answer other = ap (λ (t : Bool). cond t (Answered i answer) (Unended (i + 1))) (ne_eqb n m other)
 
-onward_crash : (claims : List Claim) (e c : Option ℕ) (i m brick : ℕ) (b : _) → b.0 ≢ brick
+onward_crash : (claims : List Claim) (e c : Option ℕ) (i m brick : ℕ) (b : BrickId) → b.0 ≢ brick
     → onward (ending_with claims e c i) (Crash i b ∷ []) m brick ≡ ending_with claims e c (i + 1)
 onward_crash claims (Some p) c i m brick b other = refl
 onward_crash claims None (Some p) i m brick b other = refl
@@ -120,11 +123,20 @@ shows_begin claims marks i index b g s access shows at brick = record {
   where
     mark : Mark
     mark = mark_of (Claim.Begin i (suc (length index.found)) b g s access)
+
     new : Operation
     new = begun i b g s (crashes_of index.crashes b)
+
     by_number : (n : ℕ) → life_onward (life_at claims index i n) (mark ∷ []) n
         ≡ life_at claims (record { found = index.found ++ new ∷ []; crashes = index.crashes }) (i + 1) n
-    by_number zero = refl
+    by_number zero =
+        ap (λ (t : Bool). cond t (Some (record {
+          begin = i;
+          brick = b;
+          ask = record { group = record { 0 = g }; stripe = record { 0 = s }; op = op_of access };
+          ending = Unended (i + 1);
+        })) None)
+        (ne_eqb (suc (length index.found)) 0 (λ e. omega arith))
     by_number (suc k) = begin_lives claims marks i index b g s access shows at k (slice_get index.found k) refl
 
 -- what becomes of the operations when one ends
@@ -171,13 +183,16 @@ shows_end claims marks i index k0 mine outcome shows at is no_end no_crash = rec
   where
     mark : Mark
     mark = End i (suc k0) (answer_of outcome)
+
     append_none : (xs : List ℕ) → xs ++ [] ≡ xs
     append_none [] = refl
     append_none (x ∷ xs) = ap (λ l. x ∷ l) (append_none xs)
+
     by_number : (n : ℕ) → life_onward (life_at claims index i n) (mark ∷ []) n
         ≡ life_at claims (record { found = slice_set index.found k0 (ended i mine); crashes = index.crashes }) (i + 1) n
     by_number zero = refl
     by_number (suc k) = end_lives claims i index k0 mine outcome at is no_end no_crash k (slice_get index.found k) refl
+
     by_place : (k : ℕ) (o : Operation) → slice_get (slice_set index.found k0 (ended i mine)) k ≡ Some o → (k ≡ k0) ⊎ (k ≢ k0)
         → (o.brick < length index.crashes) × (o.crashes ≤ length (crashes_of index.crashes o.brick))
     by_place k o found (inl same) =
@@ -195,7 +210,7 @@ crashes_other : (crashes : List (List ℕ)) (b i a : ℕ) → a ≢ b → crashe
 crashes_other crashes b i a other = get_or-set_other crashes b a (crashes_of crashes b ++ i ∷ []) [] other
 
 -- a brick's crash interrupts its operations that are open
-crash_mine : (claims : List Claim) (xs : List ℕ) (e c : Option ℕ) (place i m brick : ℕ) (b : _) → place ≤ length xs → slice_get xs place ≡ c
+crash_mine : (claims : List Claim) (xs : List ℕ) (e c : Option ℕ) (place i m brick : ℕ) (b : BrickId) → place ≤ length xs → slice_get xs place ≡ c
     → b.0 ≡ brick
     → onward (ending_with claims e c i) (Crash i b ∷ []) m brick ≡ ending_with claims e (slice_get (xs ++ i ∷ []) place) (i + 1)
 crash_mine claims xs (Some p) c place i m brick b within is same = refl
@@ -233,20 +248,24 @@ shows_crash claims marks i index b shows = record {
   lives = λ n. life_of-append marks (mark ∷ []) n ∙ ap (λ (l : Option Life). life_onward l (mark ∷ []) n) (shows.lives n) ∙ by_number n;
   count = ap length (begun_push marks mark) ∙ ap length (append_none (begun_numbers marks)) ∙ shows.count;
   bounded = λ k o found.
-      (let old = shows.bounded k o found in
-      (subst (λ (l : ℕ). o.brick < l) (sym (length_set index.crashes b (crashes_of index.crashes b ++ i ∷ []))) old.0,
-      by_brick o old (cases_eq o.brick b)));
+      (let old = shows.bounded k o found in (
+        subst (λ (l : ℕ). o.brick < l) (sym (length_set index.crashes b (crashes_of index.crashes b ++ i ∷ []))) old.0,
+        by_brick o old (cases_eq o.brick b),
+      ));
 }
   where
     mark : Mark
     mark = Crash i (record { 0 = b })
+
     append_none : (xs : List ℕ) → xs ++ [] ≡ xs
     append_none [] = refl
     append_none (x ∷ xs) = ap (λ l. x ∷ l) (append_none xs)
+
     by_number : (n : ℕ) → life_onward (life_at claims index i n) (mark ∷ []) n
         ≡ life_at claims (record { found = index.found; crashes = crashed_at index.crashes b i }) (i + 1) n
     by_number zero = refl
     by_number (suc k) = crash_lives claims i index b k (slice_get index.found k) (λ x is. shows.bounded k x is)
+
     by_brick : (o : Operation) → (o.brick < length index.crashes) × (o.crashes ≤ length (crashes_of index.crashes o.brick))
         → (o.brick ≡ b) ⊎ (o.brick ≢ b) → o.crashes ≤ length (crashes_of (crashed_at index.crashes b i) o.brick)
     by_brick o old (inl same) =
@@ -256,9 +275,13 @@ shows_crash claims marks i index b shows = record {
     by_brick o old (inr other) = subst (λ (xs : List ℕ). o.crashes ≤ length xs) (sym (crashes_other index.crashes b i o.brick other)) old.1
 
 -- nothing is kept before any mark
-pub shows_none : (claims : List Claim) (bricks : ℕ) → Shows claims [] 0 (first_index bricks)
-shows_none claims bricks = record { lives = none; count = refl; bounded = λ k o found. absurd (let never : None ≡ Some o = found in cc) }
+pub shows_none : (claims : List Claim) (index : Index) → index.found ≡ [] → Shows claims [] 0 index
+shows_none claims index none = record {
+  lives = lives;
+  count = sym (ap length none);
+  bounded = λ k o found. absurd (let never : None ≡ Some o = ap (λ (l : List Operation). slice_get l k) (sym none) ∙ found in cc);
+}
   where
-    none : (n : ℕ) → life_of [] n ≡ life_at claims (first_index bricks) 0 n
-    none zero = refl
-    none (suc k) = refl
+    lives : (n : ℕ) → life_of [] n ≡ life_at claims index 0 n
+    lives zero = refl
+    lives (suc k) = ap (λ (l : List Operation). option_map (life_in claims index.crashes 0) (slice_get l k)) (sym none)

@@ -2,3 +2,14 @@ pub mod Lists
 pub mod Indexes
 pub mod Steps
 pub mod Taking
+pub mod WalkLemmas
+pub mod StripeLives
+pub mod LastLemmas
+pub mod ReviewLemmas
+pub mod LastMaps
+pub mod Fitting
+pub mod Marking
+pub mod LineGoing
+pub mod Missing
+pub mod Verdicts
+pub mod Bad

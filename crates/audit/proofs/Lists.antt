@@ -1,5 +1,5 @@
 -- An element of a list by its place, where the list grows or changes.
-use Rattle.std.proofs.Common.{◌≡◌, ◌≢◌, ℕ, zero, suc, ◌+◌, ◌<◌, ◌≤◌, List, [], ◌∷◌, ◌++◌, length, take, ◌⊎◌, inl, inr, Option, Some, None, refl, sym, ap, ◌∙◌, arith}
+use Rattle.std.proofs.Common.{◌≡◌, ◌≢◌, ℕ, zero, suc, ◌+◌, ◌<◌, ◌≤◌, List, [], ◌∷◌, ◌++◌, length, take, ◌⊎◌, inl, inr, Some, None, refl, ap, arith}
 use Rattle.std.specs.Prelude.{slice_get, slice_set}
 
 -- an element of what stood there before
@@ -74,3 +74,9 @@ push_cases (z ∷ xs) y x (suc k) is =
         → ((slice_get xs k ≡ Some x) × (z ∷ take k (xs ++ y ∷ []) ≡ z ∷ take k xs)) ⊎ ((y ≡ x) × (z ∷ take k (xs ++ y ∷ []) ≡ z ∷ xs) × (suc k ≡ length (z ∷ xs)))
     onto z (inl h) = inl (h.0, ap (λ l. z ∷ l) h.1)
     onto z (inr h) = inr (h.0, ap (λ l. z ∷ l) h.1, ap suc h.2)
+
+-- nothing is put in behind the last
+pub set_past : {A : Type 0} (xs : List A) (k : ℕ) (y : A) → length xs ≤ k → slice_set xs k y ≡ xs
+set_past [] k y le = refl
+set_past (x ∷ xs) zero y le = absurd (omega arith)
+set_past (x ∷ xs) (suc k) y le = ap (λ l. x ∷ l) (set_past xs k y (omega arith))

@@ -1,14 +1,13 @@
 -- The marks hold where each follows those before it.
-use Rattle.std.proofs.Common.{◌≡◌, ◌≢◌, ℕ, zero, suc, ◌+◌, ◌<◌, ◌≤◌, List, [], ◌∷◌, ◌++◌, length, map, get_or, take, ◌⊎◌, inl, inr, ⊎_elim, Option, Some, None, refl, sym, ap, ◌∙◌, subst, arith}
+use Rattle.std.proofs.Common.{◌≡◌, ℕ, zero, suc, ◌+◌, ◌<◌, List, [], ◌∷◌, ◌++◌, length, map, get_or, take, ⊎_elim, Some, None, refl, sym, ap, ◌∙◌, subst, arith}
 use Rattle.std.specs.Bool.{⊤}
 use Rattle.std.specs.Prelude.{slice_get}
-use Rattle.std.specs.Option.{option_map}
 use Rattle.std.specs.List.Sorted.{IsStrictlyIncreasing}
 use Rattle.fab_base.specs.declared.answers.Answer.{Answer}
 use Rattle.fab_base.specs.Layouts.{Layout}
 use Rattle.reg_model.specs.declared.marks.Mark.{Mark}
 use Rattle.reg_model.specs.declared.marks.Mark.TheVariants.{Begin, End, Crash}
-use Rattle.reg_model.specs.Marks.{life_of, position_of, begun_numbers, IsOpen, IsWellFormed}
+use Rattle.reg_model.specs.Marks.{life_of, position_of, begun_numbers, IsOpen}
 use Rattle.audit.specs.Checks.{BeginFits, AnswerFits, MarksHold}
 use Rattle.audit.proofs.Lists.{same_some, push_cases}
 use Rattle.audit.proofs.Indexes.{begun_push}
@@ -117,11 +116,13 @@ marks_hold_more layout marks mark hold place follows = record {
   where
     all : List Mark
     all = marks ++ mark ∷ []
+
     placed : (i : ℕ) (x : Mark) → slice_get all i ≡ Some x → position_of x ≡ i
     placed i x is = ⊎_elim
         (λ (old : (slice_get marks i ≡ Some x) × (take i all ≡ take i marks)). hold.placed i x old.0)
         (λ (here : (mark ≡ x) × (take i all ≡ marks) × (i ≡ length marks)). sym (ap position_of here.0) ∙ place ∙ sym here.2)
         (push_cases marks mark x i is)
+
     ends : (p n : ℕ) (answer : Answer) → mark ≡ End p n answer → IsOpen (life_of marks n) × AnswerFits (life_of marks n) answer
     ends p n answer is = subst (λ (m : Mark). Follows layout marks m) is follows
 

@@ -1,5 +1,5 @@
 -- A mark is taken where it follows those before it, and what is kept shows it then.
-use Rattle.std.proofs.Common.{◌≡◌, ◌≢◌, ℕ, zero, suc, ◌+◌, ◌-◌, ◌*◌, ◌<◌, ◌≤◌, Bool, true, false, cond, not, nat_eq, nat_lt, ◌&&◌, List, [], ◌∷◌, ◌++◌, length, Option, Some, None, refl, sym, ap, ◌∙◌, subst, arith}
+use Rattle.std.proofs.Common.{◌≡◌, ℕ, zero, suc, ◌+◌, ◌-◌, ◌*◌, ◌<◌, Bool, true, false, cond, nat_eq, nat_lt, ◌&&◌, List, [], ◌∷◌, ◌++◌, length, Option, Some, None, refl, sym, ap, ◌∙◌, subst, arith}
 use Rattle.std.specs.Prelude.{slice_get, slice_set}
 use Rattle.std.specs.Option.{option_map}
 use Rattle.std.proofs.lemmas.Bool.{and_parts, eqb-true, eq-eqb}
@@ -8,7 +8,7 @@ use Rattle.lines.specs.declared.forms.Access.{Access}
 use Rattle.lines.specs.declared.forms.Access.TheVariants.{ReadBlock, WriteBlock, ReadStripe, WriteStripe}
 use Rattle.fab_base.specs.Layouts.{Layout, Group, group_of}
 use Rattle.reg_model.specs.declared.marks.Mark.{Mark}
-use Rattle.reg_model.specs.Marks.{Ending, Life, life_of, position_of, begun_numbers, IsUnended, IsOpen}
+use Rattle.reg_model.specs.Marks.{Life, life_of, position_of, IsUnended, IsOpen}
 use Rattle.reg_model.specs.Strict.{OpFits}
 use Rattle.transcript.specs.declared.claims.Claim.{Claim}
 use Rattle.transcript.specs.declared.claims.Claim.TheVariants.{Begin, End, Crash}
@@ -16,8 +16,8 @@ use Rattle.transcript.specs.declared.claims.Outcome.{Outcome}
 use Rattle.transcript.specs.declared.claims.Outcome.TheVariants.{Data, Done, Aborted}
 use Rattle.transcript.specs.Marks.{mark_of, answer_of, op_of}
 use Rattle.audit.specs.declared.operations.Operation.{Operation}
-use Rattle.audit.specs.Checks.{GroupFits, BeginFits, WordFits, AnswerFits}
-use Rattle.audit.specs.Operations.{Index, access_at, access_fits, group_fits, begin_fits, is_write, word_fits, ending_with, crashes_of, crash_after, life_in, is_nowhere, is_open, ended, begun, may_end, change_at, crashed_at, begins_next, ends_at, crashes_at, after_claim, life_at, Shows}
+use Rattle.audit.specs.Checks.{GroupFits, WordFits, AnswerFits}
+use Rattle.audit.specs.Operations.{Index, access_at, access_fits, group_fits, begin_fits, word_fits, ending_with, crashes_of, crash_after, life_in, is_nowhere, is_open, ended, begun, may_end, change_at, crashed_at, begins_next, ends_at, crashes_at, after_claim, Shows}
 use Rattle.audit.proofs.Lists.{length_set}
 use Rattle.audit.proofs.Indexes.{shows_begin, shows_end, shows_crash}
 use Rattle.audit.proofs.Steps.{Follows}
@@ -139,9 +139,9 @@ takes_begin layout claims marks i index later q n b g s access shows bricks at p
     let next : suc (length index.found) ≡ n = omega arith in
     let new : Index = record { found = index.found ++ begun i b g s (crashes_of index.crashes b) ∷ []; crashes = index.crashes } in
     let P : ℕ → ℕ → Type 0 = λ p m. slice_get claims i ≡ Some (Begin p m b g s access)
-        → Shows claims (marks ++ mark_of (Begin p m b g s access) ∷ []) (i + 1) new in
+    → Shows claims (marks ++ mark_of (Begin p m b g s access) ∷ []) (i + 1) new in
     let shown : P q n = subst (λ (p : ℕ). P p n) (sym place) (subst (λ (m : ℕ). P i m) next
-        (λ here. shows_begin claims marks i index b g s access shows here (omega arith))) in
+    (λ here. shows_begin claims marks i index b g s access shows here (omega arith))) in
     record {
       place = place;
       follows = (number ∙ ap (λ (k : ℕ). k + 1) (sym shows.count), (below, group_fits_is (group_of layout g) layout.block s access parts.1));
@@ -163,7 +163,7 @@ takes_end layout claims marks i index later q k outcome mine shows bricks at pla
     shows.lives (suc k) ∙ ap (option_map (life_in claims index.crashes i)) found in
     let new : Index = record { found = slice_set index.found k (ended i mine); crashes = index.crashes } in
     let P : ℕ → Type 0 = λ p. slice_get claims i ≡ Some (End p (suc k) outcome)
-        → Shows claims (marks ++ mark_of (End p (suc k) outcome) ∷ []) (i + 1) new in
+    → Shows claims (marks ++ mark_of (End p (suc k) outcome) ∷ []) (i + 1) new in
     let shown : P q = subst P (sym place) (λ here. shows_end claims marks i index k mine outcome shows here found no_end no_crash) in
     record {
       place = place;
@@ -205,8 +205,7 @@ takes layout claims marks i index later (Begin q n b g s access) shows bricks at
     same e = cc
 takes layout claims marks i index later (End q zero outcome) shows bricks at is =
     let first = cond_some _ _ later is in
-    let second = cond_some _ _ later first.1 in
-    absurd (let never : false ≡ true = second.0 in cc)
+    absurd (let never : None ≡ Some later = first.1 in cc)
 takes layout claims marks i index later (End q (suc k) outcome) shows bricks at is =
     let first = cond_some _ _ later is in
     let second = cond_some _ _ later first.1 in

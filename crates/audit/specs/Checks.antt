@@ -1,6 +1,5 @@
 -- Which marks, happenings and counts hold under a layout.
-use Rattle.std.specs.Prelude.{◌≡◌, ℕ, ◌+◌, ◌<◌, nat_eq, nat_lt, ◌&&◌, ◌||◌, ◌⊎◌, true, if◌then◌else◌, List, [], ◌∷◌, take, slice_get, count_by, ⊤, Option, Some, None}
-use Rattle.fab_base.specs.declared.asks.Ask.{Ask}
+use Rattle.std.specs.Prelude.{◌≡◌, ℕ, ◌+◌, ◌<◌, nat_eq, ◌&&◌, ◌⊎◌, Bool, true, false, if◌then◌else◌, List, [], ◌∷◌, take, slice_get, count_by, ⊤, Option, Some, None}
 use Rattle.fab_base.specs.declared.asks.Op.{Op}
 use Rattle.fab_base.specs.declared.asks.Op.TheVariants.{ReadBlock, WriteBlock, ReadStripe, WriteStripe}
 use Rattle.fab_base.specs.declared.answers.Answer.{Answer}
@@ -14,8 +13,6 @@ use Rattle.reg_model.specs.Strict.{IsStrict, OpFits}
 use Rattle.transcript.specs.declared.claims.Counts.{Counts}
 use Rattle.transcript.specs.declared.claims.StripeLine.{StripeLine}
 use Rattle.transcript.specs.Kinds.{is_begin, is_answered, is_aborted, is_crash}
-use Rattle.transcript.specs.Marks.{marks_of}
-use Rattle.transcript.specs.Said.{Transcribed}
 use Rattle.audit.specs.declared.findings.Finding.{Finding}
 use Rattle.audit.specs.declared.findings.Finding.TheVariants.{Sound, BadMarks, BadStripe, BadCount}
 
@@ -109,3 +106,8 @@ Finds layout marks lines counts Sound = MarksHold layout marks × StripesHold la
 Finds layout marks lines counts BadMarks = MarksHold layout marks → ⊥
 Finds layout marks lines counts (BadStripe g s) = MarksHold layout marks × IsFirstBad layout marks lines g s
 Finds layout marks lines counts BadCount = MarksHold layout marks × StripesHold layout marks lines × (CountsHold counts marks → ⊥)
+
+-- whether the counts hold was answered
+abbrev pub CountsAnswer : Counts → List Mark → Bool → Type 0
+CountsAnswer counts marks true = CountsHold counts marks
+CountsAnswer counts marks false = CountsHold counts marks → ⊥

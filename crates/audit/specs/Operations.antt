@@ -1,5 +1,5 @@
 -- What is kept of the operations that begin in the marks of a text, and what it says of their lives.
-use Rattle.std.specs.Prelude.{◌≡◌, ◌<◌, ◌≤◌, ℕ, zero, suc, ◌+◌, ◌-◌, ◌*◌, nat_eq, nat_lt, not, ◌&&◌, Bool, true, false, if◌then◌else◌, List, [], ◌∷◌, ◌++◌, length, slice_get, slice_index_or, slice_set, replicate, Option, Some, None, option_map}
+use Rattle.std.specs.Prelude.{◌≡◌, ◌<◌, ◌≤◌, ℕ, zero, suc, ◌+◌, ◌-◌, ◌*◌, nat_eq, nat_lt, not, ◌&&◌, Bool, true, false, if◌then◌else◌, List, [], ◌∷◌, ◌++◌, length, slice_get, slice_index_or, slice_set, Option, Some, None, option_map}
 use Rattle.lines.specs.declared.forms.Access.{Access}
 use Rattle.lines.specs.declared.forms.Access.TheVariants.{ReadBlock, WriteBlock, ReadStripe, WriteStripe}
 use Rattle.fab_base.specs.Layouts.{Layout, Group, group_of}
@@ -153,8 +153,8 @@ after_claim layout claims index p (End q n outcome) = if nat_eq q p then ends_at
 after_claim layout claims index p (Crash q b) = if nat_eq q p then crashes_at index b p else None
 
 -- before any mark, of so many bricks
-abbrev pub first_index : ℕ → Index
-first_index bricks = record { found = []; crashes = replicate bricks [] }
+abbrev pub IsFirst : Index → ℕ → Type 0
+IsFirst index bricks = (index.found ≡ []) × (length index.crashes ≡ bricks)
 
 -- the life of operation n, by what is kept once so many marks have come
 abbrev pub life_at : List Claim → Index → ℕ → ℕ → Option Life

@@ -2,9 +2,10 @@
 use Rattle.std.specs.Prelude.{◌≡◌, ℕ, zero, suc, ◌-◌, ◌≤◌, nat_eq, ◌&&◌, Bool, true, false, if◌then◌else◌, List, [], ◌∷◌, slice_get, slice_set, slice_index_or, ⊤, Option, Some, None, option_map}
 use Rattle.reg_model.specs.declared.marks.Happening.{Happening}
 use Rattle.reg_model.specs.Marks.{Life}
-use Rattle.reg_model.specs.Strict.{IsInTime, ReadsRight, after_life}
+use Rattle.reg_model.specs.Strict.{IsInTime, ReadsRight, after_life, OpFits}
 use Rattle.transcript.specs.declared.claims.Claim.{Claim}
 use Rattle.audit.specs.declared.operations.Operation.{Operation}
+use Rattle.audit.specs.declared.walks.Stripe.{Stripe}
 use Rattle.audit.specs.Operations.{Index, life_in}
 
 -- an operation that was found, where it is of this stripe
@@ -54,6 +55,11 @@ walked_along block lives walk (h ∷ happenings) = walked_along block lives (wal
 -- before any happening of a stripe
 abbrev pub walk_from : List Bool → List ℕ → Walk
 walk_from happened registers = record { last = 0; happened = happened; registers = registers }
+
+-- what a life asks fits a stripe of m data blocks
+abbrev pub LifeFits : ℕ → ℕ → Option Life → Type 0
+LifeFits m block None = ⊤
+LifeFits m block (Some life) = OpFits m block life.ask.op
 
 -- the lives of the operations of a stripe that is looked at
 abbrev pub lives_of : Stripe → ℕ → Option Life

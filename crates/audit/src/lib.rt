@@ -6,7 +6,15 @@
 #![tactic(auto)]
 
 mod crashes;
+mod examining;
 mod findings;
+mod judging;
+mod lasts;
 mod operations;
+mod reviews;
+mod sweeps;
+mod walks;
 
+pub use examining::{Verdict, examine};
 pub use findings::Finding;
+pub use judging::judge;

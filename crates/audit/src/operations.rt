@@ -142,14 +142,15 @@ fn word_fits(access: Option<&Access>, outcome: &Outcome) -> bool
 }
 
 impl Operations {
-    ghost use Rattle.audit.specs.Operations.{crashes_of, crash_after, is_open, may_end, after_claim, begins_next, ends_at, crashes_at, first_index};
+    ghost use Rattle.audit.specs.Operations.{crashes_of, crash_after, is_open, may_end, after_claim, begins_next, ends_at, crashes_at, IsFirst};
 
     /// Before any mark, over a layout.
     pub(crate) fn new(alloc: Global, layout: &Layout) -> Result<Operations, NoMem>
-        ensures { IfOk result (λ made. made ≡ first_index layout.now.bricks) }
+        ensures { IfOk result (λ made. IsFirst made layout.now.bricks) }
     {
+        let bricks = usize::from(layout.bricks());
         let mut crashes = Vec::new(alloc);
-        for _ in 0..layout.bricks() {
+        while crashes.len() < bricks {
             crashes.push(CrashList::new(alloc))?;
         }
         Ok(Operations {
@@ -205,6 +206,7 @@ impl Operations {
     }
 
     /// Takes the mark at a place, and answers whether it is in its place. After another answer than `true`, what is kept says nothing.
+    #[tactic(auto, unfolding(crate::specs::Operations::after_claim))]
     pub(crate) fn take(
         &mut self,
         layout: &Layout,
@@ -223,7 +225,8 @@ impl Operations {
                 stripe,
                 access,
             } => {
-                if *position != place as u64 || !begin_fits(layout, *brick, *group, *stripe, access)
+                if *position != place as u64
+                    || !begin_fits(layout, *brick, *group, *stripe, access)
                 {
                     return Ok(false);
                 }
@@ -249,6 +252,7 @@ impl Operations {
     }
 
     /// An operation begins, and answers whether its number is the next.
+    #[tactic(auto, unfolding(crate::specs::Operations::begins_next))]
     fn begin(
         &mut self,
         place: usize,
@@ -275,6 +279,7 @@ impl Operations {
     }
 
     /// An operation ends, and answers whether it may.
+    #[tactic(auto, unfolding(crate::specs::Operations::ends_at))]
     fn end(&mut self, claims: &[Claim], place: usize, operation: u64, outcome: &Outcome) -> bool
         ensures { ends_at claims.now self.old place operation outcome.now ≡ (if result then Some self.new else None) }
     {
@@ -290,6 +295,7 @@ impl Operations {
     }
 
     /// A brick crashes.
+    #[tactic(auto, unfolding(crate::specs::Operations::crashes_at), using(crate::proofs::Lists::set_past))]
     fn crash(&mut self, brick: usize, position: u64) -> Result<bool, NoMem>
         ensures { IfOk result (λ taken. crashes_at self.old brick position ≡ (if taken then Some self.new else None)) }
     {

@@ -1,21 +1,21 @@
 //! A walk along the happenings of a stripe.
 
-ghost use Rattle.std.specs.Prelude.{◌≡◌, ◌*◌, ◌↔◌, IsTrue, MatchBool, OnTrue, Some, length, option_copied, option_map};
+ghost use Rattle.std.specs.Prelude.{◌≡◌, ℕ, ◌*◌, ◌≤◌, ◌↔◌, IsTrue, Some, length, option_copied, option_map};
 ghost use Rattle.reg_model.specs.Registers.{after_op, read_of};
-ghost use Rattle.reg_model.specs.Strict.{IsRead, IsInTime, ReadsRight, after_life};
+ghost use Rattle.reg_model.specs.Strict.{IsRead};
 ghost use Rattle.reg_model.specs.Fits.{FitsRegisters};
 ghost use Rattle.transcript.specs.Marks.{op_of};
-ghost use Rattle.audit.specs.Operations.{access_or, life_in};
-ghost use Rattle.audit.specs.Walks.{of_stripe, life_among, has_happened, GoesOn, walked, GoOn, walked_along, walk_from};
+ghost use Rattle.audit.specs.Operations.{access_or, access_at, crash_after, data_at, life_in, reach};
+ghost use Rattle.audit.specs.Walks.{LifeFits, life_among, lives_of, walk_from, TakesHappening, WalksAlong};
 
-use crate::operations::{Operation, Operations, access_at, access_fits, outcome_at};
+use crate::operations::{Operation, Operations, access_at, outcome_at};
 use lines::Access;
 use reg_model::Happening;
 use transcript::{Claim, Outcome};
 
 /// Whether these bytes are what a read gives: the data block, or all of them. A write gives nothing that could differ.
 fn reads(access: Option<&Access>, block: usize, registers: &[u8], bytes: &[u8]) -> bool
-    requires { FitsRegisters block registers.now (op_of (access_or (option_copied access.entry))) }
+    requires { FitsRegisters block registers.now (op_of (access_or (option_copied access))) }
     ensures { IsTrue result ↔ IsRead (read_of block (op_of (access_or (option_copied access.entry))) registers.now) (Some bytes.now) }
 {
     match access {
@@ -30,7 +30,7 @@ fn reads(access: Option<&Access>, block: usize, registers: &[u8], bytes: &[u8]) 
 
 /// Changes the registers as the operation does.
 fn apply(access: Option<&Access>, block: usize, registers: &mut [u8])
-    requires { FitsRegisters block registers.old (op_of (access_or (option_copied access.entry))) }
+    requires { FitsRegisters block registers.old (op_of (access_or (option_copied access))) }
     ensures { registers.new ≡ after_op block (op_of (access_or (option_copied access.entry))) registers.old }
 {
     match access {
@@ -107,7 +107,11 @@ impl Stripe<'_> {
         if operation == 0 {
             return None;
         }
-        let found = self.operations.as_slice().get(operation as usize - 1).copied()?;
+        let found = self
+            .operations
+            .as_slice()
+            .get(operation as usize - 1)
+            .copied()?;
         if found.group == self.group && found.stripe == self.stripe {
             Some(found)
         } else {

@@ -1,5 +1,5 @@
 -- What the next line of a text makes of what was said so far.
-use Rattle.std.proofs.Common.{◌≡◌, ℕ, ◌+◌, ◌<◌, ◌≤◌, Bool, true, false, nat_lt, List, [], ◌∷◌, ◌++◌, length, map, Option, Some, None, IfSome, refl, sym, ap, ◌∙◌, subst, arith}
+use Rattle.std.proofs.Common.{◌≡◌, ℕ, ◌+◌, ◌<◌, ◌≤◌, Bool, true, false, nat_lt, List, [], ◌∷◌, length, map, Option, Some, None, IfSome, refl, ap, ◌∙◌, subst, arith}
 use Rattle.std.specs.Io.KnownBytes.{IsAtEnd}
 use Rattle.std.proofs.lemmas.Bool.Decides.{nat_tests}
 use Rattle.lines.specs.Lines.{raw_lines, content}
@@ -11,7 +11,7 @@ use Rattle.transcript.specs.declared.claims.Entry.{Entry}
 use Rattle.transcript.specs.declared.readings.Text.{Text}
 use Rattle.transcript.specs.declared.readings.Text.TheVariants.{BadLine, TooManyLines}
 use Rattle.transcript.specs.Said.{Transcribed}
-use Rattle.transcript.specs.Forms.{entry_of, form, most_line_bytes}
+use Rattle.transcript.specs.Forms.{entry_of, most_line_bytes}
 use Rattle.transcript.specs.Transcripts.{after_line, nothing_said, text_behind, text_at_line, text_at_end, IsTextBehind, IsTextOf, EndsWhole, most_lines}
 
 within : (n : ℕ) → n < most_lines → nat_lt n most_lines ≡ true

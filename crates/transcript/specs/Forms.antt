@@ -6,17 +6,13 @@ use Rattle.lines.specs.Grammar.{◌>>=◌}
 use Rattle.lines.specs.declared.forms.Access.{Access}
 use Rattle.lines.specs.declared.forms.Access.TheVariants.{ReadBlock, WriteBlock, ReadStripe, WriteStripe}
 use Rattle.reg_model.specs.declared.marks.Happening.{Happening}
-use Rattle.transcript.specs.declared.claims.Claim.{Claim}
 use Rattle.transcript.specs.declared.claims.Claim.TheVariants.{Begin, End, Crash}
-use Rattle.transcript.specs.declared.claims.Counts.{Counts}
 use Rattle.transcript.specs.declared.claims.Outcome.{Outcome}
 use Rattle.transcript.specs.declared.claims.Outcome.TheVariants.{Data, Done, Aborted}
-use Rattle.transcript.specs.declared.claims.StripeLine.{StripeLine}
 use Rattle.transcript.specs.declared.claims.Entry.{Entry}
 use Rattle.transcript.specs.declared.claims.Entry.TheVariants.{Mark, Other, Happened, Counted}
 use Rattle.transcript.specs.Tokens.{behind, plain_number, lower_hex, number_before}
 use Rattle.transcript.specs.Words.{or_else, cause_of, is_word}
-
 
 -- an operation on a stripe begins
 abbrev pub begins : ℕ → ℕ → ℕ → ℕ → ℕ → Access → Option Entry

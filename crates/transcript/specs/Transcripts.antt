@@ -1,6 +1,6 @@
 -- What the lines of a text say together, and which texts are whole: marks and other words, then the happenings of stripes, then the
 -- counts.
-use Rattle.std.specs.Prelude.{◌≡◌, ⊤, map, ℕ, ◌+◌, ◌-◌, nat_eq, nat_lt, ◌&&◌, ◌||◌, Bool, true, false, if◌then◌else◌, List, [], ◌∷◌, ◌++◌, length, slice_get, Option, Some, None}
+use Rattle.std.specs.Prelude.{◌≡◌, ⊤, map, ℕ, ◌<◌, ◌+◌, ◌-◌, nat_eq, nat_lt, ◌&&◌, ◌||◌, Bool, true, false, if◌then◌else◌, List, [], ◌∷◌, ◌++◌, length, slice_get, Option, Some, None}
 use Rattle.std.specs.Option.{is_none}
 use Rattle.std.specs.Io.KnownBytes.{IsAtEnd}
 use Rattle.lines.specs.Lines.{raw_lines, content}
@@ -63,7 +63,7 @@ most_lines = 4194304
 -- a text that ends after n lines: the counts are its last line
 abbrev pub text_at_end : ℕ → Transcribed → Option Counts → Text
 text_at_end n t None = BadLine (n + 1)
-text_at_end n t (Some counts) = Whole t
+text_at_end n t (Some counts) = Whole t counts
 
 -- a line that is numbered n + 1: too many, or not in its place, or one that leads on
 abbrev pub text_at_line : ℕ → Bool → Option Transcribed → (Transcribed → Text) → Text
@@ -94,6 +94,16 @@ IsTextOf (Some bytes) text = text_of (map content (raw_lines bytes)) ≡ text
 
 -- a whole text was read to the end
 abbrev pub EndsWhole : Text → Option (List ℕ) → Type 0
-EndsWhole (Whole said) left = IsAtEnd left
+EndsWhole (Whole said counts) left = IsAtEnd left
 EndsWhole (BadLine line) left = ⊤
 EndsWhole TooManyLines left = ⊤
+
+-- each stripe is before those behind it
+abbrev pub StripesRise : List StripeLine → Type 0
+StripesRise stripes = (i j : ℕ) (a b : StripeLine) → i < j → slice_get stripes i ≡ Some a → slice_get stripes j ≡ Some b → stripe_before a b ≡ true
+
+-- what a whole text says of stripes rises
+abbrev pub RisesWhole : Text → Type 0
+RisesWhole (Whole said counts) = StripesRise said.stripes
+RisesWhole (BadLine line) = ⊤
+RisesWhole TooManyLines = ⊤

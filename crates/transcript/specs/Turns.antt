@@ -1,5 +1,5 @@
 -- What the next line of a text makes of what was said so far.
-use Rattle.std.specs.Prelude.{ℕ, ◌+◌, ◌<◌, List, Option}
+use Rattle.std.specs.Prelude.{ℕ, ◌+◌, ◌<◌, List, Option, ⊤}
 use Rattle.std.specs.Io.KnownBytes.{IsAtEnd}
 use Rattle.lines.specs.Reading.{Says}
 use Rattle.lines.specs.declared.reader.Piece.{Piece}
@@ -9,7 +9,7 @@ use Rattle.transcript.specs.declared.readings.Turn.{Turn}
 use Rattle.transcript.specs.declared.readings.Turn.TheVariants.{More, Last, Bad, Ended}
 use Rattle.transcript.specs.Said.{Transcribed}
 use Rattle.transcript.specs.Forms.{most_line_bytes}
-use Rattle.transcript.specs.Transcripts.{IsTextBehind, text_at_end, most_lines}
+use Rattle.transcript.specs.Transcripts.{IsTextBehind, StripesRise, text_at_end, most_lines}
 
 -- the text goes on behind a line; or it ends behind it; or the line is bad; or there is none
 abbrev pub TurnLeaves : Transcribed → Transcribed → ℕ → Option (List ℕ) → Option (List ℕ) → Turn → Type 0
@@ -22,3 +22,10 @@ TurnLeaves old new n left rest Ended = IsTextBehind n old left (text_at_end n ne
 abbrev pub TurnMeans : Transcribed → Transcribed → Piece → Turn → Type 0
 TurnMeans old new piece turn =
     (n : ℕ) (left rest : Option (List ℕ)) → n < most_lines → Says most_line_bytes left rest piece → TurnLeaves old new n left rest turn
+
+-- the stripes that were said rise, once a line has come that leads on or where none is left
+abbrev pub TurnRises : Transcribed → Turn → Type 0
+TurnRises said More = StripesRise said.stripes
+TurnRises said Last = StripesRise said.stripes
+TurnRises said Bad = ⊤
+TurnRises said Ended = StripesRise said.stripes

@@ -5,9 +5,10 @@ ghost use Rattle.std.specs.Io.KnownBytes.{prepend_known};
 ghost use Rattle.fab_io.specs.Ends.{Kept};
 ghost use Rattle.lines.specs.Lines.{content};
 ghost use Rattle.transcript.specs.Forms.{entry_of};
-ghost use Rattle.transcript.specs.Transcripts.{after_line, text_at_end, IsTextOf, EndsWhole};
-ghost use Rattle.transcript.specs.Turns.{TurnMeans};
+ghost use Rattle.transcript.specs.Transcripts.{after_line, text_at_end, IsTextOf, EndsWhole, StripesRise, RisesWhole};
+ghost use Rattle.transcript.specs.Turns.{TurnMeans, TurnRises};
 
+use crate::claims::Counts;
 use crate::forms::{LINE_LIMIT, parse};
 use crate::transcripts::Transcript;
 use fab_base::NoMem;
@@ -22,7 +23,7 @@ pub const MOST_LINES: u64 = 4_194_304;
 #[derive(Drop)]
 pub enum Text {
     /// It is whole: its lines have the forms and stand in their places, and the counts are the last.
-    Whole(Transcript),
+    Whole(Transcript, Counts),
     /// This line, counted from 1, is the first that has none of the forms, or is too long, or is not in its place. The end without the
     /// counts counts as the next line.
     BadLine(u64),
@@ -55,7 +56,8 @@ fn take_line(alloc: Global, said: &mut Transcript, line: &[u8]) -> Result<bool, 
 
 /// Takes what comes next.
 fn take_turn(alloc: Global, said: &mut Transcript, piece: &Piece) -> Result<Turn, NoMem>
-    ensures { IfOk result (λ turn. TurnMeans said.old said.new piece.now turn) }
+    ensures turn { IfOk result (λ turn. TurnMeans said.old said.new piece.now turn) }
+    ensures rises { IfOk result (λ turn. StripesRise said.old.stripes → TurnRises said.new turn) }
 {
     match piece {
         Piece::Whole(line) => {
@@ -80,6 +82,7 @@ fn take_turn(alloc: Global, said: &mut Transcript, piece: &Piece) -> Result<Turn
 /// The same, as a fault of a source has it.
 fn take_next(alloc: Global, said: &mut Transcript, piece: &Piece) -> Result<Turn, IoFault>
     ensures turn { IfOk result (λ turn. TurnMeans said.old said.new piece.now turn) }
+    ensures rises { IfOk result (λ turn. StripesRise said.old.stripes → TurnRises said.new turn) }
     ensures cause { result ≢ Err IoFault.Failed }
 {
     match take_turn(alloc, said, piece) {
@@ -93,21 +96,17 @@ fn finish(said: Transcript, lines: u64) -> Text
     requires { lines ≤ MOST_LINES }
     ensures { result ≡ text_at_end lines said said.counts }
 {
-    if said.counts().is_some() {
-        Text::Whole(said)
-    } else {
-        Text::BadLine(lines + 1)
+    match said.counts() {
+        Some(counts) => Text::Whole(said, counts),
+        None => Text::BadLine(lines + 1),
     }
 }
 
 /// Reads the text that is left of a source, as far as it takes to know what it is.
 ///
 /// `Failed` comes only where the source failed, and `NoMemory` where there was no memory.
-pub fn read<S: Source>(
-    alloc: Global,
-    source: &mut S,
-    unread: &mut Unread,
-) -> Result<Text, IoFault>
+pub fn read<S: Source>(alloc: Global, source: &mut S, unread: &mut Unread) -> Result<Text, IoFault>
+    ensures rises { IfOk result RisesWhole }
     ensures text { IfOk result (λ text. IsTextOf (prepend_known unread.old (S.told source.old)) text) }
     ensures end { IfOk result (λ text. EndsWhole text (prepend_known unread.new (S.told source.new))) }
     ensures kept { Kept (S.faults source.old) (S.faults source.new) (S.sound source.old) (S.sound source.new)

@@ -1,5 +1,5 @@
 -- Each token adds its happening.
-use Rattle.std.proofs.Common.{◌≡◌, ◌+◌, ℕ, List, drop, Some, ap, sym, subst, ◌∙◌, arith}
+use Rattle.std.proofs.Common.{◌≡◌, ◌+◌, List, drop, Some, ap, sym, subst, ◌∙◌, arith}
 use Rattle.reg_model.specs.declared.marks.Happening.{Happening}
 use Rattle.transcript.specs.Forms.{happenings_of_tokens}
 use Rattle.transcript.proofs.Happenings.{tokens_in, onto, spelled_none_yet, spelled_none, spelled_more, spelled_all}

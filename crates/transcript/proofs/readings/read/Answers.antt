@@ -1,10 +1,10 @@
 -- What is left of the text tells what all of it is.
-use Rattle.std.proofs.Common.{◌≡◌, ℕ, sym, subst, arith}
+use Rattle.std.proofs.Common.{◌≡◌, sym, subst, arith}
 use Rattle.std.specs.Io.KnownBytes.{prepend_known}
-use Rattle.fab_io.proofs.Keeping.{Kept-refl, Kept-trans, Kept-calm}
+use Rattle.fab_io.proofs.Keeping.{Kept-trans, Kept-calm}
 use Rattle.transcript.specs.declared.readings.Text.{Text}
 use Rattle.transcript.specs.Transcripts.{IsTextOf, EndsWhole, most_lines}
-use Rattle.transcript.proofs.Turns.{ends_whole, none_left_at, many_come, from_start}
+use Rattle.transcript.proofs.Turns.{ends_whole, none_left_at, many_come}
 use Rattle.transcript.proofs.readings.read.Goals as goal
 
 pub returns-in-Last-clause-text : goal.returns-in-Last-clause-text
@@ -45,6 +45,7 @@ loop-count-preserved g c =
     let turn = rw c.in-More.is at c.in_ok-take_next.ensures.turn in
     record {
       leads = λ text behind. c.loop-count.invariant.leads text (turn c.loop-count.count _ _ c.loop-count-test.true c.in_ok-piece.ensures.says text behind);
+      rise = rw c.in-More.is at c.in_ok-take_next.ensures.rises c.loop-count.invariant.rise;
       source = Kept-trans c.loop-count.invariant.source (Kept-calm c.next_line.ensures.kept);
     }
 

@@ -2,12 +2,13 @@
 use Rattle.std.specs.Io.KnownBytes.{prepend_known}
 use Rattle.fab_io.specs.Ends.{Kept}
 use Rattle.transcript.specs.declared.readings.Text.{Text}
-use Rattle.transcript.specs.Transcripts.{IsTextBehind, IsTextOf}
+use Rattle.transcript.specs.Transcripts.{IsTextBehind, IsTextOf, StripesRise}
 use Rattle.transcript.proofs.readings.read.Given as goal
 
 abbrev pub invariant-loop-count : goal.invariant-loop-count
 invariant-loop-count g l = record {
   leads : (text : Text) → IsTextBehind l.count l.said (prepend_known l.unread (g.S.Source.told l.source)) text
       → IsTextOf (prepend_known l.initial.unread (g.S.Source.told l.initial.source)) text;
+  rise : StripesRise l.said.stripes;
   source : Kept (g.S.Source.faults l.initial.source) (g.S.Source.faults l.source) (g.S.Source.sound l.initial.source) (g.S.Source.sound l.source) ⊥;
 }
