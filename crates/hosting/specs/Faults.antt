@@ -1,0 +1,29 @@
+-- Which faults a call on one thing has.
+use Rattle.hosting.specs.declared.faults.HostFault.{HostFault}
+use Rattle.hosting.specs.declared.faults.HostFault.TheVariants.{Disk, Link, ClientLink, Clock, Source, Sink, NoMemory}
+
+-- the client's link failed, or no memory was left
+abbrev pub AtClientLink : HostFault → Type 0
+AtClientLink ClientLink = Unit {0}
+AtClientLink NoMemory = Unit {0}
+AtClientLink other = ⊥
+
+-- the source failed, or no memory was left
+abbrev pub AtSource : HostFault → Type 0
+AtSource Source = Unit {0}
+AtSource NoMemory = Unit {0}
+AtSource other = ⊥
+
+-- the sink failed, or no memory was left
+abbrev pub AtSink : HostFault → Type 0
+AtSink Sink = Unit {0}
+AtSink NoMemory = Unit {0}
+AtSink other = ⊥
+
+-- a disk, a link of a brick or the clock failed, or no memory was left
+abbrev pub AtBricks : HostFault → Type 0
+AtBricks Disk = Unit {0}
+AtBricks Link = Unit {0}
+AtBricks Clock = Unit {0}
+AtBricks NoMemory = Unit {0}
+AtBricks other = ⊥
