@@ -1,5 +1,5 @@
 -- Rounds of a command, one after another.
-use Rattle.std.proofs.Common.{◌≡◌, ℕ, ◌+◌, ◌≤◌, List, [], ◌∷◌, ◌++◌, length, map, Option, Some, None, Result, Ok, Err, refl, sym, ap, subst, ◌∙◌, append_assoc, append-nil, arith}
+use Rattle.std.proofs.Common.{◌≡◌, ℕ, ◌+◌, ◌≤◌, List, [], ◌∷◌, ◌++◌, length, map, Option, Some, None, Result, Ok, Err, OnOk, refl, sym, ap, subst, ◌∙◌, append_assoc, append-nil, arith}
 use Rattle.std.proofs.lemmas.List.{length-append}
 use Rattle.fab_base.specs.declared.answers.Answer.{Answer}
 use Rattle.fab_base.specs.declared.answers.Refusal.{Refusal}
@@ -7,12 +7,14 @@ use Rattle.fab_base.specs.Layouts.{Layout}
 use Rattle.fab_io.specs.declared.links.Datagram.{Datagram}
 use Rattle.fab_io.specs.Datagrams.{Stays, Grows}
 use Rattle.fab_io.proofs.Told.{Stays-refl, Grows-none, Grows-trans}
-use Rattle.front.specs.Ranges.{Progress, next_of}
+use Rattle.front.specs.Ranges.{Progress, next_of, after_end}
 use Rattle.front.specs.declared.steps.RangeAnswer.{RangeAnswer}
 use Rattle.front.specs.declared.steps.RangeStep.TheVariants as step
 use Rattle.hosting.specs.declared.commands.Command.{Command}
 use Rattle.hosting.specs.Asks.{wanted_in, Hears}
-use Rattle.hosting.specs.Commanded.{Asking, opened, asking, asks_by, after_round, asks_after}
+use Rattle.hosting.specs.declared.clients.Standing.TheVariants.{Waits}
+use Rattle.hosting.specs.declared.replies.Wanted.{Wanted}
+use Rattle.hosting.specs.Commanded.{Asking, opened, asking, sent_by, asks_by, after_round, asks_after, Stands}
 use Rattle.hosting.specs.Looks.{Looked}
 use Rattle.hosting.specs.Rounds.{Heard, IsOpen, AreHeard, after_rounds, asks_in, came_in, Took, Told, HearsOnce, port_of, EndsAs, RunsCommand}
 use Rattle.hosting.proofs.Looking.{Looked-none, Looked-trans}
@@ -35,6 +37,52 @@ Grows-kept None b c more p q = tt
 Grows-kept (Some x) None c more p q = absurd p
 Grows-kept (Some x) (Some y) None more p q = absurd q
 Grows-kept (Some x) (Some y) (Some z) more p q = q ∙ ap (λ l. l ++ more) p
+
+-- ---- a round
+
+-- one in which the operation ended
+pub HearsOnce-end : {T E : Type 0} (r : Result T E) (port sent sent_after : ℕ) (range mid range_after : Progress) (wanted : Wanted) (link between after : Told)
+    (came : Option Datagram) (end : Result Answer Refusal) → Stands range (Waits wanted) → Looked link.waiting between.waiting (came ∷ [])
+    → Stays link.sent between.sent → Hears port sent wanted came (Some end) → mid ≡ after_end range end → range_after ≡ mid
+    → Stays between.waiting after.waiting → OnOk r (Grows between.sent after.sent (asks_by port sent (next_of mid)))
+    → OnOk r (sent_after ≡ sent_by sent (next_of mid))
+    → OnOk r ((heard : Heard) × HearsOnce port (record { sent = sent; range = range }) (record { sent = sent_after; range = range_after }) link after heard)
+HearsOnce-end (Ok x) port sent sent_after range mid range_after wanted link between after came end stands looked unsent hears ended same waiting asks count =
+    let number = count ∙ ap (λ (p : Progress). sent_by sent (next_of p)) ended in
+    let left = same ∙ ended in
+    (
+      record { came = came; end = Some end },
+      record {
+        waits = stands.0;
+        hears = subst (λ (w : Wanted). Hears port sent w came (Some end)) stands.1 hears;
+        looked = Looked-kept link.waiting between.waiting after.waiting (came ∷ []) looked waiting;
+        left = (λ i. record { sent = number i; range = left i });
+        asked = Grows-kept link.sent between.sent after.sent (asks_by port sent (next_of (after_end range end))) unsent
+            (subst (λ (p : Progress). Grows between.sent after.sent (asks_by port sent (next_of p))) ended asks);
+      },
+    )
+HearsOnce-end (Err e) port sent sent_after range mid range_after wanted link between after came end stands looked unsent hears ended same waiting asks count = tt
+
+-- one in which it did not
+pub HearsOnce-none : (port sent : ℕ) (range : Progress) (wanted : Wanted) (link after : Told) (came : Option Datagram) → Stands range (Waits wanted)
+    → Looked link.waiting after.waiting (came ∷ []) → Stays link.sent after.sent → Hears port sent wanted came None
+    → (heard : Heard) × HearsOnce port (record { sent = sent; range = range }) (record { sent = sent; range = range }) link after heard
+HearsOnce-none port sent range wanted link after came stands looked unsent hears =
+    (
+      record { came = came; end = None },
+      record {
+        waits = stands.0;
+        hears = subst (λ (w : Wanted). Hears port sent w came None) stands.1 hears;
+        looked = looked;
+        left = refl;
+        asked = Grows-none link.sent after.sent unsent;
+      },
+    )
+
+-- at the port that is the same
+pub HearsOnce-at : (port at : ℕ) (now then : Asking) (link after : Told) (heard : Heard) → HearsOnce port now then link after heard → port ≡ at
+    → HearsOnce at now then link after heard
+HearsOnce-at port at now then link after heard once same = subst (λ k. HearsOnce k now then link after heard) same once
 
 -- ---- one more round
 
@@ -80,6 +128,20 @@ pub record IsRunning {A : Type 0} (takes : A → A → Type 0) (layout : Layout)
       ++ asks_in (port_of layout command.brick) (asking sent (opened layout command)) rounds)
   pub left : now ≡ after_rounds (asking sent (opened layout command)) rounds
   pub took : Took takes rounds bricks bricks_now
+
+-- the client asks for its first operation
+pub asking_is : (sent sent_after : ℕ) (range after first : Progress) → sent_after ≡ sent_by sent (next_of range) → after ≡ range → range ≡ first
+    → (let now : Asking = record { sent = sent_after; range = after } in now) ≡ asking sent first
+asking_is sent sent_after range after first count same is =
+    let number = count ∙ ap (λ (p : Progress). sent_by sent (next_of p)) is in
+    let left = same ∙ is in
+    (λ i. record { sent = number i; range = left i })
+
+pub asks_are : (a b : Option (List Datagram)) (port sent at : ℕ) (range first : Progress) → Grows a b (asks_by port sent (next_of range)) → port ≡ at → range ≡ first
+    → Grows a b (asks_by at sent (next_of first))
+asks_are a b port sent at range first grows same is =
+    subst (λ k. Grows a b (asks_by k sent (next_of first))) same
+    (subst (λ (p : Progress). Grows a b (asks_by port sent (next_of p))) is grows)
 
 -- it begins: its client asks for its first operation
 pub IsRunning-first : {A : Type 0} (takes : A → A → Type 0) (layout : Layout) (command : Command) (sent turns : ℕ) (now : Asking) (link link_now : Told) (bricks : A)

@@ -5,3 +5,4 @@ pub mod Names
 pub mod Wanting
 pub mod ReadingLines
 pub mod Hearing
+pub mod Running

@@ -27,3 +27,12 @@ AtBricks Link = Unit {0}
 AtBricks Clock = Unit {0}
 AtBricks NoMemory = Unit {0}
 AtBricks other = ⊥
+
+-- or the client's link did
+abbrev pub AtCommand : HostFault → Type 0
+AtCommand Disk = Unit {0}
+AtCommand Link = Unit {0}
+AtCommand ClientLink = Unit {0}
+AtCommand Clock = Unit {0}
+AtCommand NoMemory = Unit {0}
+AtCommand other = ⊥

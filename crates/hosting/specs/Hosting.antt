@@ -7,6 +7,7 @@ use Rattle.fab_io.specs.declared.links.Datagram.{Datagram}
 use Rattle.fab_io.specs.Datagrams.{Grows}
 use Rattle.fab_io.specs.Ends.{AppendsFront}
 use Rattle.front.specs.Ranges.{Progress, next_of}
+use Rattle.front.specs.declared.steps.RangeAnswer.{RangeAnswer}
 use Rattle.front.specs.declared.steps.RangeStep.{RangeStep}
 use Rattle.front.specs.declared.steps.RangeStep.TheVariants as step
 use Rattle.lines.specs.Lines.{is_line_feed, content}
@@ -18,7 +19,8 @@ use Rattle.hosting.specs.declared.commands.Line.TheVariants.{Nothing, Run}
 use Rattle.hosting.specs.Answers.{answer_text, unanswered_text, bad_line_text}
 use Rattle.hosting.specs.Commands.{line_of}
 use Rattle.hosting.specs.Commanded.{opened, asking, asks_by}
-use Rattle.hosting.specs.Rounds.{Heard, AreHeard, after_rounds, asks_in, port_of}
+use Rattle.hosting.specs.Looks.{Looked}
+use Rattle.hosting.specs.Rounds.{Heard, AreHeard, after_rounds, asks_in, came_in, Took, Told, port_of}
 use Rattle.hosting.specs.Reading.{AreTurnsOf, HasNoFeed, IsWhole}
 
 -- ---- lines
@@ -44,6 +46,8 @@ pub record Progression : Type 0 where
 abbrev pub beginning : ℕ → Progression
 beginning turns = record { left = turns; lines = 0; sent = 0; asks = []; text = []; over = false; waits = false }
 
+-- ---- what a line comes to
+
 -- what a line comes to: how many datagrams the client has sent then, those of this line, the line's text, and whether its command waits
 pub record Outcome : Type 0 where
   pub sent : ℕ
@@ -59,6 +63,15 @@ reads (Write bytes) = false
 abbrev pub text_of : Bool → RangeStep → List ℕ
 text_of reading (step.Ask ask) = unanswered_text
 text_of reading (step.End answer) = answer_text reading answer
+
+-- the same, by the answer, if there is one
+abbrev pub printed : Bool → Option RangeAnswer → List ℕ
+printed reading None = unanswered_text
+printed reading (Some answer) = answer_text reading answer
+
+abbrev pub is_none : Option RangeAnswer → Bool
+is_none None = true
+is_none (Some answer) = false
 
 abbrev pub is_waiting : RangeStep → Bool
 is_waiting (step.Ask ask) = true
@@ -126,3 +139,40 @@ bytes_of (played ∷ more) = played.line ++ bytes_of more
 abbrev pub rounds_of : List Played → List Heard
 rounds_of [] = []
 rounds_of (played ∷ more) = played.rounds ++ rounds_of more
+
+-- A line of this number was run, after so many datagrams: its command took rounds while turns were left, the client asked for what the line
+-- asks, its text was printed, and its command waits or not. It waits only where no turn is left.
+pub record RunsLine {A : Type 0} (takes : A → A → Type 0) (layout : Layout) (number sent sent_after turns turns_after : ℕ) (link link_after : Told)
+    (bricks bricks_after : A) (sink sink_after : Option (List ℕ)) (line : Option Line) (waits : Bool) : Type 0 where
+  pub rounds : List Heard
+  pub has : HasRounds layout sent rounds line
+  pub counted : turns ≡ turns_after + length rounds
+  pub sent_is : sent_after ≡ (outcome_of layout number sent rounds line).sent
+  pub asked : Grows link.sent link_after.sent (outcome_of layout number sent rounds line).asks
+  pub looked : Looked link.waiting link_after.waiting (came_in rounds)
+  pub took : Took takes rounds bricks bricks_after
+  pub printed : Appends sink sink_after (outcome_of layout number sent rounds line).text
+  pub waits_is : waits ≡ (outcome_of layout number sent rounds line).waits
+  pub used : waits ≡ true → turns_after ≡ 0
+
+-- The run is over: the source is at its end, or what was read of the next line used the turns up. A command waits only where no turn is left.
+pub record IsOver (run : Progression) (told_after : Option (List ℕ)) (rest : List ℕ) (rest_turns : ℕ) : Type 0 where
+  pub used : run.waits ≡ true → run.left ≡ 0
+  pub over : ((rest ≡ []) × IsAtEnd told_after) ⊎ (run.left ≡ rest_turns)
+
+-- The lines of a source were run, over bricks and the client's link, by so many turns: these lines, and what was read of one that the turns
+-- were not enough for. Each brick took a turn in each round, the client sent the datagrams that it asks by and looked at its link once a
+-- round, and the sink took the text.
+pub record Hosts {A : Type 0} (takes : A → A → Type 0) (layout : Layout) (turns : ℕ) (source source_after : Option (List ℕ)) (link link_after : Told)
+    (bricks bricks_after : A) (sink sink_after : Option (List ℕ)) : Type 0 where
+  pub played : List Played
+  pub rest : List ℕ
+  pub rest_turns : ℕ
+  pub are : ArePlayed layout (beginning turns) played
+  pub rest_is : HasNoFeed rest × AreTurnsOf (length rest) rest_turns
+  pub consumed : Consumes source source_after (bytes_of played ++ rest)
+  pub over : IsOver (after_lines layout (beginning turns) played) source_after rest rest_turns
+  pub looked : Looked link.waiting link_after.waiting (came_in (rounds_of played))
+  pub asked : Grows link.sent link_after.sent (after_lines layout (beginning turns) played).asks
+  pub took : Took takes (rounds_of played) bricks bricks_after
+  pub printed : Appends sink sink_after (after_lines layout (beginning turns) played).text

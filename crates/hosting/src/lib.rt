@@ -5,6 +5,7 @@ mod answers;
 mod clients;
 mod commands;
 mod faults;
+mod hosts;
 mod reading;
 mod replies;
 mod rounds;
@@ -12,4 +13,5 @@ mod tokens;
 
 pub use commands::{Access, Command, Line, parse};
 pub use faults::HostFault;
+pub use hosts::host;
 pub use rounds::Bricks;

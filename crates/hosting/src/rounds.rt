@@ -6,7 +6,7 @@ ghost use Rattle.fab_io.specs.Datagrams.{Stays};
 ghost use Rattle.fab_io.specs.Ends.{Kept};
 ghost use Rattle.hosting.specs.declared.clients.Standing.TheVariants.{Waits};
 ghost use Rattle.hosting.specs.Commanded.{opened, asking, IsRangeOf, Stands};
-ghost use Rattle.hosting.specs.Faults.{AtClientLink};
+ghost use Rattle.hosting.specs.Faults.{AtClientLink, AtCommand};
 ghost use Rattle.hosting.specs.Looks.{Looked};
 ghost use Rattle.hosting.specs.Rounds.{Heard, HearsOnce, Took, told, port_of, RunsCommand};
 
@@ -105,6 +105,7 @@ pub(crate) fn run_command<B: Bricks, L: Link>(
     ensures runs { IfOk result (λ answer. (rounds : List Heard) × RunsCommand layout.now command.now sent.old sent.new turns.old turns.new
         (told (L.waiting link.old) (L.sent link.old)) (told (L.waiting link.new) (L.sent link.new)) rounds answer × Took B.takes rounds bricks.old bricks.new) }
     ensures few { OnOk result (sent.new + turns.new ≤ sent.old + turns.old + 1) }
+    ensures only { IfErr result AtCommand }
     ensures kept { Kept (L.faults link.old) (L.faults link.new) (L.sound link.old) (L.sound link.new) (result ≡ Err HostFault.ClientLink) }
 {
     let _ = layout.bricks();
