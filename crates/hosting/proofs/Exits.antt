@@ -4,7 +4,7 @@ use Rattle.fab_io.specs.Ends.{Kept}
 use Rattle.fab_io.proofs.Keeping.{Kept-refl, Kept-narrower}
 use Rattle.hosting.specs.declared.faults.HostFault.{HostFault}
 use Rattle.hosting.specs.declared.faults.HostFault.TheVariants.{Disk, Link, ClientLink, Clock, Source, Sink, NoMemory}
-use Rattle.hosting.specs.Faults.{AtClientLink, AtBricks, AtCommand, AtSource, AtSink}
+use Rattle.hosting.specs.Faults.{AtClientLink, AtBricks, AtCommand, AtSource, AtSink, AtLine}
 
 -- what holds at each error holds at an exit with one
 pub at_err : {T E : Type 0} (r : Result T E) (P : Result T E → Type 0) → ((e : E) → P (Err e)) → IsErr r → P r
@@ -61,3 +61,23 @@ source-not_sink fault at e = absurd at
 pub sink_call : {T : Type 0} (r : Result T HostFault) → IfErr r AtSink → r ≡ Err ClientLink → ⊥
 sink_call (Ok x) only e = cc
 sink_call (Err fault) only e = sink-not_link fault only (let same : fault ≡ ClientLink = cc in same)
+
+pub line-not_source : (fault : HostFault) → AtLine fault → fault ≡ Source → ⊥
+line-not_source Source at e = absurd at
+line-not_source Disk at e = cc
+line-not_source Link at e = cc
+line-not_source ClientLink at e = cc
+line-not_source Clock at e = cc
+line-not_source Sink at e = cc
+line-not_source NoMemory at e = cc
+
+-- the fault that is answered is the one that was met
+pub was_met : {T : Type 0} (r : Result T HostFault) (y met said : HostFault) → r ≡ Err y → y ≡ met → r ≡ Err said → met ≡ said
+was_met r y met said is same e = cc
+
+pub not_said : {T : Type 0} (r : Result T HostFault) (y met said : HostFault) → r ≡ Err y → y ≡ met → (met ≡ said → ⊥) → r ≡ Err said → ⊥
+not_said r y met said is same never e = never (was_met r y met said is same e)
+
+-- nothing was met
+pub ok_not : {T : Type 0} (x : T) (said : HostFault) → Ok x ≡ Err said → ⊥
+ok_not x said e = cc

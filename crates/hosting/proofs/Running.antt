@@ -1,10 +1,11 @@
 -- Lines, one after another.
-use Rattle.std.proofs.Common.{◌≡◌, ◌⊎◌, ℕ, ◌+◌, ◌-◌, ◌*◌, ◌<◌, ◌≤◌, Bool, true, false, not, List, [], ◌∷◌, ◌++◌, length, take, map, Option, Some, None, refl, sym, ap, subst, ◌∙◌, append_assoc, append-nil, arith, inl, inr}
+use Rattle.std.proofs.Common.{◌≡◌, ◌⊎◌, ℕ, ◌+◌, ◌-◌, ◌*◌, ◌<◌, ◌≤◌, Bool, true, false, not, ◌||◌, List, [], ◌∷◌, ◌++◌, length, take, map, Option, Some, None, refl, sym, ap, subst, ◌∙◌, append_assoc, append-nil, arith, inl, inr}
 use Rattle.std.specs.List.{list_any}
 use Rattle.std.specs.Io.KnownBytes.{Appends, Consumes, Keeps, IsAtEnd}
 use Rattle.std.proofs.KnownBytes.{Appends-nil, Appends-trans, Consumes-nil, Consumes-trans}
 use Rattle.std.proofs.lemmas.Bool.{cases_lt}
 use Rattle.std.proofs.lemmas.List.{length-append, length-take, take_all}
+use Rattle.std.proofs.lemmas.List.Folds.{list_any-append}
 use Rattle.fab_base.specs.Layouts.{Layout}
 use Rattle.fab_io.specs.declared.links.Datagram.{Datagram}
 use Rattle.fab_io.specs.Datagrams.{Stays, Grows}
@@ -265,3 +266,56 @@ some_turn bytes turns of some = omega (arith, of.enough, some)
 
 pub some_byte : (line : List ℕ) → IsWhole line → 1 ≤ length line
 some_byte line whole = omega (arith, ap length whole.2, length-append whole.0 (10 ∷ []))
+
+-- a whole line does not end the source
+whole_over : (line : List ℕ) → IsWhole line → not (list_any is_line_feed line) ≡ false
+whole_over line whole =
+    ap not
+    (ap (list_any is_line_feed) whole.2 ∙ list_any-append is_line_feed whole.0 (10 ∷ [])
+    ∙ ap (λ (t : Bool). t || list_any is_line_feed (10 ∷ [])) whole.1)
+
+-- a whole line was run, and it was answered
+pub HasRun-whole : {A : Type 0} (takes : A → A → Type 0) (layout : Layout) (turns : ℕ) (source source_now source_then : Option (List ℕ)) (link link_now link_then : Told)
+    (bricks bricks_now bricks_then : A) (sink sink_now sink_then : Option (List ℕ)) (left left_read left_then number sent sent_then taken : ℕ) (line kept : List ℕ) (waits : Bool)
+    → HasRun takes layout turns source source_now link link_now bricks bricks_now sink sink_now left number sent false false
+    → Reads left left_read source_now source_then line taken → kept ≡ take most_kept line → IsWhole line
+    → RunsLine takes layout (number + 1) sent sent_then left_read left_then link_now link_then bricks_now bricks_then sink_now sink_then (line_of (content kept)) waits
+    → waits ≡ false
+    → HasRun takes layout turns source source_then link link_then bricks bricks_then sink sink_then left_then (number + 1) sent_then false false
+HasRun-whole takes layout turns source source_now source_then link link_now link_then bricks bricks_now bricks_then sink sink_now sink_then left left_read left_then number sent sent_then taken line kept waits h read keeps whole runs answered =
+    let more = HasRun-line takes layout turns source source_now source_then link link_now link_then bricks bricks_now bricks_then sink sink_now sink_then left left_read left_then number sent sent_then taken line kept waits h read keeps (inl whole) runs in
+    subst (λ (b : Bool). HasRun takes layout turns source source_then link link_then bricks bricks_then sink sink_then left_then (number + 1) sent_then b false) (whole_over line whole)
+    (subst (λ (b : Bool). HasRun takes layout turns source source_then link link_then bricks bricks_then sink sink_then left_then (number + 1) sent_then (not (list_any is_line_feed line)) b) answered more)
+
+-- a line was run, and the run is over: the source is at its end, or no turn is left
+pub Hosts-line : {A : Type 0} (takes : A → A → Type 0) (layout : Layout) (turns : ℕ) (source source_now source_then : Option (List ℕ)) (link link_now link_then : Told)
+    (bricks bricks_now bricks_then : A) (sink sink_now sink_then : Option (List ℕ)) (left left_read left_then number sent sent_then taken : ℕ) (line kept : List ℕ) (waits : Bool)
+    → HasRun takes layout turns source source_now link link_now bricks bricks_now sink sink_now left number sent false false
+    → Reads left left_read source_now source_then line taken → kept ≡ take most_kept line → IsWhole line ⊎ (HasNoFeed line × (1 ≤ length line))
+    → RunsLine takes layout (number + 1) sent sent_then left_read left_then link_now link_then bricks_now bricks_then sink_now sink_then (line_of (content kept)) waits
+    → IsAtEnd source_then ⊎ (left_then ≡ 0)
+    → Hosts takes layout turns source source_then link link_then bricks bricks_then sink sink_then
+Hosts-line takes layout turns source source_now source_then link link_now link_then bricks bricks_now bricks_then sink sink_now sink_then left left_read left_then number sent sent_then taken line kept waits h read keeps line_is runs ends =
+    Hosts-over takes layout turns source source_then source_then link link_then bricks bricks_then sink sink_then left_then (number + 1) sent_then 0 [] (not (list_any is_line_feed line)) waits
+    (HasRun-line takes layout turns source source_now source_then link link_now link_then bricks bricks_now bricks_then sink sink_now sink_then left left_read left_then number sent sent_then taken line kept waits h read keeps line_is runs)
+    (Consumes-nil source_then) refl AreTurnsOf-none runs.used (elim ends [ inl end ↦ inl (refl, end) | inr none ↦ inr none ])
+
+-- no line is left
+pub Hosts-ended : {A : Type 0} (takes : A → A → Type 0) (layout : Layout) (turns : ℕ) (source source_now source_then : Option (List ℕ)) (link link_now : Told)
+    (bricks bricks_now : A) (sink sink_now : Option (List ℕ)) (left left_read number sent taken : ℕ) (line : List ℕ)
+    → HasRun takes layout turns source source_now link link_now bricks bricks_now sink sink_now left number sent false false
+    → Reads left left_read source_now source_then line taken → line ≡ [] → IsAtEnd source_then
+    → Hosts takes layout turns source source_then link link_now bricks bricks_now sink sink_now
+Hosts-ended takes layout turns source source_now source_then link link_now bricks bricks_now sink sink_now left left_read number sent taken line h read none end =
+    Hosts-over takes layout turns source source_now source_then link link_now bricks bricks_now sink sink_now left number sent taken line false false h
+    read.consumes (ap (list_any is_line_feed) none) read.turns_of (λ e. let never : false ≡ true = e in absurd cc) (inl (none, end))
+
+-- no turn is left
+pub Hosts-out : {A : Type 0} (takes : A → A → Type 0) (layout : Layout) (turns : ℕ) (source source_now source_then : Option (List ℕ)) (link link_now : Told)
+    (bricks bricks_now : A) (sink sink_now : Option (List ℕ)) (left left_read number sent taken : ℕ) (line : List ℕ)
+    → HasRun takes layout turns source source_now link link_now bricks bricks_now sink sink_now left number sent false false
+    → Reads left left_read source_now source_then line taken → HasNoFeed line → left_read ≡ 0
+    → Hosts takes layout turns source source_then link link_now bricks bricks_now sink sink_now
+Hosts-out takes layout turns source source_now source_then link link_now bricks bricks_now sink sink_now left left_read number sent taken line h read none out =
+    Hosts-over takes layout turns source source_now source_then link link_now bricks bricks_now sink sink_now left number sent taken line false false h
+    read.consumes none read.turns_of (λ e. let never : false ≡ true = e in absurd cc) (inr (omega (arith, read.counted, out)))

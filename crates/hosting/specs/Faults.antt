@@ -36,3 +36,16 @@ AtCommand ClientLink = Unit {0}
 AtCommand Clock = Unit {0}
 AtCommand NoMemory = Unit {0}
 AtCommand other = ⊥
+
+-- anything but the source did
+abbrev pub AtLine : HostFault → Type 0
+AtLine Source = ⊥
+AtLine other = Unit {0}
+
+-- a fault that is none of the bricks'
+abbrev pub IsOther : HostFault → Type 0
+IsOther ClientLink = Unit {0}
+IsOther Source = Unit {0}
+IsOther Sink = Unit {0}
+IsOther NoMemory = Unit {0}
+IsOther other = ⊥

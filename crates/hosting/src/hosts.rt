@@ -6,7 +6,7 @@ ghost use Rattle.lines.specs.Lines.{content};
 ghost use Rattle.std.specs.Io.KnownBytes.{Appends};
 ghost use Rattle.hosting.specs.Answers.{bad_line_text};
 ghost use Rattle.hosting.specs.Commands.{line_of};
-ghost use Rattle.hosting.specs.Faults.{AtSink};
+ghost use Rattle.hosting.specs.Faults.{AtSink, AtLine};
 ghost use Rattle.hosting.specs.Hosting.{reads, printed, is_none, RunsLine, Hosts};
 ghost use Rattle.hosting.specs.Rounds.{told};
 
@@ -100,6 +100,7 @@ fn run_line<B: Bricks, L: Link, K: Sink>(
     ensures runs { IfOk result (RunsLine B.takes layout.now number sent.old sent.new turns.old turns.new (told (L.waiting link.old) (L.sent link.old))
         (told (L.waiting link.new) (L.sent link.new)) bricks.old bricks.new (K.told sink.old) (K.told sink.new) (line_of (content line.now))) }
     ensures few { OnOk result (sent.new + turns.new ≤ sent.old + turns.old + 1) }
+    ensures only { IfErr result AtLine }
     ensures link { Kept (L.faults link.old) (L.faults link.new) (L.sound link.old) (L.sound link.new) (result ≡ Err HostFault.ClientLink) }
     ensures sink { Kept (K.faults sink.old) (K.faults sink.new) (K.sound sink.old) (K.sound sink.new) (result ≡ Err HostFault.Sink) }
 {
@@ -112,6 +113,69 @@ fn run_line<B: Bricks, L: Link, K: Sink>(
         Some(Line::Run(command)) => {
             let answer = run_command(alloc, layout, bricks, link, room, sent, turns, &command)?;
             print_answer(alloc, sink, reads(&command.access), &answer)
+        }
+    }
+}
+
+/// The same as `host`, with room for a datagram.
+fn run_lines<B: Bricks, L: Link, S: Source, K: Sink>(
+    alloc: Global,
+    layout: &Layout,
+    bricks: &mut B,
+    link: &mut L,
+    source: &mut S,
+    sink: &mut K,
+    room: &mut [u8],
+    turns: u64,
+) -> Result<(), HostFault>
+    requires { length room.old ≡ 65535 }
+    ensures hosts { OnOk result (Hosts B.takes layout.now turns (S.told source.old) (S.told source.new) (told (L.waiting link.old) (L.sent link.old))
+        (told (L.waiting link.new) (L.sent link.new)) bricks.old bricks.new (K.told sink.old) (K.told sink.new)) }
+    ensures link { Kept (L.faults link.old) (L.faults link.new) (L.sound link.old) (L.sound link.new) (result ≡ Err HostFault.ClientLink) }
+    ensures source { Kept (S.faults source.old) (S.faults source.new) (S.sound source.old) (S.sound source.new) (result ≡ Err HostFault.Source) }
+    ensures sink { Kept (K.faults sink.old) (K.faults sink.new) (K.sound sink.old) (K.sound sink.new) (result ≡ Err HostFault.Sink) }
+{
+    let mut left = turns;
+    let mut sent = 0;
+    let mut number = 0;
+    loop {
+        match read_line(alloc, source, &mut left)? {
+            Taken::Whole(line) => {
+                number += 1;
+                let waits = run_line(
+                    alloc,
+                    layout,
+                    bricks,
+                    link,
+                    room,
+                    sink,
+                    &mut sent,
+                    &mut left,
+                    number,
+                    line.as_slice(),
+                )?;
+                if waits {
+                    return Ok(());
+                }
+            }
+            Taken::Last(line) => {
+                number += 1;
+                let _waits = run_line(
+                    alloc,
+                    layout,
+                    bricks,
+                    link,
+                    room,
+                    sink,
+                    &mut sent,
+                    &mut left,
+                    number,
+                    line.as_slice(),
+                )?;
+                return Ok(());
+            }
+            Taken::Ended => return Ok(()),
+            Taken::OutOfTurns => return Ok(()),
         }
     }
 }
@@ -142,25 +206,14 @@ pub fn host<B: Bricks, L: Link, S: Source, K: Sink>(
     ensures sink { Kept (K.faults sink.old) (K.faults sink.new) (K.sound sink.old) (K.sound sink.new) (result ≡ Err HostFault.Sink) }
 {
     let mut room = vec![in alloc; 0u8; MOST_BYTES]?;
-    let mut left = turns;
-    let mut sent = 0;
-    let mut number = 0;
-    loop {
-        match read_line(alloc, source, &mut left)? {
-            Taken::Whole(line) => {
-                number += 1;
-                let waits = run_line(alloc, layout, bricks, link, room.as_mut_slice(), sink, &mut sent, &mut left, number, line.as_slice())?;
-                if waits {
-                    return Ok(());
-                }
-            }
-            Taken::Last(line) => {
-                number += 1;
-                run_line(alloc, layout, bricks, link, room.as_mut_slice(), sink, &mut sent, &mut left, number, line.as_slice())?;
-                return Ok(());
-            }
-            Taken::Ended => return Ok(()),
-            Taken::OutOfTurns => return Ok(()),
-        }
-    }
+    run_lines(
+        alloc,
+        layout,
+        bricks,
+        link,
+        source,
+        sink,
+        room.as_mut_slice(),
+        turns,
+    )
 }
