@@ -4,7 +4,7 @@ use Rattle.fab_io.specs.Ends.{Kept}
 use Rattle.fab_io.proofs.Keeping.{Kept-refl, Kept-narrower}
 use Rattle.hosting.specs.declared.faults.HostFault.{HostFault}
 use Rattle.hosting.specs.declared.faults.HostFault.TheVariants.{Disk, Link, ClientLink, Clock, Source, Sink, NoMemory}
-use Rattle.hosting.specs.Faults.{AtClientLink, AtBricks, AtCommand, AtSource, AtSink, AtLine}
+use Rattle.hosting.specs.Faults.{AtCommand, AtSource, AtSink, AtLine}
 
 -- what holds at each error holds at an exit with one
 pub at_err : {T E : Type 0} (r : Result T E) (P : Result T E → Type 0) → ((e : E) → P (Err e)) → IsErr r → P r

@@ -1,15 +1,14 @@
 -- Rounds of a command, one after another.
-use Rattle.std.proofs.Common.{◌≡◌, ℕ, ◌+◌, ◌≤◌, List, [], ◌∷◌, ◌++◌, length, map, Option, Some, None, Result, Ok, Err, OnOk, refl, sym, ap, subst, ◌∙◌, append_assoc, append-nil, arith}
+use Rattle.std.proofs.Common.{◌≡◌, ℕ, ◌+◌, List, [], ◌∷◌, ◌++◌, length, Option, Some, None, Result, Ok, Err, OnOk, refl, sym, ap, subst, ◌∙◌, append_assoc, append-nil, arith}
 use Rattle.std.proofs.lemmas.List.{length-append}
 use Rattle.fab_base.specs.declared.answers.Answer.{Answer}
 use Rattle.fab_base.specs.declared.answers.Refusal.{Refusal}
 use Rattle.fab_base.specs.Layouts.{Layout}
 use Rattle.fab_io.specs.declared.links.Datagram.{Datagram}
 use Rattle.fab_io.specs.Datagrams.{Stays, Grows}
-use Rattle.fab_io.proofs.Told.{Stays-refl, Grows-none, Grows-trans}
+use Rattle.fab_io.proofs.Told.{Grows-none, Grows-trans}
 use Rattle.front.specs.Ranges.{Progress, next_of, after_end}
 use Rattle.front.specs.declared.steps.RangeAnswer.{RangeAnswer}
-use Rattle.front.specs.declared.steps.RangeStep.TheVariants as step
 use Rattle.hosting.specs.declared.commands.Command.{Command}
 use Rattle.hosting.specs.Asks.{wanted_in, Hears}
 use Rattle.hosting.specs.declared.clients.Standing.TheVariants.{Waits}
@@ -49,8 +48,7 @@ pub HearsOnce-end : {T E : Type 0} (r : Result T E) (port sent sent_after : ℕ)
     → OnOk r ((heard : Heard) × HearsOnce port (record { sent = sent; range = range }) (record { sent = sent_after; range = range_after }) link after heard)
 HearsOnce-end (Ok x) port sent sent_after range mid range_after wanted link between after came end stands looked unsent hears ended same waiting asks count =
     let number = count ∙ ap (λ (p : Progress). sent_by sent (next_of p)) ended in
-    let left = same ∙ ended in
-    (
+    let left = same ∙ ended in (
       record { came = came; end = Some end },
       record {
         waits = stands.0;
@@ -67,17 +65,16 @@ HearsOnce-end (Err e) port sent sent_after range mid range_after wanted link bet
 pub HearsOnce-none : (port sent : ℕ) (range : Progress) (wanted : Wanted) (link after : Told) (came : Option Datagram) → Stands range (Waits wanted)
     → Looked link.waiting after.waiting (came ∷ []) → Stays link.sent after.sent → Hears port sent wanted came None
     → (heard : Heard) × HearsOnce port (record { sent = sent; range = range }) (record { sent = sent; range = range }) link after heard
-HearsOnce-none port sent range wanted link after came stands looked unsent hears =
-    (
-      record { came = came; end = None },
-      record {
-        waits = stands.0;
-        hears = subst (λ (w : Wanted). Hears port sent w came None) stands.1 hears;
-        looked = looked;
-        left = refl;
-        asked = Grows-none link.sent after.sent unsent;
-      },
-    )
+HearsOnce-none port sent range wanted link after came stands looked unsent hears = (
+  record { came = came; end = None },
+  record {
+    waits = stands.0;
+    hears = subst (λ (w : Wanted). Hears port sent w came None) stands.1 hears;
+    looked = looked;
+    left = refl;
+    asked = Grows-none link.sent after.sent unsent;
+  },
+)
 
 -- at the port that is the same
 pub HearsOnce-at : (port at : ℕ) (now then : Asking) (link after : Told) (heard : Heard) → HearsOnce port now then link after heard → port ≡ at
@@ -189,16 +186,15 @@ pub RunsCommand-ends : {A : Type 0} (takes : A → A → Type 0) (layout : Layou
     (bricks bricks_now : A) (answer : Option RangeAnswer) → IsRunning takes layout command sent turns turns_now now link link_now bricks bricks_now
     → EndsAs now.range turns_now answer
     → (rounds : List Heard) × RunsCommand layout command sent now.sent turns turns_now link link_now rounds answer × Took takes rounds bricks bricks_now
-RunsCommand-ends takes layout command sent turns turns_now now link link_now bricks bricks_now answer h ends =
-    (
-      h.rounds,
-      record {
-        heard = h.heard;
-        counted = h.counted;
-        looked = h.looked;
-        asked = h.asked;
-        sent_is = ap (λ (a : Asking). a.sent) h.left;
-        ends = subst (λ (a : Asking). EndsAs a.range turns_now answer) h.left ends;
-      },
-      h.took,
-    )
+RunsCommand-ends takes layout command sent turns turns_now now link link_now bricks bricks_now answer h ends = (
+  h.rounds,
+  record {
+    heard = h.heard;
+    counted = h.counted;
+    looked = h.looked;
+    asked = h.asked;
+    sent_is = ap (λ (a : Asking). a.sent) h.left;
+    ends = subst (λ (a : Asking). EndsAs a.range turns_now answer) h.left ends;
+  },
+  h.took,
+)

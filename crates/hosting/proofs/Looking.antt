@@ -1,5 +1,5 @@
 -- What looks at a link give.
-use Rattle.std.proofs.Common.{◌≡◌, ℕ, zero, suc, ◌≤◌, min, List, [], ◌∷◌, ◌++◌, length, take, drop, Option, Some, None, refl, sym, ap, ◌∙◌, arith}
+use Rattle.std.proofs.Common.{◌≡◌, ℕ, zero, suc, min, List, [], ◌∷◌, ◌++◌, length, take, drop, Option, Some, None, refl, sym, ap, ◌∙◌, arith}
 use Rattle.std.proofs.lemmas.List.{take_min}
 use Rattle.fab_io.specs.declared.links.Datagram.{Datagram}
 use Rattle.fab_io.specs.Datagrams.{Stays, Loses, HasNone, IsGiven}
@@ -37,13 +37,12 @@ pub Looked-trans : (a b c : Option (List Datagram)) (first then : List (Option D
 Looked-trans None b c first then p q = tt
 Looked-trans (Some x) None c first then p q = absurd p
 Looked-trans (Some x) (Some y) None first then p q = absurd q
-Looked-trans (Some x) (Some y) (Some z) first then p q =
-    (
-      ap (λ l. l ++ then) p.0
+Looked-trans (Some x) (Some y) (Some z) first then p q = (
+  ap (λ l. l ++ then) p.0
       ∙ ap (λ l. looks (length first) x ++ l) (q.0 ∙ ap (looks (length then)) p.1)
       ∙ sym (looks-more first then x),
-      q.1 ∙ ap (drop (length then)) p.1 ∙ sym (drop-more first then x),
-    )
+  q.1 ∙ ap (drop (length then)) p.1 ∙ sym (drop-more first then x),
+)
 
 -- a look that found none
 pub Looked-nothing : (a b : Option (List Datagram)) → HasNone a → Stays a b → Looked a b (None ∷ [])

@@ -1,5 +1,5 @@
 -- Names in ASCII.
-use Rattle.std.proofs.Common.{◌≡◌, ℕ, nat_lt, ◌<◌, true, false, List, [], ◌∷◌, ap, arith}
+use Rattle.std.proofs.Common.{◌≡◌, ℕ, nat_lt, ◌<◌, true, List, [], ◌∷◌, arith}
 use Rattle.std.specs.List.{list_all}
 use Rattle.std.specs.Str.{IsAscii, IsUtf8}
 use Rattle.std.proofs.lemmas.Str.{IsUtf8-from_ascii}

@@ -1,14 +1,13 @@
 -- Lines, one after another.
-use Rattle.std.proofs.Common.{◌≡◌, ◌⊎◌, ℕ, ◌+◌, ◌-◌, ◌*◌, ◌<◌, ◌≤◌, Bool, true, false, not, ◌||◌, List, [], ◌∷◌, ◌++◌, length, take, map, Option, Some, None, refl, sym, ap, subst, ◌∙◌, append_assoc, append-nil, arith, inl, inr}
+use Rattle.std.proofs.Common.{◌≡◌, ◌⊎◌, ℕ, ◌+◌, ◌-◌, ◌≤◌, Bool, true, false, not, ◌||◌, List, [], ◌∷◌, ◌++◌, length, take, Option, Some, None, refl, sym, ap, subst, ◌∙◌, append_assoc, append-nil, arith, inl, inr}
 use Rattle.std.specs.List.{list_any}
-use Rattle.std.specs.Io.KnownBytes.{Appends, Consumes, Keeps, IsAtEnd}
+use Rattle.std.specs.Io.KnownBytes.{Appends, Consumes, IsAtEnd}
 use Rattle.std.proofs.KnownBytes.{Appends-nil, Appends-trans, Consumes-nil, Consumes-trans}
 use Rattle.std.proofs.lemmas.Bool.{cases_lt}
 use Rattle.std.proofs.lemmas.List.{length-append, length-take, take_all}
 use Rattle.std.proofs.lemmas.List.Folds.{list_any-append}
 use Rattle.fab_base.specs.Layouts.{Layout}
-use Rattle.fab_io.specs.declared.links.Datagram.{Datagram}
-use Rattle.fab_io.specs.Datagrams.{Stays, Grows}
+use Rattle.fab_io.specs.Datagrams.{Grows}
 use Rattle.fab_io.proofs.Told.{Stays-refl, Grows-none, Grows-trans}
 use Rattle.front.specs.Ranges.{Progress, next_of}
 use Rattle.front.specs.declared.steps.RangeAnswer.{RangeAnswer}
@@ -21,9 +20,9 @@ use Rattle.hosting.specs.declared.commands.Line.{Line}
 use Rattle.hosting.specs.declared.commands.Line.TheVariants.{Nothing, Run}
 use Rattle.hosting.specs.Answers.{bad_line_text}
 use Rattle.hosting.specs.Commands.{line_of}
-use Rattle.hosting.specs.Hosting.{Played, Progression, beginning, Outcome, reads, text_of, printed, is_none, is_waiting, outcome_of, HasRounds, after_line, IsPlayed, after_lines, ArePlayed, bytes_of, rounds_of, RunsLine, IsOver, Hosts}
+use Rattle.hosting.specs.Hosting.{Played, Progression, beginning, Outcome, reads, text_of, printed, is_none, is_waiting, outcome_of, HasRounds, after_line, IsPlayed, after_lines, ArePlayed, bytes_of, rounds_of, RunsLine, Hosts}
 use Rattle.hosting.specs.Looks.{Looked}
-use Rattle.hosting.specs.Reading.{most_kept, turn_bytes, AreTurnsOf, HasNoFeed, IsWhole, Reads}
+use Rattle.hosting.specs.Reading.{most_kept, AreTurnsOf, HasNoFeed, IsWhole, Reads}
 use Rattle.hosting.specs.Commanded.{opened, asking}
 use Rattle.hosting.specs.Rounds.{Heard, IsOpen, after_rounds, came_in, Took, Told, EndsAs, RunsCommand}
 use Rattle.hosting.proofs.CommandLines.{line_of-long}
@@ -191,26 +190,26 @@ pub HasRun-line : {A : Type 0} (takes : A → A → Type 0) (layout : Layout) (t
     → Reads left left_read source_now source_then line taken → kept ≡ take most_kept line → IsWhole line ⊎ (HasNoFeed line × (1 ≤ length line))
     → RunsLine takes layout (number + 1) sent sent_then left_read left_then link_now link_then bricks_now bricks_then sink_now sink_then (line_of (content kept)) waits
     → HasRun takes layout turns source source_then link link_then bricks bricks_then sink sink_then left_then (number + 1) sent_then
-        (not (list_any is_line_feed line)) waits
+    (not (list_any is_line_feed line)) waits
 HasRun-line takes layout turns source source_now source_then link link_now link_then bricks bricks_now bricks_then sink sink_now sink_then left left_read left_then number sent sent_then taken line kept waits h read keeps line_is runs =
     let one : Played = record { line = line; taken = taken; rounds = runs.rounds } in
     let run : Progression = after_lines layout (beginning turns) h.played in
     let says : line_of (content kept) ≡ line_of (content line) = ap (λ (l : List ℕ). line_of (content l)) keeps ∙ line_of-kept line in
     let same : outcome_of layout (number + 1) sent runs.rounds (line_of (content kept)) ≡ outcome_of layout (run.lines + 1) run.sent runs.rounds (line_of (content line)) =
-        ap (λ (k : ℕ). outcome_of layout (k + 1) sent runs.rounds (line_of (content kept))) (sym h.number_is)
-        ∙ ap (λ (k : ℕ). outcome_of layout (run.lines + 1) k runs.rounds (line_of (content kept))) (sym h.sent_is)
-        ∙ ap (outcome_of layout (run.lines + 1) run.sent runs.rounds) says in
+    ap (λ (k : ℕ). outcome_of layout (k + 1) sent runs.rounds (line_of (content kept))) (sym h.number_is)
+    ∙ ap (λ (k : ℕ). outcome_of layout (run.lines + 1) k runs.rounds (line_of (content kept))) (sym h.sent_is)
+    ∙ ap (outcome_of layout (run.lines + 1) run.sent runs.rounds) says in
     let all = after_lines-more layout (beginning turns) h.played one in
     let has = subst (HasRounds layout run.sent runs.rounds) says (subst (λ (k : ℕ). HasRounds layout k runs.rounds (line_of (content kept))) (sym h.sent_is) runs.has) in
     let is : IsPlayed layout run one =
-        record {
-          goes_on = h.over_is;
-          answered = h.waits_is;
-          line_is = line_is;
-          turns = read.turns_of;
-          within = omega (arith, h.left_is, read.counted, runs.counted);
-          rounds = has;
-        } in
+    record {
+      goes_on = h.over_is;
+      answered = h.waits_is;
+      line_is = line_is;
+      turns = read.turns_of;
+      within = omega (arith, h.left_is, read.counted, runs.counted);
+      rounds = has;
+    } in
     record {
       played = h.played ++ (one ∷ []);
       are = ArePlayed-more layout (beginning turns) h.played one h.are is;

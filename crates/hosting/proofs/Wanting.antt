@@ -1,5 +1,5 @@
 -- What a range wants next, as its layout has it, and what ends that.
-use Rattle.std.proofs.Common.{◌≡◌, ℕ, zero, suc, ◌+◌, ◌-◌, ◌*◌, ◌<◌, ◌≤◌, nat_lt, Bool, true, false, cond, List, [], ◌∷◌, length, take, drop, Option, Some, None, Result, Ok, Err, option_map, option_and_then, refl, sym, ap, subst, ◌∙◌, arith}
+use Rattle.std.proofs.Common.{◌≡◌, ℕ, zero, suc, ◌+◌, ◌-◌, ◌*◌, ◌≤◌, nat_lt, Bool, true, false, cond, List, [], ◌∷◌, length, take, drop, Option, Some, None, Result, Ok, Err, option_map, option_and_then, refl, sym, ap, subst, ◌∙◌, arith}
 use Rattle.std.specs.Option.{option_map_or}
 use Rattle.std.proofs.lemmas.Bool.Decides.{nat_tests}
 use Rattle.std.proofs.lemmas.List.{length-take}
@@ -21,7 +21,7 @@ use Rattle.front.specs.Pieces.{Wish, Part, is_whole, piece_of, piece_at, ask_of,
 use Rattle.front.specs.Halts.{halt_of}
 use Rattle.front.specs.Ranges.{Progress, begun_by, begun, next_by, next_of, FitsOp, FitsFirst, FitsEnd, after_by, after_end}
 use Rattle.layout.specs.declared.places.Place.{Place}
-use Rattle.layout.specs.Limits.{IsLayout, IsGroup}
+use Rattle.layout.specs.Limits.{IsLayout}
 use Rattle.layout.specs.Places.{place_of, blocks_of}
 use Rattle.hosting.specs.declared.commands.Command.{Command}
 use Rattle.hosting.specs.Asks.{wanted_of, wanted_by, wanted_in, answers, ends}

@@ -1,5 +1,5 @@
 -- The range of a command, and how its client asks for the operations of that.
-use Rattle.std.specs.Prelude.{◌≡◌, ℕ, ◌+◌, ◌*◌, ◌≤◌, nat_lt, Bool, if◌then◌else◌, List, [], ◌∷◌, ◌++◌, length, Option, Some, None, Result, Err}
+use Rattle.std.specs.Prelude.{◌≡◌, ℕ, ◌+◌, ◌*◌, ◌≤◌, nat_lt, Bool, if◌then◌else◌, List, [], ◌∷◌, length, Option, Some, None, Result, Err}
 use Rattle.std.specs.List.{list_all}
 use Rattle.fab_base.specs.declared.answers.Answer.{Answer}
 use Rattle.fab_base.specs.declared.answers.Refusal.{Refusal}
@@ -20,7 +20,7 @@ use Rattle.hosting.specs.declared.commands.Access.TheVariants.{Read, Write}
 use Rattle.hosting.specs.declared.commands.Command.{Command}
 use Rattle.hosting.specs.declared.clients.Standing.{Standing}
 use Rattle.hosting.specs.declared.clients.Standing.TheVariants.{Waits, Ended}
-use Rattle.hosting.specs.Asks.{ask_datagram, wanted_in, Hears}
+use Rattle.hosting.specs.Asks.{ask_datagram, wanted_in}
 
 -- ---- the range of a command
 

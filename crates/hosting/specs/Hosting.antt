@@ -1,12 +1,11 @@
 -- What the lines of a source do to the bricks of a layout and to their client.
-use Rattle.std.specs.Prelude.{◌≡◌, ◌⊎◌, ◌<◌, ◌≤◌, ℕ, ◌+◌, ◌-◌, ◌*◌, Bool, true, false, not, List, [], ◌∷◌, ◌++◌, length, map, Option, Some, None, Result, Ok, Err}
+use Rattle.std.specs.Prelude.{◌≡◌, ◌⊎◌, ◌≤◌, ℕ, ◌+◌, ◌-◌, Bool, true, false, not, List, [], ◌∷◌, ◌++◌, length, Option, Some, None}
 use Rattle.std.specs.List.{list_any}
 use Rattle.std.specs.Io.KnownBytes.{Appends, Consumes, IsAtEnd}
 use Rattle.fab_base.specs.Layouts.{Layout}
 use Rattle.fab_io.specs.declared.links.Datagram.{Datagram}
 use Rattle.fab_io.specs.Datagrams.{Grows}
-use Rattle.fab_io.specs.Ends.{AppendsFront}
-use Rattle.front.specs.Ranges.{Progress, next_of}
+use Rattle.front.specs.Ranges.{next_of}
 use Rattle.front.specs.declared.steps.RangeAnswer.{RangeAnswer}
 use Rattle.front.specs.declared.steps.RangeStep.{RangeStep}
 use Rattle.front.specs.declared.steps.RangeStep.TheVariants as step

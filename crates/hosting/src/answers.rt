@@ -69,11 +69,7 @@ fn done_text(alloc: Global, reads: bool, bytes: &Bytes) -> Result<String, NoMem>
 }
 
 /// The answer to a command that reads, or writes.
-pub(crate) fn answer_text(
-    alloc: Global,
-    reads: bool,
-    answer: &RangeAnswer,
-) -> Result<String, NoMem>
+pub(crate) fn answer_text(alloc: Global, reads: bool, answer: &RangeAnswer) -> Result<String, NoMem>
     ensures { IfOk result (λ text. string_bytes text ≡ answer_text reads answer.now) }
 {
     match answer {

@@ -52,11 +52,7 @@ fn name_of(name: &[u8]) -> &str
 }
 
 /// The range of a command.
-fn range_of<'l>(
-    alloc: Global,
-    layout: &'l Layout,
-    command: &Command,
-) -> Result<Range<'l>, NoMem>
+fn range_of<'l>(alloc: Global, layout: &'l Layout, command: &Command) -> Result<Range<'l>, NoMem>
     ensures { IfOk result (λ range. range ≡ range_of layout.now command.now) }
 {
     let volume = name_of(command.volume.as_slice());
@@ -143,13 +139,7 @@ fn client_ask(alloc: Global, id: u64, ask: Ask) -> ClientAsk
 }
 
 /// Asks the brick of a port for an operation.
-fn send<L: Link>(
-    alloc: Global,
-    link: &mut L,
-    port: u16,
-    id: u64,
-    ask: Ask,
-) -> Result<(), HostFault>
+fn send<L: Link>(alloc: Global, link: &mut L, port: u16, id: u64, ask: Ask) -> Result<(), HostFault>
     requires { length (bytes_by ask.op) ≤ 32768 }
     ensures waiting { Stays (L.waiting link.old) (L.waiting link.new) }
     ensures sent { MatchResult result (λ _. Grows (L.sent link.old) (L.sent link.new) (ask_datagram port id ask ∷ [])) (λ _. Stays (L.sent link.old) (L.sent link.new)) }

@@ -1,4 +1,4 @@
-use Rattle.std.proofs.Common.{◌≡◌, None, Some, sym, ap, ◌∙◌}
+use Rattle.std.proofs.Common.{Some, sym, ap, ◌∙◌}
 use Rattle.std.proofs.lemmas.Result.{err_from_is_err_and}
 use Rattle.fab_io.proofs.Keeping.{Kept-narrower}
 use Rattle.hosting.specs.declared.faults.HostFault.TheVariants.{ClientLink, Sink}

@@ -1,4 +1,4 @@
-use Rattle.std.proofs.Common.{◌≡◌, Ok, Err, sym, ap, ◌∙◌, arith, inl, inr}
+use Rattle.std.proofs.Common.{Err, ap, ◌∙◌, arith, inl, inr}
 use Rattle.std.proofs.lemmas.Result.{err_from_is_err_and}
 use Rattle.fab_io.proofs.Keeping.{Kept-refl, Kept-trans, Kept-calm, Kept-narrower}
 use Rattle.hosting.specs.declared.faults.HostFault.{HostFault}

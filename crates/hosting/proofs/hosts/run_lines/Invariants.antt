@@ -1,4 +1,4 @@
-use Rattle.std.proofs.Common.{◌≡◌, ◌+◌, ◌≤◌, false}
+use Rattle.std.proofs.Common.{◌+◌, ◌≤◌, false}
 use Rattle.fab_io.specs.Ends.{Kept}
 use Rattle.hosting.specs.Rounds.{told}
 use Rattle.hosting.proofs.Running.{HasRun}

@@ -1,4 +1,4 @@
-use Rattle.std.proofs.Common.{◌≡◌, ℕ, false, length, ap, arith}
+use Rattle.std.proofs.Common.{◌≡◌, false, length, ap, arith}
 use Rattle.std.proofs.lemmas.Bool.Decides.{nat_tests}
 use Rattle.std.proofs.lemmas.List.{length-take}
 use Rattle.fab_io.proofs.Keeping.{Kept-trans, Kept-calm}

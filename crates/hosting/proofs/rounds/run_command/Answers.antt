@@ -1,4 +1,4 @@
-use Rattle.std.proofs.Common.{◌≡◌, ◌+◌, ◌-◌, ℕ, sym, subst, ◌∙◌, arith}
+use Rattle.std.proofs.Common.{◌≡◌, ◌+◌, ◌-◌, sym, subst, ◌∙◌, arith}
 use Rattle.fab_io.proofs.Keeping.{Kept-trans, Kept-calm}
 use Rattle.hosting.specs.Commanded.{IsRangeOf, Stands}
 use Rattle.hosting.proofs.Hearing.{HearsOnce-at, IsRunning-first, IsRunning-more, asking_is, asks_are}
