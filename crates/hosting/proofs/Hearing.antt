@@ -1,0 +1,200 @@
+-- Rounds of a command, one after another.
+use Rattle.std.proofs.Common.{◌≡◌, ℕ, ◌+◌, List, [], ◌∷◌, ◌++◌, length, Option, Some, None, Result, Ok, Err, OnOk, refl, sym, ap, subst, ◌∙◌, append_assoc, append-nil, arith}
+use Rattle.std.proofs.lemmas.List.{length-append}
+use Rattle.fab_base.specs.declared.answers.Answer.{Answer}
+use Rattle.fab_base.specs.declared.answers.Refusal.{Refusal}
+use Rattle.fab_base.specs.Layouts.{Layout}
+use Rattle.fab_io.specs.declared.links.Datagram.{Datagram}
+use Rattle.fab_io.specs.Datagrams.{Stays, Grows}
+use Rattle.fab_io.proofs.Told.{Grows-none, Grows-trans}
+use Rattle.front.specs.Ranges.{Progress, next_of, after_end}
+use Rattle.front.specs.declared.steps.RangeAnswer.{RangeAnswer}
+use Rattle.hosting.specs.declared.commands.Command.{Command}
+use Rattle.hosting.specs.Asks.{wanted_in, Hears}
+use Rattle.hosting.specs.declared.clients.Standing.TheVariants.{Waits}
+use Rattle.hosting.specs.declared.replies.Wanted.{Wanted}
+use Rattle.hosting.specs.Commanded.{Asking, opened, asking, sent_by, asks_by, after_round, asks_after, Stands}
+use Rattle.hosting.specs.Looks.{Looked}
+use Rattle.hosting.specs.Rounds.{Heard, IsOpen, AreHeard, after_rounds, asks_in, came_in, Took, Told, HearsOnce, port_of, EndsAs, RunsCommand}
+use Rattle.hosting.proofs.Looking.{Looked-none, Looked-trans}
+
+-- looks stay what they were where nothing is done to the link
+pub Looked-kept : (a b c : Option (List Datagram)) (came : List (Option Datagram)) → Looked a b came → Stays b c → Looked a c came
+Looked-kept None b c came looked stays = tt
+Looked-kept (Some x) None c came looked stays = absurd looked
+Looked-kept (Some x) (Some y) None came looked stays = absurd stays
+Looked-kept (Some x) (Some y) (Some z) came looked stays = (looked.0, stays ∙ looked.1)
+
+pub Stays-trans : (a b c : Option (List Datagram)) → Stays a b → Stays b c → Stays a c
+Stays-trans None b c p q = tt
+Stays-trans (Some x) None c p q = absurd p
+Stays-trans (Some x) (Some y) None p q = absurd q
+Stays-trans (Some x) (Some y) (Some z) p q = q ∙ p
+
+pub Grows-kept : (a b c : Option (List Datagram)) (more : List Datagram) → Stays a b → Grows b c more → Grows a c more
+Grows-kept None b c more p q = tt
+Grows-kept (Some x) None c more p q = absurd p
+Grows-kept (Some x) (Some y) None more p q = absurd q
+Grows-kept (Some x) (Some y) (Some z) more p q = q ∙ ap (λ l. l ++ more) p
+
+-- ---- a round
+
+-- one in which the operation ended
+pub HearsOnce-end : {T E : Type 0} (r : Result T E) (port sent sent_after : ℕ) (range mid range_after : Progress) (wanted : Wanted) (link between after : Told)
+    (came : Option Datagram) (end : Result Answer Refusal) → Stands range (Waits wanted) → Looked link.waiting between.waiting (came ∷ [])
+    → Stays link.sent between.sent → Hears port sent wanted came (Some end) → mid ≡ after_end range end → range_after ≡ mid
+    → Stays between.waiting after.waiting → OnOk r (Grows between.sent after.sent (asks_by port sent (next_of mid)))
+    → OnOk r (sent_after ≡ sent_by sent (next_of mid))
+    → OnOk r ((heard : Heard) × HearsOnce port (record { sent = sent; range = range }) (record { sent = sent_after; range = range_after }) link after heard)
+HearsOnce-end (Ok x) port sent sent_after range mid range_after wanted link between after came end stands looked unsent hears ended same waiting asks count =
+    let number = count ∙ ap (λ (p : Progress). sent_by sent (next_of p)) ended in
+    let left = same ∙ ended in (
+      record { came = came; end = Some end },
+      record {
+        waits = stands.0;
+        hears = subst (λ (w : Wanted). Hears port sent w came (Some end)) stands.1 hears;
+        looked = Looked-kept link.waiting between.waiting after.waiting (came ∷ []) looked waiting;
+        left = (λ i. record { sent = number i; range = left i });
+        asked = Grows-kept link.sent between.sent after.sent (asks_by port sent (next_of (after_end range end))) unsent
+            (subst (λ (p : Progress). Grows between.sent after.sent (asks_by port sent (next_of p))) ended asks);
+      },
+    )
+HearsOnce-end (Err e) port sent sent_after range mid range_after wanted link between after came end stands looked unsent hears ended same waiting asks count = tt
+
+-- one in which it did not
+pub HearsOnce-none : (port sent : ℕ) (range : Progress) (wanted : Wanted) (link after : Told) (came : Option Datagram) → Stands range (Waits wanted)
+    → Looked link.waiting after.waiting (came ∷ []) → Stays link.sent after.sent → Hears port sent wanted came None
+    → (heard : Heard) × HearsOnce port (record { sent = sent; range = range }) (record { sent = sent; range = range }) link after heard
+HearsOnce-none port sent range wanted link after came stands looked unsent hears = (
+  record { came = came; end = None },
+  record {
+    waits = stands.0;
+    hears = subst (λ (w : Wanted). Hears port sent w came None) stands.1 hears;
+    looked = looked;
+    left = refl;
+    asked = Grows-none link.sent after.sent unsent;
+  },
+)
+
+-- at the port that is the same
+pub HearsOnce-at : (port at : ℕ) (now then : Asking) (link after : Told) (heard : Heard) → HearsOnce port now then link after heard → port ≡ at
+    → HearsOnce at now then link after heard
+HearsOnce-at port at now then link after heard once same = subst (λ k. HearsOnce k now then link after heard) same once
+
+-- ---- one more round
+
+AreHeard-more : (port : ℕ) (before : Asking) (rounds : List Heard) (heard : Heard) → AreHeard port before rounds
+    → IsOpen (after_rounds before rounds).range × Hears port (after_rounds before rounds).sent (wanted_in (after_rounds before rounds).range) heard.came heard.end
+    → AreHeard port before (rounds ++ (heard ∷ []))
+AreHeard-more port before [] heard are one = (one, tt)
+AreHeard-more port before (round ∷ rounds) heard are one =
+    (are.0, AreHeard-more port (after_round before round.end) rounds heard are.1 one)
+
+after_rounds-more : (before : Asking) (rounds : List Heard) (heard : Heard)
+    → after_rounds before (rounds ++ (heard ∷ [])) ≡ after_round (after_rounds before rounds) heard.end
+after_rounds-more before [] heard = refl
+after_rounds-more before (round ∷ rounds) heard = after_rounds-more (after_round before round.end) rounds heard
+
+asks_in-more : (port : ℕ) (before : Asking) (rounds : List Heard) (heard : Heard)
+    → asks_in port before (rounds ++ (heard ∷ [])) ≡ asks_in port before rounds ++ asks_after port (after_rounds before rounds) heard.end
+asks_in-more port before [] heard = append-nil (asks_after port before heard.end)
+asks_in-more port before (round ∷ rounds) heard =
+    let first = asks_after port before round.end in
+    ap (λ l. first ++ l) (asks_in-more port (after_round before round.end) rounds heard)
+    ∙ sym (append_assoc first (asks_in port (after_round before round.end) rounds) (asks_after port (after_rounds (after_round before round.end) rounds) heard.end))
+
+came_in-more : (rounds : List Heard) (heard : Heard) → came_in (rounds ++ (heard ∷ [])) ≡ came_in rounds ++ (heard.came ∷ [])
+came_in-more [] heard = refl
+came_in-more (round ∷ rounds) heard = ap (λ l. round.came ∷ l) (came_in-more rounds heard)
+
+pub Took-more : {A : Type 0} (takes : A → A → Type 0) (rounds : List Heard) (heard : Heard) (a b c : A) → Took takes rounds a b → takes b c
+    → Took takes (rounds ++ (heard ∷ [])) a c
+Took-more takes [] heard a b c took one = (c, subst (λ x. takes x c) took one, refl)
+Took-more takes (round ∷ rounds) heard a b c took one = (took.0, took.1, Took-more takes rounds heard took.0 b c took.2 one)
+
+-- ---- a command in its rounds
+
+-- where a command stands after some rounds
+pub record IsRunning {A : Type 0} (takes : A → A → Type 0) (layout : Layout) (command : Command) (sent turns turns_now : ℕ) (now : Asking)
+    (link link_now : Told) (bricks bricks_now : A) : Type 0 where
+  pub rounds : List Heard
+  pub heard : AreHeard (port_of layout command.brick) (asking sent (opened layout command)) rounds
+  pub counted : turns ≡ turns_now + length rounds
+  pub looked : Looked link.waiting link_now.waiting (came_in rounds)
+  pub asked : Grows link.sent link_now.sent (asks_by (port_of layout command.brick) sent (next_of (opened layout command))
+      ++ asks_in (port_of layout command.brick) (asking sent (opened layout command)) rounds)
+  pub left : now ≡ after_rounds (asking sent (opened layout command)) rounds
+  pub took : Took takes rounds bricks bricks_now
+
+-- the client asks for its first operation
+pub asking_is : (sent sent_after : ℕ) (range after first : Progress) → sent_after ≡ sent_by sent (next_of range) → after ≡ range → range ≡ first
+    → (let now : Asking = record { sent = sent_after; range = after } in now) ≡ asking sent first
+asking_is sent sent_after range after first count same is =
+    let number = count ∙ ap (λ (p : Progress). sent_by sent (next_of p)) is in
+    let left = same ∙ is in
+    (λ i. record { sent = number i; range = left i })
+
+pub asks_are : (a b : Option (List Datagram)) (port sent at : ℕ) (range first : Progress) → Grows a b (asks_by port sent (next_of range)) → port ≡ at → range ≡ first
+    → Grows a b (asks_by at sent (next_of first))
+asks_are a b port sent at range first grows same is =
+    subst (λ k. Grows a b (asks_by k sent (next_of first))) same
+    (subst (λ (p : Progress). Grows a b (asks_by port sent (next_of p))) is grows)
+
+-- it begins: its client asks for its first operation
+pub IsRunning-first : {A : Type 0} (takes : A → A → Type 0) (layout : Layout) (command : Command) (sent turns : ℕ) (now : Asking) (link link_now : Told) (bricks : A)
+    → now ≡ asking sent (opened layout command) → Stays link.waiting link_now.waiting
+    → Grows link.sent link_now.sent (asks_by (port_of layout command.brick) sent (next_of (opened layout command)))
+    → IsRunning takes layout command sent turns turns now link link_now bricks bricks
+IsRunning-first takes layout command sent turns now link link_now bricks is stays asked =
+    record {
+      rounds = [];
+      heard = tt;
+      counted = omega arith;
+      looked = Looked-none link.waiting link_now.waiting stays;
+      asked = subst (Grows link.sent link_now.sent) (sym (append-nil (asks_by (port_of layout command.brick) sent (next_of (opened layout command))))) asked;
+      left = is;
+      took = refl;
+    }
+
+-- one more round
+pub IsRunning-more : {A : Type 0} (takes : A → A → Type 0) (layout : Layout) (command : Command) (sent turns turns_now turns_then : ℕ) (now then : Asking)
+    (link link_now link_then : Told) (bricks bricks_now bricks_then : A) (heard : Heard)
+    → IsRunning takes layout command sent turns turns_now now link link_now bricks bricks_now → turns_now ≡ turns_then + 1 → takes bricks_now bricks_then
+    → HearsOnce (port_of layout command.brick) now then link_now link_then heard
+    → IsRunning takes layout command sent turns turns_then then link link_then bricks bricks_then
+IsRunning-more takes layout command sent turns turns_now turns_then now then link link_now link_then bricks bricks_now bricks_then heard h fewer one once =
+    let port = port_of layout command.brick in
+    let first = asking sent (opened layout command) in
+    let begun = asks_by port sent (next_of (opened layout command)) in
+    record {
+      rounds = h.rounds ++ (heard ∷ []);
+      heard = AreHeard-more port first h.rounds heard h.heard
+          (subst (λ (a : Asking). IsOpen a.range × Hears port a.sent (wanted_in a.range) heard.came heard.end) h.left (once.waits, once.hears));
+      counted = omega (arith, h.counted, fewer, length-append h.rounds (heard ∷ []));
+      looked = subst (Looked link.waiting link_then.waiting) (sym (came_in-more h.rounds heard))
+          (Looked-trans link.waiting link_now.waiting link_then.waiting (came_in h.rounds) (heard.came ∷ []) h.looked once.looked);
+      asked = subst (Grows link.sent link_then.sent)
+          (append_assoc begun (asks_in port first h.rounds) (asks_after port now heard.end)
+          ∙ ap (λ l. begun ++ l) (ap (λ (a : Asking). asks_in port first h.rounds ++ asks_after port a heard.end) h.left ∙ sym (asks_in-more port first h.rounds heard)))
+          (Grows-trans link.sent link_now.sent link_then.sent (begun ++ asks_in port first h.rounds) (asks_after port now heard.end) h.asked once.asked);
+      left = once.left ∙ ap (λ (a : Asking). after_round a heard.end) h.left ∙ sym (after_rounds-more first h.rounds heard);
+      took = Took-more takes h.rounds heard bricks bricks_now bricks_then h.took one;
+    }
+
+-- it ends so
+pub RunsCommand-ends : {A : Type 0} (takes : A → A → Type 0) (layout : Layout) (command : Command) (sent turns turns_now : ℕ) (now : Asking) (link link_now : Told)
+    (bricks bricks_now : A) (answer : Option RangeAnswer) → IsRunning takes layout command sent turns turns_now now link link_now bricks bricks_now
+    → EndsAs now.range turns_now answer
+    → (rounds : List Heard) × RunsCommand layout command sent now.sent turns turns_now link link_now rounds answer × Took takes rounds bricks bricks_now
+RunsCommand-ends takes layout command sent turns turns_now now link link_now bricks bricks_now answer h ends = (
+  h.rounds,
+  record {
+    heard = h.heard;
+    counted = h.counted;
+    looked = h.looked;
+    asked = h.asked;
+    sent_is = ap (λ (a : Asking). a.sent) h.left;
+    ends = subst (λ (a : Asking). EndsAs a.range turns_now answer) h.left ends;
+  },
+  h.took,
+)

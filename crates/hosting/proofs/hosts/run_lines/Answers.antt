@@ -1,0 +1,154 @@
+use Rattle.std.proofs.Common.{Err, ap, ◌∙◌, arith, inl, inr}
+use Rattle.std.proofs.lemmas.Result.{err_from_is_err_and}
+use Rattle.fab_io.proofs.Keeping.{Kept-refl, Kept-trans, Kept-calm, Kept-narrower}
+use Rattle.hosting.specs.declared.faults.HostFault.{HostFault}
+use Rattle.hosting.specs.declared.faults.HostFault.TheVariants.{ClientLink, Source, Sink}
+use Rattle.hosting.specs.Rounds.{told}
+use Rattle.hosting.proofs.Exits.{was_met, not_said, ok_not, source-not_link, source-not_sink, line-not_source}
+use Rattle.hosting.proofs.Running.{HasRun-none, HasRun-whole, Hosts-line, Hosts-ended, Hosts-out, some_turn, some_byte}
+use Rattle.hosting.proofs.hosts.run_lines.Goals as goal
+
+pub loop-line-init : goal.loop-line-init
+loop-line-init g c = record {
+  run = HasRun-none _ _ _ _ (told (g.L.Link.waiting c.args.link.now) (g.L.Link.sent c.args.link.now)) _ _;
+  sent_few = omega arith;
+  few = omega arith;
+  link = Kept-refl _ _;
+  source = Kept-refl _ _;
+  sink = Kept-refl _ _;
+}
+
+pub returns-in_err-line-clause-link : goal.returns-in_err-line-clause-link
+returns-in_err-line-clause-link g c =
+    let q = err_from_is_err_and c.from_residual.result c.from_residual.ensures.1 in
+    Kept-narrower (not_said _ _ _ ClientLink q.1 q.2 (source-not_link _ c.in_err-line.ensures.only)) c.loop-line.invariant.link
+
+pub returns-in_err-line-clause-source : goal.returns-in_err-line-clause-source
+returns-in_err-line-clause-source g c =
+    let q = err_from_is_err_and c.from_residual.result c.from_residual.ensures.1 in
+    Kept-trans c.loop-line.invariant.source
+    (Kept-narrower (λ e. ap (λ (f : HostFault). Err f) (was_met _ _ _ _ q.1 q.2 e)) c.in_err-line.ensures.kept)
+
+pub returns-in_err-line-clause-sink : goal.returns-in_err-line-clause-sink
+returns-in_err-line-clause-sink g c =
+    let q = err_from_is_err_and c.from_residual.result c.from_residual.ensures.1 in
+    Kept-narrower (not_said _ _ _ Sink q.1 q.2 (source-not_sink _ c.in_err-line.ensures.only)) c.loop-line.invariant.sink
+
+pub returns-in_err-waits-in-Whole-clause-link : goal.returns-in_err-waits-in-Whole-clause-link
+returns-in_err-waits-in-Whole-clause-link g c =
+    let q = err_from_is_err_and c.from_residual-in_err-waits-in-Whole.result c.from_residual-in_err-waits-in-Whole.ensures.1 in
+    Kept-trans c.loop-line.invariant.link
+    (Kept-narrower (λ e. ap (λ (f : HostFault). Err f) (was_met _ _ _ _ q.1 q.2 e)) c.in_err-waits-in-Whole.ensures.link)
+
+pub returns-in_err-waits-in-Whole-clause-source : goal.returns-in_err-waits-in-Whole-clause-source
+returns-in_err-waits-in-Whole-clause-source g c =
+    let q = err_from_is_err_and c.from_residual-in_err-waits-in-Whole.result c.from_residual-in_err-waits-in-Whole.ensures.1 in
+    Kept-narrower (not_said _ _ _ Source q.1 q.2 (line-not_source _ c.in_err-waits-in-Whole.ensures.only))
+    (Kept-trans c.loop-line.invariant.source (Kept-calm c.read_line.ensures.kept))
+
+pub returns-in_err-waits-in-Whole-clause-sink : goal.returns-in_err-waits-in-Whole-clause-sink
+returns-in_err-waits-in-Whole-clause-sink g c =
+    let q = err_from_is_err_and c.from_residual-in_err-waits-in-Whole.result c.from_residual-in_err-waits-in-Whole.ensures.1 in
+    Kept-trans c.loop-line.invariant.sink
+    (Kept-narrower (λ e. ap (λ (f : HostFault). Err f) (was_met _ _ _ _ q.1 q.2 e)) c.in_err-waits-in-Whole.ensures.sink)
+
+pub returns-then-waits-clause-hosts : goal.returns-then-waits-clause-hosts
+returns-then-waits-clause-hosts g c =
+    let read = rw c.in-Whole.is at c.in_ok-line.ensures.reads in
+    let runs = c.in_ok-waits-in-Whole.ensures.runs in
+    Hosts-line _ _ _ _ _ _ (told (g.L.Link.waiting c.args.link.now) (g.L.Link.sent c.args.link.now)) _ _ _ _ _ _ _ _ _ _ _ _ _ _ _ _ _ _ c.loop-line.invariant.run read.reads
+    (c.as_slice.ensures.value ∙ read.answers.0) (inl read.answers.1) runs (inr (runs.used c.if-waits.true))
+
+pub returns-then-waits-clause-link : goal.returns-then-waits-clause-link
+returns-then-waits-clause-link g c =
+    Kept-narrower (ok_not _ ClientLink) (Kept-trans c.loop-line.invariant.link (Kept-calm c.run_line.ensures.link))
+
+pub returns-then-waits-clause-source : goal.returns-then-waits-clause-source
+returns-then-waits-clause-source g c =
+    Kept-narrower (ok_not _ Source) (Kept-trans c.loop-line.invariant.source (Kept-calm c.read_line.ensures.kept))
+
+pub returns-then-waits-clause-sink : goal.returns-then-waits-clause-sink
+returns-then-waits-clause-sink g c =
+    Kept-narrower (ok_not _ Sink) (Kept-trans c.loop-line.invariant.sink (Kept-calm c.run_line.ensures.sink))
+
+pub loop-line-preserved : goal.loop-line-preserved
+loop-line-preserved g c =
+    let read = rw c.in-Whole.is at c.in_ok-line.ensures.reads in
+    let runs = c.in_ok-waits-in-Whole.ensures.runs in
+    let turn = some_turn _ _ read.reads.turns_of (some_byte _ read.answers.1) in
+    record {
+      run = HasRun-whole _ _ _ _ _ _ (told (g.L.Link.waiting c.args.link.now) (g.L.Link.sent c.args.link.now)) _ _ _ _ _ _ _ _ _ _ _ _ _ _ _ _ _ _ c.loop-line.invariant.run read.reads
+          (c.as_slice.ensures.value ∙ read.answers.0) read.answers.1 runs c.if-waits.false;
+      sent_few = omega (arith, c.loop-line.invariant.sent_few, c.in_ok-waits-in-Whole.ensures.few, read.reads.counted, turn);
+      few = omega (arith, c.loop-line.invariant.few, read.reads.counted, runs.counted, turn);
+      link = Kept-trans c.loop-line.invariant.link (Kept-calm c.run_line.ensures.link);
+      source = Kept-trans c.loop-line.invariant.source (Kept-calm c.read_line.ensures.kept);
+      sink = Kept-trans c.loop-line.invariant.sink (Kept-calm c.run_line.ensures.sink);
+    }
+
+pub returns-in_err-_waits-in-Last-clause-link : goal.returns-in_err-_waits-in-Last-clause-link
+returns-in_err-_waits-in-Last-clause-link g c =
+    let q = err_from_is_err_and c.from_residual-in_err-_waits-in-Last.result c.from_residual-in_err-_waits-in-Last.ensures.1 in
+    Kept-trans c.loop-line.invariant.link
+    (Kept-narrower (λ e. ap (λ (f : HostFault). Err f) (was_met _ _ _ _ q.1 q.2 e)) c.in_err-_waits-in-Last.ensures.link)
+
+pub returns-in_err-_waits-in-Last-clause-source : goal.returns-in_err-_waits-in-Last-clause-source
+returns-in_err-_waits-in-Last-clause-source g c =
+    let q = err_from_is_err_and c.from_residual-in_err-_waits-in-Last.result c.from_residual-in_err-_waits-in-Last.ensures.1 in
+    Kept-narrower (not_said _ _ _ Source q.1 q.2 (line-not_source _ c.in_err-_waits-in-Last.ensures.only))
+    (Kept-trans c.loop-line.invariant.source (Kept-calm c.read_line.ensures.kept))
+
+pub returns-in_err-_waits-in-Last-clause-sink : goal.returns-in_err-_waits-in-Last-clause-sink
+returns-in_err-_waits-in-Last-clause-sink g c =
+    let q = err_from_is_err_and c.from_residual-in_err-_waits-in-Last.result c.from_residual-in_err-_waits-in-Last.ensures.1 in
+    Kept-trans c.loop-line.invariant.sink
+    (Kept-narrower (λ e. ap (λ (f : HostFault). Err f) (was_met _ _ _ _ q.1 q.2 e)) c.in_err-_waits-in-Last.ensures.sink)
+
+pub returns-in-Last-clause-hosts : goal.returns-in-Last-clause-hosts
+returns-in-Last-clause-hosts g c =
+    let read = rw c.in-Last.is at c.in_ok-line.ensures.reads in
+    let runs = c.in_ok-_waits-in-Last.ensures.runs in
+    Hosts-line _ _ _ _ _ _ (told (g.L.Link.waiting c.args.link.now) (g.L.Link.sent c.args.link.now)) _ _ _ _ _ _ _ _ _ _ _ _ _ _ _ _ _ _ c.loop-line.invariant.run read.reads
+    (c.as_slice-in-Last.ensures.value ∙ read.answers.0) (inr (read.answers.1, read.answers.2)) runs (inl read.answers.3)
+
+pub returns-in-Last-clause-link : goal.returns-in-Last-clause-link
+returns-in-Last-clause-link g c =
+    Kept-narrower (ok_not _ ClientLink) (Kept-trans c.loop-line.invariant.link (Kept-calm c.run_line-in-Last.ensures.link))
+
+pub returns-in-Last-clause-source : goal.returns-in-Last-clause-source
+returns-in-Last-clause-source g c =
+    Kept-narrower (ok_not _ Source) (Kept-trans c.loop-line.invariant.source (Kept-calm c.read_line.ensures.kept))
+
+pub returns-in-Last-clause-sink : goal.returns-in-Last-clause-sink
+returns-in-Last-clause-sink g c =
+    Kept-narrower (ok_not _ Sink) (Kept-trans c.loop-line.invariant.sink (Kept-calm c.run_line-in-Last.ensures.sink))
+
+pub returns-in-Ended-clause-hosts : goal.returns-in-Ended-clause-hosts
+returns-in-Ended-clause-hosts g c =
+    let read = rw c.in-Ended.is at c.in_ok-line.ensures.reads in
+    Hosts-ended _ _ _ _ _ _ _ _ _ _ _ _ _ _ _ _ _ _ c.loop-line.invariant.run read.reads read.answers.0 read.answers.1
+
+pub returns-in-Ended-clause-link : goal.returns-in-Ended-clause-link
+returns-in-Ended-clause-link g c = Kept-narrower (ok_not _ ClientLink) c.loop-line.invariant.link
+
+pub returns-in-Ended-clause-source : goal.returns-in-Ended-clause-source
+returns-in-Ended-clause-source g c =
+    Kept-narrower (ok_not _ Source) (Kept-trans c.loop-line.invariant.source (Kept-calm c.read_line.ensures.kept))
+
+pub returns-in-Ended-clause-sink : goal.returns-in-Ended-clause-sink
+returns-in-Ended-clause-sink g c = Kept-narrower (ok_not _ Sink) c.loop-line.invariant.sink
+
+pub returns-in-OutOfTurns-clause-hosts : goal.returns-in-OutOfTurns-clause-hosts
+returns-in-OutOfTurns-clause-hosts g c =
+    let read = rw c.in-OutOfTurns.is at c.in_ok-line.ensures.reads in
+    Hosts-out _ _ _ _ _ _ _ _ _ _ _ _ _ _ _ _ _ _ c.loop-line.invariant.run read.reads read.answers.0 read.answers.1
+
+pub returns-in-OutOfTurns-clause-link : goal.returns-in-OutOfTurns-clause-link
+returns-in-OutOfTurns-clause-link g c = Kept-narrower (ok_not _ ClientLink) c.loop-line.invariant.link
+
+pub returns-in-OutOfTurns-clause-source : goal.returns-in-OutOfTurns-clause-source
+returns-in-OutOfTurns-clause-source g c =
+    Kept-narrower (ok_not _ Source) (Kept-trans c.loop-line.invariant.source (Kept-calm c.read_line.ensures.kept))
+
+pub returns-in-OutOfTurns-clause-sink : goal.returns-in-OutOfTurns-clause-sink
+returns-in-OutOfTurns-clause-sink g c = Kept-narrower (ok_not _ Sink) c.loop-line.invariant.sink

@@ -1,0 +1,13 @@
+use Rattle.std.proofs.Common.{◌==◌, not, length, rules, tests}
+use Rattle.std.proofs.lemmas.Iterator.Consumers.{map_from_collect, YieldsList-at, YieldsList-from_filter}
+use Rattle.std.proofs.lemmas.Iterator.Splits.{YieldsList-from_slice_split}
+use Rattle.hosting.proofs.tokens.split.Goals as goal
+
+pub returns : goal.returns
+returns c =
+    map_from_collect _ c.collect.ensures.ran
+    (YieldsList-from_filter _ (λ piece. not (length piece == 0))
+    (YieldsList-at c.filter.ensures.source
+    (YieldsList-from_slice_split _ (λ byte. byte == 32) c.args.content.now c.split.ensures.rest c.split.ensures.done c.split.ensures.closure
+    (λ x b q k. search (rules, tests))))
+    c.filter.ensures.closure (λ x b q k. search (rules, tests)))

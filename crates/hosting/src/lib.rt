@@ -1,0 +1,17 @@
+//! Bricks of a layout, hosted by one process, and a client that runs commands over them.
+#![tactic(auto)]
+
+mod answers;
+mod clients;
+mod commands;
+mod faults;
+mod hosts;
+mod reading;
+mod replies;
+mod rounds;
+mod tokens;
+
+pub use commands::{Access, Command, Line, parse};
+pub use faults::HostFault;
+pub use hosts::host;
+pub use rounds::Bricks;
