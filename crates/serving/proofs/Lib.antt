@@ -1,0 +1,9 @@
+mod Carried
+mod DiskKeeping
+mod Doing
+mod Ends
+mod Looks
+mod OneTurn
+mod Runs
+mod Taking
+mod Waiting

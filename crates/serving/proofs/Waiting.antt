@@ -1,0 +1,134 @@
+-- No client waits for a call that was not made yet.
+use Rattle.std.proofs.Common.{◌≡◌, ℕ, ◌+◌, ◌<◌, ◌≤◌, Bool, true, false, if◌then◌else◌, nat_eq, nat_le, List, [], ◌∷◌, Option, Some, None, option_map, refl, sym, ap, ◌∙◌, arith, cond}
+use Rattle.std.proofs.lemmas.Bool.Decides.{nat_tests}
+use Rattle.fab_base.specs.declared.asks.Ask.{Ask}
+use Rattle.fab_base.specs.declared.answers.Refusal.{Refusal}
+use Rattle.fab_base.specs.declared.identities.BrickId.{BrickId}
+use Rattle.fab_base.specs.Layouts.{Group, group_of}
+use Rattle.protocol.specs.Views.{kept_by}
+use Rattle.messages.specs.declared.calls.Call.{Call}
+use Rattle.messages.specs.declared.packets.Message.{Message}
+use Rattle.messages.specs.declared.packets.Message.TheVariants as message
+use Rattle.messages.specs.declared.requests.Request.{Request}
+use Rattle.messages.specs.declared.replies.Reply.{Reply}
+use Rattle.protocol.specs.declared.tellings.Answered.{Answered}
+use Rattle.protocol.specs.Coordinators.{Coordinator, Next, Ignores, Waits, Sends, Makes, Ends, on_reply}
+use Rattle.protocol.specs.Nodes.{Node, put, group_at, seat_served, requested_at, requested_in, requested, known_after, fresh_stamp, carried_out, replied_at, replied, received, began, invoked, refusal_in, refusal_of, ticked}
+use Rattle.protocol.specs.Settings.{Setting}
+use Rattle.serving.specs.declared.clients.Client.{Client}
+use Rattle.serving.specs.declared.incomings.Incoming.{Incoming}
+use Rattle.serving.specs.declared.incomings.Incoming.TheVariants.{Nothing, Malformed, Dropped, Handed, Asked}
+use Rattle.serving.specs.Ports.{ports_of}
+use Rattle.serving.specs.Servings.{Serving, HasNoClient, Served, served, asked_by, idle, to_ports, still_waiting}
+
+-- a message makes a brick make no call
+requested_at-seq : (setting : Setting) (m : ℕ) (me from : BrickId) (node : Node) (call : Call) (request : Request) (seat : Option ℕ)
+    → (requested_at setting m me from node call request seat).node.seq ≡ node.seq
+requested_at-seq setting m me from node call request None = refl
+requested_at-seq setting m me from node call request (Some seat) = refl
+
+requested_in-seq : (setting : Setting) (me from : BrickId) (node : Node) (call : Call) (request : Request) (group : Option Group)
+    → (requested_in setting me from node call request group).node.seq ≡ node.seq
+requested_in-seq setting me from node call request None = refl
+requested_in-seq setting me from node call request (Some group) =
+    requested_at-seq setting group.m me from node call request (seat_served setting.layout me node call request group)
+
+carried_out-seq : (setting : Setting) (me : BrickId) (node : Node) (known : ℕ) (c : Coordinator) (next : Next)
+    → (carried_out setting me node known c next).node.seq ≡ node.seq
+carried_out-seq setting me node known c Ignores = refl
+carried_out-seq setting me node known c (Waits d) = refl
+carried_out-seq setting me node known c (Sends d) = refl
+carried_out-seq setting me node known c (Makes d) = refl
+carried_out-seq setting me node known c (Ends answer seen stored) = refl
+
+replied_at-seq : (setting : Setting) (me : BrickId) (now : ℕ) (from : BrickId) (node : Node) (call : Call) (reply : Reply) (found : Option Coordinator)
+    → (replied_at setting me now from node call reply found).node.seq ≡ node.seq
+replied_at-seq setting me now from node call reply None = refl
+replied_at-seq setting me now from node call reply (Some c) =
+    carried_out-seq setting me node (known_after node.known reply) c
+    (on_reply setting.layout.block setting.code (fresh_stamp me c.call.view now node.boot (known_after node.known reply)) c from call reply)
+
+received-seq : (setting : Setting) (me : BrickId) (now : ℕ) (node : Node) (from to : BrickId) (said : Message)
+    → (received setting me now node (record { from = from; to = to; message = said })).node.seq ≡ node.seq
+unfolding received requested replied
+received-seq setting me now node from to (message.Request call request) =
+    requested_in-seq setting me from node call request (group_at setting.layout node call.group.0)
+received-seq setting me now node from to (message.Reply call reply) = replied_at-seq setting me now from node call reply (node.calls call.seq)
+received-seq setting me now node from to (message.Learn group view) = refl
+received-seq setting me now node from to (message.Synced group view) = refl
+received-seq setting me now node from to (message.Client ask) = refl
+received-seq setting me now node from to (message.ClientReply id answer) = refl
+
+-- an invocation makes it make one call at most
+began-seq : (setting : Setting) (me : BrickId) (now : ℕ) (node : Node) (ask : Ask) (group : Option Group)
+    → node.seq ≤ (began setting me now node ask group).node.seq
+began-seq setting me now node ask None = omega arith
+began-seq setting me now node ask (Some group) = omega arith
+
+invoked-seq : (setting : Setting) (me : BrickId) (now : ℕ) (node : Node) (ask : Ask) → node.seq ≤ (invoked setting me now node ask).node.seq
+unfolding invoked
+invoked-seq setting me now node ask = began-seq setting me now node ask (group_at setting.layout node ask.group.0)
+
+-- and one that is not refused makes it make its next call
+refused_nowhere : (setting : Setting) (me : BrickId) (now : ℕ) (node : Node) (ask : Ask) (group : Option Group)
+    → refusal_in setting.layout.block node ask group ≡ None
+    → (began setting me now node ask (option_map (kept_by (node.learnt ask.group.0).view.members) group)).node.seq ≡ node.seq + 1
+refused_nowhere setting me now node ask None is = absurd (let never : Some Refusal.NoStripe ≡ None = is in cc)
+refused_nowhere setting me now node ask (Some group) is = refl
+
+pub invoked-next : (setting : Setting) (me : BrickId) (now : ℕ) (node : Node) (ask : Ask) → refusal_of setting.layout node ask ≡ None
+    → (invoked setting me now node ask).node.seq ≡ node.seq + 1
+unfolding refusal_of invoked
+invoked-next setting me now node ask is = refused_nowhere setting me now node ask (group_of setting.layout ask.group.0) is
+
+-- a value that is there at no number is not there once one is taken away
+put-none : (waiting : ℕ → Option Client) (seq k : ℕ) (b : Bool) → waiting k ≡ None → cond b None (waiting k) ≡ None
+put-none waiting seq k true none = refl
+put-none waiting seq k false none = none
+
+still_waiting-none : (answers : List Answered) (waiting : ℕ → Option Client) (k : ℕ) → waiting k ≡ None → still_waiting waiting answers k ≡ None
+still_waiting-none [] waiting k none = none
+still_waiting-none (answered ∷ more) waiting k none =
+    still_waiting-none more (put waiting answered.seq None) k (put-none waiting answered.seq k (nat_eq k answered.seq) none)
+
+-- another number's value stays
+put-other : (waiting : ℕ → Option Client) (seq k : ℕ) (client : Option Client) → seq < k → waiting k ≡ None → put waiting seq client k ≡ None
+put-other waiting seq k client above none =
+    let apart : nat_eq k seq ≡ false = grind (arith, nat_tests) in
+    ap (λ (b : Bool). if b then client else waiting k) apart ∙ none
+
+-- of two that keep it so either does
+either : (b : Bool) (x y : Served) → HasNoClient x.serving → HasNoClient y.serving → HasNoClient (if b then x else y).serving
+either true x y p q = p
+either false x y p q = q
+
+-- a turn keeps it so
+asked-keeps : (setting : Setting) (me : BrickId) (serving : Serving) (now : ℕ) (client : Client) (ask : Ask) (refusal : Option Refusal) → HasNoClient serving
+    → HasNoClient (asked_by (ports_of setting.layout) serving client (invoked setting me now serving.node ask) refusal).serving
+asked-keeps setting me serving now client ask None none = λ k above.
+    let more = invoked-seq setting me now serving.node ask in
+    put-other serving.waiting (invoked setting me now serving.node ask).node.seq k (Some client) above (none k (omega arith))
+asked-keeps setting me serving now client ask (Some reason) none = none
+
+pub served-keeps : (setting : Setting) (me : BrickId) (serving : Serving) (incoming : Incoming) (now : ℕ) → HasNoClient serving
+    → HasNoClient (served setting me serving incoming now).serving
+unfolding served
+served-keeps setting me serving Nothing now none =
+    either (nat_le (serving.ticked + 100) now)
+    (record { serving = record serving { ticked = now }; sends = to_ports (ports_of setting.layout) (ticked setting me serving.node) }) (idle serving) none none
+served-keeps setting me serving Malformed now none = none
+served-keeps setting me serving Dropped now none = none
+served-keeps setting me serving (Handed packet) now none = λ k above.
+    still_waiting-none (received setting me now serving.node packet).answers serving.waiting k
+    (none k (let same = received-seq setting me now serving.node packet.from packet.to packet.message in omega (arith, same)))
+served-keeps setting me serving (Asked client ask) now none =
+    asked-keeps setting me serving now client ask (refusal_of setting.layout serving.node ask) none
+
+-- a client that is there no more was never there
+back_at : (b : Bool) (o v : Option Client) → (b ≡ true → o ≡ None) → (if b then None else (if b then v else o)) ≡ o
+back_at true o v none = sym (none refl)
+back_at false o v none = refl
+
+pub put-back : (waiting : ℕ → Option Client) (seq : ℕ) (client : Option Client) → waiting seq ≡ None → put (put waiting seq client) seq None ≡ waiting
+put-back waiting seq client none = λ i k.
+    back_at (nat_eq k seq) (waiting k) client (λ e. let same : k ≡ seq = grind (arith, nat_tests) in ap waiting same ∙ none) i

@@ -1,0 +1,12 @@
+pub mod Ports
+pub mod Spellings
+pub mod Faults
+pub mod Incomings
+pub mod Clients
+pub mod Servings
+pub mod Servers
+pub mod Views
+pub mod Datagrams
+pub mod Turns
+pub mod Serves
+pub mod Sending

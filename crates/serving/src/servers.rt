@@ -1,0 +1,102 @@
+//! What a serving brick knows beside its node, and whom it answers.
+
+ghost use Rattle.std.specs.Prelude.{◌≡◌, ◌∷◌, [], ◌++◌, None, IfErr, OnOk, OnErr, MatchResult, option_to_list};
+ghost use Rattle.fab_io.specs.Ends.{Kept};
+ghost use Rattle.fab_io.specs.Datagrams.{Stays, Grows};
+ghost use Rattle.serving.specs.Clients.{waiting_in};
+ghost use Rattle.serving.specs.Datagrams.{datagrams_of, GrowsFront};
+ghost use Rattle.serving.specs.Faults.{AtLink};
+ghost use Rattle.serving.specs.Sending.{addressed, replies};
+ghost use Rattle.serving.specs.Servers.{KeepsAllButClients};
+ghost use Rattle.serving.specs.Servings.{answer_to, answers_for, still_waiting};
+
+use crate::clients::{Client, Clients};
+use crate::faults::ServeFault;
+use crate::ports::Ports;
+use crate::sending::{send, send_all};
+use fab_base::{Answer, BrickId};
+use fab_io::Link;
+use messages::{ClientAnswer, Message};
+use protocol::Answered;
+use std::alloc::Global;
+
+/// What a serving brick knows beside its node.
+#[derive(Drop)]
+pub(crate) struct Server {
+    pub(crate) alloc: Global,
+    pub(crate) ports: Ports,
+    pub(crate) me: BrickId,
+    pub(crate) clients: Clients,
+    /// The moment of the last tick, 0 before the first.
+    pub(crate) ticked: u64,
+}
+
+impl Server {
+    /// A brick of this number begins to serve: no client waits, and no tick was.
+    pub(crate) fn new(alloc: Global, ports: Ports, me: BrickId) -> Server
+        ensures ports { result.ports ≡ ports }
+        ensures me { result.me ≡ me }
+        ensures clients { waiting_in result.clients ≡ (λ seq. None) }
+        ensures ticked { result.ticked ≡ 0 }
+    {
+        Server {
+            alloc,
+            ports,
+            me,
+            clients: Clients::new(alloc),
+            ticked: 0,
+        }
+    }
+
+    /// The client that waits for an answer, if one does, with the answer; it waits no more.
+    pub(crate) fn reply_to(&mut self, answer: Option<Answered>) -> Option<(Client, Answer)>
+        ensures reply { replies result ≡ answers_for (waiting_in self.old.clients) (option_to_list answer) }
+        ensures clients { waiting_in self.new.clients ≡ still_waiting (waiting_in self.old.clients) (option_to_list answer) }
+        ensures same { KeepsAllButClients self.old self.new }
+    {
+        let Answered { seq, answer } = answer?;
+        let client = self.clients.take(seq)?;
+        Some((client, answer))
+    }
+
+    /// Sends an answer to a client.
+    pub(crate) fn send_answer<L: Link>(
+        &self,
+        link: &mut L,
+        client: Client,
+        answer: ClientAnswer,
+    ) -> Result<(), ServeFault>
+        ensures waiting { Stays (L.waiting link.old) (L.waiting link.new) }
+        ensures sent { MatchResult result (λ _. Grows (L.sent link.old) (L.sent link.new) (datagrams_of (answer_to client answer ∷ [])))
+            (λ _. Stays (L.sent link.old) (L.sent link.new)) }
+        ensures only { IfErr result AtLink }
+        ensures kept { Kept (L.faults link.old) (L.faults link.new) (L.sound link.old) (L.sound link.new) (result ≡ Err ServeFault.Link) }
+    {
+        let reply = Message::ClientReply {
+            id: client.id,
+            answer,
+        };
+        send(self.alloc, link, u32::from(client.port), &reply)
+    }
+
+    /// Sends the messages of a step, and then the answer for a client, if one is answered.
+    pub(crate) fn send_step<L: Link>(
+        &self,
+        link: &mut L,
+        messages: &[(BrickId, Message)],
+        reply: Option<(Client, Answer)>,
+    ) -> Result<(), ServeFault>
+        ensures waiting { Stays (L.waiting link.old) (L.waiting link.new) }
+        ensures sent { OnOk result (Grows (L.sent link.old) (L.sent link.new) (datagrams_of (addressed self.now.ports messages.now ++ replies reply))) }
+        ensures front { OnErr result (GrowsFront (L.sent link.old) (L.sent link.new)
+            (datagrams_of (addressed self.now.ports messages.now ++ replies reply))) }
+        ensures only { IfErr result AtLink }
+        ensures kept { Kept (L.faults link.old) (L.faults link.new) (L.sound link.old) (L.sound link.new) (result ≡ Err ServeFault.Link) }
+    {
+        send_all(self.alloc, link, self.ports, messages)?;
+        match reply {
+            Some((client, answer)) => self.send_answer(link, client, ClientAnswer::Ended(answer)),
+            None => Ok(()),
+        }
+    }
+}
