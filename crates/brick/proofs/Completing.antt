@@ -1,19 +1,15 @@
 -- Over a host that holds what the words want, a store is made, or memory was lacking.
-use Rattle.std.proofs.Common.{◌≡◌, ◌≢◌, ℕ, ◌<◌, Bool, true, false, List, length, Option, Some, None, IfSome, Result, Ok, Err, inl, inr, refl, sym, ap, ◌∙◌, subst, arith, lt-ltb}
+use Rattle.std.proofs.Common.{◌≡◌, ℕ, ◌<◌, false, List, Option, Some, None, IfSome, Result, Ok, Err, inl, inr, sym, ap, ◌∙◌, subst, lt-ltb}
 use Rattle.std.proofs.lemmas.Bool.{cases_Bool}
 use Rattle.std.proofs.lemmas.Slice.Eq.{bytes_eq-Decides}
 use Rattle.std.specs.Str.{bytes_eq}
-use Rattle.fab_base.specs.declared.identities.BrickId.{BrickId}
 use Rattle.fab_base.specs.Layouts.{Layout}
-use Rattle.layout.specs.declared.faults.LayoutFault.{LayoutFault}
 use Rattle.layout.specs.Texts.{layout_of}
 use Rattle.fab_host.specs.Held.{Held, absent, here, IsMissing}
 use Rattle.fab_host.specs.Holdings.{Holdings, IsFree}
 use Rattle.fab_host.specs.Opening.{WhereTold}
-use Rattle.brick.specs.declared.endings.Ending.{Ending}
-use Rattle.brick.specs.declared.endings.Ending.TheVariants.{Formatted, Usage, BadLayout, LongLayout, Source, Memory, Disk, Host}
 use Rattle.brick.specs.Bricks.{MayRun}
-use Rattle.brick.specs.Formats.{Says, Gives, ReadsSource, FindsLayout, brick_of, MakesStore, MayFormat, IsMade}
+use Rattle.brick.specs.Formats.{Says, ReadsSource, brick_of, MayFormat}
 use Rattle.brick.specs.Hosts.{HostSeen, Told, ReturnsSource}
 use Rattle.brick.specs.Words.{Format}
 
@@ -82,57 +78,3 @@ pub not_refused : {S D L C : Type 0} (told : S → Option (List ℕ)) (failed : 
     → brick_of layout id ≡ None → ⊥
 not_refused told failed before after source disk id layout r m none =
     brick_found layout id (may_go_on told before.holds after.holds source disk id layout r.opened r.back r.asks.told r.gives m).0 none
-
--- the text of the source is a layout
-pub is_layout : {S D L C : Type 0} (told : S → Option (List ℕ)) (holds now : Option (Holdings S D L C)) (source disk : List ℕ) (id : ℕ)
-    (opened back : S) (P : List ℕ → Type 0) → ((text : List ℕ) (layout : Layout) → Says (Ok layout) text → P text → ⊥)
-    → Told holds now (ReturnsSource source opened back) → IfSome (told opened) P → MayRun told holds (Some (Format source disk id)) → ⊥
-is_layout told None now source disk id opened back P other returns said m = absurd m
-is_layout told (Some h) None source disk id opened back P other returns said m = absurd returns
-is_layout told (Some h) (Some n) source disk id opened back P other r said m =
-    other m.text m.layout m.says (says_of told h n source disk id opened back P r m said)
-
--- the source is there
-is_there : {S D L C : Type 0} (told : S → Option (List ℕ)) (holds : Option (Holdings S D L C)) (source disk : List ℕ) (id : ℕ)
-    → WhereTold holds (λ h. IsMissing (h.sources source)) → MayRun told holds (Some (Format source disk id)) → ⊥
-is_there told None source disk id missing m = absurd m
-is_there told (Some h) source disk id missing m = here_missing (h.sources source) m.opened m.held missing
-
--- no layout was found only where memory was lacking
-pub found_or_memory : {S D L C : Type 0} (told : S → Option (List ℕ)) (failed : S → ℕ) (before after : HostSeen S D L C) (source disk : List ℕ) (id : ℕ)
-    (ending : Ending) → FindsLayout told failed before after source (Err ending) → (ending ≡ Source → ⊥)
-    → (ending ≡ Host → WhereTold before.holds (λ h. IsMissing (h.sources source))) → MayRun told before.holds (Some (Format source disk id)) → IsMade ending
-found_or_memory told failed before after source disk id (Formatted me) f no_source host m = tt
-found_or_memory told failed before after source disk id Usage f no_source host m = absurd f.gives
-found_or_memory told failed before after source disk id (BadLayout fault) f no_source host m =
-    absurd (is_layout told before.holds after.holds source disk id f.opened f.back (Says (Err fault))
-    (λ text layout is not. ok_err (layout_of text) layout fault is.1 not.1) f.asks.told f.gives.1 m)
-found_or_memory told failed before after source disk id LongLayout f no_source host m =
-    absurd (is_layout told before.holds after.holds source disk id f.opened f.back (λ text. 1048576 < length text)
-    (λ text layout is not. omega (arith, is.0, not)) f.asks.told f.gives m)
-found_or_memory told failed before after source disk id Source f no_source host m = absurd (no_source refl)
-found_or_memory told failed before after source disk id Memory f no_source host m = tt
-found_or_memory told failed before after source disk id Disk f no_source host m = absurd f.gives
-found_or_memory told failed before after source disk id Host f no_source host m =
-    absurd (is_there told before.holds source disk id (host refl) m)
-
--- the name of the disk is not taken
-pub not_free : {S D L C : Type 0} (told : S → Option (List ℕ)) (holds now : Option (Holdings S D L C)) (source disk : List ℕ) (id : ℕ) (layout : Layout)
-    (opened back : S) → Told holds now (ReturnsSource source opened back) → IfSome (told opened) (Says (Ok layout))
-    → MayRun told holds (Some (Format source disk id)) → WhereTold now (λ h. ¬ (IsFree h disk)) → ⊥
-not_free told None now source disk id layout opened back returns said m taken = absurd m
-not_free told (Some h) None source disk id layout opened back returns said m taken = absurd returns
-not_free told (Some h) (Some n) source disk id layout opened back r said m taken = taken (free_still told h n source disk id opened back r m)
-
--- a store is made, or memory was lacking
-pub made_or_memory : {S D L C : Type 0} (tells : Type 0) (seen : D → List ℕ) (may_leave : D → List ℕ → Type 0) (failed : D → ℕ) (layout : Layout)
-    (me : BrickId) (before after : HostSeen S D L C) (name : List ℕ) (ending : Ending)
-    → MakesStore tells seen may_leave failed layout me before after name ending → (ending ≡ Disk → ⊥) → (ending ≡ Host → ⊥) → IsMade ending
-made_or_memory tells seen may_leave failed layout me before after name (Formatted made) f no_disk no_host = tt
-made_or_memory tells seen may_leave failed layout me before after name Usage f no_disk no_host = absurd f
-made_or_memory tells seen may_leave failed layout me before after name (BadLayout fault) f no_disk no_host = absurd f
-made_or_memory tells seen may_leave failed layout me before after name LongLayout f no_disk no_host = absurd f
-made_or_memory tells seen may_leave failed layout me before after name Source f no_disk no_host = absurd f
-made_or_memory tells seen may_leave failed layout me before after name Memory f no_disk no_host = tt
-made_or_memory tells seen may_leave failed layout me before after name Disk f no_disk no_host = absurd (no_disk refl)
-made_or_memory tells seen may_leave failed layout me before after name Host f no_disk no_host = absurd (no_host refl)

@@ -1,6 +1,5 @@
 -- What a host holds after a thing was opened and given back.
-use Rattle.std.proofs.Common.{◌≡◌, ℕ, false, true, List, Option, Some, None, Ok, Err, refl, sym, ap, ◌∙◌}
-use Rattle.std.specs.Prelude.{Result}
+use Rattle.std.proofs.Common.{◌≡◌, ℕ, false, List, Option, Some, None, Ok, refl, ap, ◌∙◌}
 use Rattle.std.specs.Str.{bytes_eq}
 use Rattle.fab_host.specs.Held.{Held, lent, here, at_name}
 use Rattle.fab_host.specs.Holdings.{Holdings, with_source, with_disk, IsFree}

@@ -1,5 +1,5 @@
 -- Which calls were asked of a host, by how a program ended.
-use Rattle.std.proofs.Common.{◌≡◌, ◌⊎◌, ℕ, ◌<◌, arith, true, List, [], ◌∷◌, ◌++◌, Option, Some, None, Result, Ok, Err, inl, inr, refl, sym, ap, ◌∙◌, append-nil, append_assoc, take}
+use Rattle.std.proofs.Common.{◌≡◌, ℕ, ◌<◌, arith, true, List, [], ◌∷◌, ◌++◌, Option, Some, None, Err, inl, inr, refl, sym, ap, ◌∙◌, append-nil, append_assoc, take}
 use Rattle.fab_base.specs.declared.identities.BrickId.{BrickId}
 use Rattle.fab_base.specs.Layouts.{Layout}
 use Rattle.fab_host.specs.declared.hosts.Asked.{Asked}
@@ -8,7 +8,7 @@ use Rattle.brick.specs.declared.endings.Ending.{Ending}
 use Rattle.brick.specs.declared.endings.Ending.TheVariants.{Formatted, Usage, BadLayout, LongLayout, Source, Memory, Disk, Host}
 use Rattle.brick.specs.Bricks.{AsksInOrder, calls_of}
 use Rattle.brick.specs.Endings.{status_of, Prints}
-use Rattle.brick.specs.Formats.{ReadsSource, FindsLayout, FormatsBrick, MakesStore, FormatEnds, FormatsOver, brick_of}
+use Rattle.brick.specs.Formats.{FindsLayout, FormatsBrick, MakesStore, FormatEnds, brick_of}
 use Rattle.brick.specs.Hosts.{HostSeen}
 use Rattle.brick.specs.Words.{Format}
 

@@ -1,5 +1,5 @@
 -- The words of a command line, by their places.
-use Rattle.std.proofs.Common.{◌≡◌, ◌≢◌, ℕ, true, false, List, [], ◌∷◌, length, map, get_or, codes, None, refl, sym, arith}
+use Rattle.std.proofs.Common.{◌≡◌, ◌≢◌, ℕ, true, false, List, [], ◌∷◌, length, map, get_or, codes, None, refl, arith}
 use Rattle.std.specs.Str.{bytes_eq}
 use Rattle.brick.specs.Words.{command_of, wants_format}
 

@@ -2,7 +2,7 @@
 use Rattle.std.specs.Prelude.{◌≡◌, ℕ, false, List, [], ◌∷◌, ◌++◌, ⊤, Option, Some, None}
 use Rattle.std.specs.Str.{bytes_eq}
 use Rattle.fab_host.specs.declared.hosts.Asked.{Asked}
-use Rattle.fab_host.specs.Held.{Held, here}
+use Rattle.fab_host.specs.Held.{here}
 use Rattle.fab_host.specs.Holdings.{Holdings, IsFree}
 
 -- what is seen of a host: the calls that were asked of it, and what it holds, where it tells that

@@ -1,5 +1,5 @@
 -- What the words of a command line ask for.
-use Rattle.std.specs.Prelude.{ℕ, nat_eq, not, ◌&&◌, Bool, if◌then◌else◌, List, [], ◌∷◌, codes, Option, Some, None, option_map}
+use Rattle.std.specs.Prelude.{ℕ, nat_eq, not, ◌&&◌, Bool, if◌then◌else◌, List, [], ◌∷◌, codes, Option, None, option_map}
 use Rattle.std.specs.List.{starts_with}
 use Rattle.std.specs.Str.{bytes_eq}
 use Rattle.lines.specs.Tokens.{number}

@@ -77,7 +77,8 @@ impl Ending {
 }
 
 /// The usage line.
-const USAGE: &str = "usage: brick format LAYOUT DISK ID | serve LAYOUT DISK ID TURNS | local LAYOUT PREFIX TURNS\n";
+const USAGE: &str =
+    "usage: brick format LAYOUT DISK ID | serve LAYOUT DISK ID TURNS | local LAYOUT PREFIX TURNS\n";
 
 /// Writes the last text of a program that ends so, and answers its exit status: 6 where the sink fails, 7 where no memory is left.
 pub(crate) fn finish<K: Sink>(alloc: Global, out: &mut K, ending: &Ending) -> u8

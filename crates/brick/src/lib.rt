@@ -1,4 +1,4 @@
-//! The program `brick`: makes the store of a brick.
+//! The program `brick`, over a host that opens what it uses: `brick format` makes the store of a brick.
 #![tactic(auto)]
 
 mod endings;

@@ -14,6 +14,24 @@ use fab_io::Sink;
 use std::alloc::Global;
 
 /// Runs the program `brick` with these words (its own name left out), and answers its exit status.
+///
+/// `format LAYOUT DISK ID` makes the empty store of brick ID on a fresh disk. LAYOUT names a source all of whose text is the layout,
+/// DISK the disk; neither begins with `-`. ID is 1 to 20 decimal digits. The words `serve` and `local` are not built yet, and are of no form.
+///
+/// | status | when | printed |
+/// |---|---|---|
+/// | 0 | the store was made | `formatted ID` |
+/// | 2 | the words are of no form, or the layout has no brick ID | the usage line |
+/// | 3 | the source's text is no layout, or is past 1,048,576 bytes | `bad layout: toml`, `bad layout: field NAME`, `bad layout: limit NAME` |
+/// | 5 | the source failed | nothing |
+/// | 6 | the sink failed | some of the text of the status that was due, from its front |
+/// | 7 | no memory was left | nothing |
+/// | 9 | the disk failed | `disk` |
+/// | 10 | the host failed: there is no such source, or the name of the disk is taken | `host` |
+///
+/// The host is asked for the source and then for the disk, each once, and is given back each before the end, at every status. What is told
+/// of a source and a disk is told of what was opened and what was given back; over a host that tells nothing of what it holds, the clauses do
+/// not tie them to its names.
 pub fn brick<H: Host, K: Sink>(alloc: Global, words: &[String], host: &mut H, out: &mut K) -> u8
     // Words of no form: the host is asked nothing.
     ensures words { command_of (map string_bytes words.now) ≡ None → host.new ≡ host.old }

@@ -8,7 +8,7 @@ use Rattle.brick.proofs.layout_texts.find_layout.Goals as goal
 pub returns-clause-found : goal.returns-clause-found
 returns-clause-found g c =
     let read : ReadsSource g.H.Source.Source.told g.H.Source.Source.faults (host_seen (g.H.Host.asked c.args.host.now) (g.H.Host.holds c.args.host.now))
-        (host_seen (g.H.Host.asked c.keep_source.new.self) (g.H.Host.holds c.keep_source.new.self)) c.args.name.now c.read_layout-found.result = record {
+    (host_seen (g.H.Host.asked c.keep_source.new.self) (g.H.Host.holds c.keep_source.new.self)) c.args.name.now c.read_layout-found.result = record {
       opened = c.in-Ok.source;
       back = c.read_layout-found.new.source;
       asks = record {

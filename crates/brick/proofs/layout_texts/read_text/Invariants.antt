@@ -1,4 +1,4 @@
-use Rattle.std.proofs.Common.{◌≡◌, ◌≤◌, length}
+use Rattle.std.proofs.Common.{◌≤◌, length}
 use Rattle.std.specs.Io.KnownBytes.{Consumes}
 use Rattle.fab_io.specs.Ends.{Kept}
 use Rattle.brick.specs.Formats.{most_layout_bytes}
