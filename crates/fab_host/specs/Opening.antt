@@ -5,14 +5,16 @@ use Rattle.fab_disk.specs.Disk.{Only}
 
 -- a call that opens lent a thing that was here, or made one where it might, and at `Err` changed nothing
 abbrev pub Lends : {H T E : Type 0} → Option H → Option H → (H → T → Type 0) → (H → H) → Result T E → Type 0
-Lends None after gives lent_by r = ⊤
+Lends None None gives lent_by r = ⊤
+Lends None (Some after) gives lent_by r = ⊥
 Lends (Some h) None gives lent_by r = ⊥
 Lends (Some h) (Some after) gives lent_by (Ok thing) = gives h thing × (after ≡ lent_by h)
 Lends (Some h) (Some after) gives lent_by (Err fault) = after ≡ h
 
 -- a call that gives back changed what is held in this way
 abbrev pub Regains : {H : Type 0} → Option H → Option H → (H → H) → Type 0
-Regains None after kept_by = ⊤
+Regains None None kept_by = ⊤
+Regains None (Some after) kept_by = ⊥
 Regains (Some h) None kept_by = ⊥
 Regains (Some h) (Some after) kept_by = after ≡ kept_by h
 

@@ -1,0 +1,5 @@
+mod Hosts
+mod Places
+mod Found
+mod Completing
+mod InOrder

@@ -1,0 +1,52 @@
+-- What a program asked of its host, and what it gave back.
+use Rattle.std.specs.Prelude.{◌≡◌, ℕ, false, List, [], ◌∷◌, ◌++◌, ⊤, Option, Some, None}
+use Rattle.std.specs.Str.{bytes_eq}
+use Rattle.fab_host.specs.declared.hosts.Asked.{Asked}
+use Rattle.fab_host.specs.Held.{here}
+use Rattle.fab_host.specs.Holdings.{Holdings, IsFree}
+
+-- what is seen of a host: the calls that were asked of it, and what it holds, where it tells that
+pub record HostSeen (S D L C : Type 0) : Type 0 where
+  pub asked : List Asked
+  pub holds : Option (Holdings S D L C)
+
+abbrev pub host_seen : {S D L C : Type 0} → List Asked → Option (Holdings S D L C) → HostSeen S D L C
+host_seen asked holds = record { asked = asked; holds = holds }
+
+-- this is so of what a host held and of what it holds now, where it tells that
+abbrev pub Told : {H : Type 0} → Option H → Option H → (H → H → Type 0) → Type 0
+Told None None P = ⊤
+Told None (Some now) P = ⊥
+Told (Some h) None P = ⊥
+Told (Some h) (Some now) P = P h now
+
+-- no call was asked, and the same is held
+abbrev pub IsUnasked : {S D L C : Type 0} → HostSeen S D L C → HostSeen S D L C → Type 0
+IsUnasked before after = (after.asked ≡ before.asked) × Told before.holds after.holds (λ h now. now ≡ h)
+
+-- this call alone was asked, and this is so of what is held
+pub record AsksOnly {S D L C : Type 0} (before after : HostSeen S D L C) (call : Asked) (P : Holdings S D L C → Holdings S D L C → Type 0) : Type 0 where
+  pub asked : after.asked ≡ before.asked ++ call ∷ []
+  pub told : Told before.holds after.holds P
+
+-- the call failed: the same is held
+abbrev pub AsksInVain : {S D L C : Type 0} → HostSeen S D L C → HostSeen S D L C → Asked → Type 0
+AsksInVain before after call = AsksOnly before after call (λ h now. now ≡ h)
+
+-- The source of this name was opened, and given back as it is now. All else is as it was.
+pub record ReturnsSource {S D L C : Type 0} (name : List ℕ) (opened back : S) (h now : Holdings S D L C) : Type 0 where
+  pub was : h.sources name ≡ here opened
+  pub is : now.sources name ≡ here back
+  pub others : (other : List ℕ) → bytes_eq name other ≡ false → now.sources other ≡ h.sources other
+  pub disks : now.disks ≡ h.disks
+  pub links : now.links ≡ h.links
+  pub clock : now.clock ≡ h.clock
+
+-- A disk of this name, which was free, was made, and given back as it is now. All else is as it was.
+pub record ReturnsFresh {S D L C : Type 0} (name : List ℕ) (back : D) (h now : Holdings S D L C) : Type 0 where
+  pub was_free : IsFree h name
+  pub is : now.disks name ≡ here back
+  pub others : (other : List ℕ) → bytes_eq name other ≡ false → now.disks other ≡ h.disks other
+  pub sources : now.sources ≡ h.sources
+  pub links : now.links ≡ h.links
+  pub clock : now.clock ≡ h.clock

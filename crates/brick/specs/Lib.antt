@@ -1,0 +1,5 @@
+pub mod Words
+pub mod Endings
+pub mod Hosts
+pub mod Formats
+pub mod Bricks

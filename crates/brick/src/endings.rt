@@ -1,0 +1,106 @@
+//! How the program ends.
+
+ghost use Rattle.std.specs.Prelude.{◌≡◌, ◌≢◌, IfOk, string_bytes};
+ghost use Rattle.std.specs.Io.KnownBytes.{Keeps};
+ghost use Rattle.fab_io.specs.Ends.{Kept, WriteTakes};
+ghost use Rattle.brick.specs.Endings.{status_of, text_of, Prints};
+
+use fab_base::BrickId;
+use fab_io::{IoFault, Sink};
+use layout::LayoutFault;
+use std::alloc::{AllocError, Global};
+
+/// How the program ends, but for a sink that fails at its last text.
+#[derive(Drop)]
+pub enum Ending {
+    /// The store of this brick was made.
+    Formatted(BrickId),
+    /// The words are of no form, or the layout has no brick of this number.
+    Usage,
+    /// The source's text is no layout.
+    BadLayout(LayoutFault),
+    /// The source has more bytes than a layout may.
+    LongLayout,
+    /// The source failed.
+    Source,
+    /// No memory was left.
+    Memory,
+    /// The disk failed.
+    Disk,
+    /// The host failed.
+    Host,
+}
+
+impl From<AllocError> for Ending {
+    ghost use Rattle.brick.specs.declared.endings.Ending.TheVariants.{Memory};
+
+    ghost from_gives = { λ _ ending. ending ≡ Memory };
+
+    fn from(_error: AllocError) -> Ending {
+        Ending::Memory
+    }
+}
+
+impl Ending {
+    /// The exit status.
+    fn status(&self) -> u8
+        ensures { result ≡ status_of self.now }
+    {
+        match self {
+            Ending::Formatted(_) => 0,
+            Ending::Usage => 2,
+            Ending::BadLayout(_) | Ending::LongLayout => 3,
+            Ending::Source => 5,
+            Ending::Memory => 7,
+            Ending::Disk => 9,
+            Ending::Host => 10,
+        }
+    }
+
+    /// The last text; an empty one is not printed.
+    fn text(&self, alloc: Global) -> Result<String, AllocError>
+        ensures { IfOk result (λ text. string_bytes text ≡ text_of self.now) }
+    {
+        match self {
+            Ending::Formatted(me) => {
+                let id = me.0;
+                Ok(format!(in alloc; "formatted {id}\n")?)
+            }
+            Ending::BadLayout(fault) => Ok(format!(in alloc; "bad layout: {fault}\n")?),
+            Ending::Usage => Ok(String::from_str(alloc, USAGE)?),
+            Ending::LongLayout => Ok(String::from_str(alloc, "bad layout: limit layout\n")?),
+            Ending::Disk => Ok(String::from_str(alloc, "disk\n")?),
+            Ending::Host => Ok(String::from_str(alloc, "host\n")?),
+            Ending::Source | Ending::Memory => Ok(String::new(alloc)),
+        }
+    }
+}
+
+/// The usage line.
+const USAGE: &str =
+    "usage: brick format LAYOUT DISK ID | serve LAYOUT DISK ID TURNS | local LAYOUT PREFIX TURNS\n";
+
+/// Writes the last text of a program that ends so, and answers its exit status: 6 where the sink fails, 7 where no memory is left.
+pub(crate) fn finish<K: Sink>(alloc: Global, out: &mut K, ending: &Ending) -> u8
+    ensures printed { Prints (K.told out.old) (K.told out.new) (text_of ending.now) (status_of ending.now) result }
+    ensures kept { Kept (K.faults out.old) (K.faults out.new) (K.sound out.old) (K.sound out.new) (result ≡ 6) }
+{
+    match write_text(alloc, out, ending) {
+        Ok(()) => ending.status(),
+        Err(IoFault::Failed) => 6,
+        Err(IoFault::NoMemory) => 7,
+    }
+}
+
+/// Writes the last text of a program that ends so.
+fn write_text<K: Sink>(alloc: Global, out: &mut K, ending: &Ending) -> Result<(), IoFault>
+    ensures content { WriteTakes (K.told out.old) (K.told out.new) result (text_of ending.now) }
+    ensures memory { result ≡ Err IoFault.NoMemory → Keeps (K.told out.old) (K.told out.new) }
+    ensures kept { Kept (K.faults out.old) (K.faults out.new) (K.sound out.old) (K.sound out.new) (result ≡ Err IoFault.Failed) }
+{
+    let text = ending.text(alloc)?;
+    if text.is_empty() {
+        return Ok(());
+    }
+    out.write(text.as_bytes())
+}

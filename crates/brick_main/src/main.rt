@@ -1,0 +1,39 @@
+//! `brick format`: makes the store of a brick on a file.
+#![tactic(auto)]
+
+use brick::brick;
+use fab_host::OsHost;
+use fab_io::{StdSink, StdSource};
+use std::env::Env;
+use std::io::ErrorKind;
+use std::process::ExitCode;
+use std::{env, io};
+
+fn main(rt: HostRuntime) -> ExitCode {
+    let mut out = StdSink::new(io::writer(&rt));
+    let input = StdSource::new(rt.reader());
+    let Ok(mut host) = OsHost::new(rt.alloc(), &rt, input) else {
+        return ExitCode::from(NO_MEMORY);
+    };
+    let status = match words(&rt) {
+        Ok(words) => brick(rt.alloc(), words.as_slice(), &mut host, &mut out),
+        // A word that is no text makes a faulty command line, as the empty one is.
+        Err(error) if error.kind() == ErrorKind::InvalidData => {
+            brick(rt.alloc(), &[], &mut host, &mut out)
+        }
+        Err(_) => NO_MEMORY,
+    };
+    ExitCode::from(status)
+}
+
+/// The status of a run that finds no memory, as `brick` answers it.
+const NO_MEMORY: u8 = 7;
+
+/// The words of the command line behind the program's name. `InvalidData` comes where one is no text.
+fn words(rt: &(impl Env + AllocGlobal)) -> io::Result<Vec<String>> {
+    let mut words = Vec::new(rt.alloc());
+    for word in env::args(rt)?.skip(1) {
+        words.push(word)?;
+    }
+    Ok(words)
+}
