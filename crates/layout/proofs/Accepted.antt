@@ -9,12 +9,15 @@ use Rattle.fab_base.specs.Layouts.{Group, Layout}
 use Rattle.toml.specs.Data.{Data, Members, as_integer, get_member}
 use Rattle.layout.specs.Names.{key_text}
 use Rattle.layout.specs.declared.faults.Key.TheVariants as keys
+use Rattle.layout.specs.declared.faults.Reader.{Reader}
+use Rattle.layout.specs.declared.faults.Reader.TheVariants.{Program}
 use Rattle.layout.specs.declared.faults.LayoutFault.TheVariants.{Toml, Limit}
-use Rattle.layout.specs.declared.faults.FieldName.TheVariants.{Other, OtherOfGroup}
+use Rattle.layout.specs.declared.faults.FieldName.TheVariants.{OtherOfGroup}
 use Rattle.layout.specs.Limits.{IsGroup, IsLayout}
 use Rattle.layout.specs.Texts.{document_of, layout_or, layout_of}
-use Rattle.layout.specs.Checks.{no_field, integer_at, array_at, integers_in, tables_in, no_other, group_keys, top_keys, port_in, port_at, number_at, blocks_in, blocks_at, brick_in, bricks_in, stands_in, are_distinct, seats_in, members_at, group_in, few_tables, tables_at, groups_in, volumes_in, volume_tables_at, layout_with, layout_in}
-use Rattle.layout.proofs.Passing.{passed, there, made, within_range, or_both, taken}
+use Rattle.layout.specs.Checks.{no_field, integer_at, array_at, integers_in, tables_in, no_other, group_keys, port_in, number_at, blocks_in, blocks_at, brick_in, bricks_in, stands_in, are_distinct, seats_in, members_at, group_in, few_tables, tables_at, groups_in, layout_in}
+use Rattle.layout.proofs.Parts.{parts_of}
+use Rattle.layout.proofs.Passing.{passed, there, within_range, or_both, taken}
 use Rattle.layout.proofs.AcceptedVolumes.{few_volume_tables, volumes_are}
 
 -- the port is between its limits, the default too
@@ -197,28 +200,18 @@ counted : (n tables : ℕ) → n ≡ tables → (1 ≤ tables) × (tables ≤ 64
 counted n tables same count = subst (λ (k : ℕ). (1 ≤ k) × (k ≤ 64)) (sym same) count
 
 -- an accepted layout is within the limits
-pub layout_is : (table : Members) (layout : Layout) → layout_in table ≡ Ok layout → IsLayout layout
-layout_is table layout is =
-    let (block, block_read, after_block) = passed (number_at table keys.Block 1 4096) _ layout is in
-    let (bricks, bricks_read, after_bricks) = passed (number_at table keys.Bricks 1 64) _ layout after_block in
-    let (records, records_read, after_records) = passed (number_at table keys.Records 1 1048576) _ layout after_bricks in
-    let (port, port_read, after_port) = passed (port_at table) _ layout after_records in
-    let (tables, tables_read, after_tables) = passed (tables_at table) _ layout after_port in
-    let (volume_tables, volume_tables_read, after_volume_tables) = passed (volume_tables_at table) _ layout after_tables in
-    let (groups, groups_read, after_groups) = passed (groups_in block bricks tables) _ layout after_volume_tables in
-    let (volumes, volumes_read, after_volumes) = passed (volumes_in groups [] volume_tables) _ layout after_groups in
-    let (known, known_read, last) = passed (no_other Other top_keys table) _ layout after_volumes in
-    let bytes = within_range keys.Block 1 4096 (integer_at table keys.Block) block block_read in
-    let disk = within_range keys.Bricks 1 64 (integer_at table keys.Bricks) bricks bricks_read in
-    let room = within_range keys.Records 1 1048576 (integer_at table keys.Records) records records_read in
-    let ports = port_range (get_member (key_text keys.Port) table) port port_read in
-    let count = tables_are table tables tables_read in
-    let all = groups_are block bricks tables groups groups_read in
-    let number = counted (length groups) (length tables) all.count count in
-    let few = few_volume_tables (get_member (key_text keys.Volume) table) volume_tables volume_tables_read in
-    let layout_same : layout_with block bricks records port groups volumes ≡ layout =
-    made (layout_with block bricks records port groups volumes) layout (Ok (layout_with block bricks records port groups volumes)) refl last in
-    subst IsLayout layout_same (record {
+pub layout_is : (reader : Reader) (table : Members) (layout : Layout) → layout_in reader table ≡ Ok layout → IsLayout layout
+layout_is reader table layout is =
+    let (p, same) = parts_of reader table layout is in
+    let bytes = within_range keys.Block 1 4096 (integer_at table keys.Block) p.block p.block_read in
+    let disk = within_range keys.Bricks 1 64 (integer_at table keys.Bricks) p.bricks p.bricks_read in
+    let room = within_range keys.Records 1 1048576 (integer_at table keys.Records) p.records p.records_read in
+    let ports = port_range (get_member (key_text keys.Port) table) p.port p.port_read in
+    let count = tables_are table p.tables p.tables_read in
+    let all = groups_are p.block p.bricks p.tables p.groups p.groups_read in
+    let number = counted (length p.groups) (length p.tables) all.count count in
+    let few = few_volume_tables (get_member (key_text keys.Volume) table) p.volume_tables p.volume_tables_read in
+    subst IsLayout same (record {
       some_byte = bytes.0;
       few_bytes = bytes.1;
       some_brick = disk.0;
@@ -230,13 +223,13 @@ layout_is table layout is =
       some_group = number.0;
       few_groups = number.1;
       each = all.each;
-      volumes = volumes_are groups volume_tables volumes few volumes_read;
+      volumes = volumes_are p.groups p.volume_tables p.volumes few p.volumes_read;
     })
 
 -- what a text says is within the limits
 pub accepted_is : (text : List ℕ) (layout : Layout) → layout_of text ≡ Ok layout → IsLayout layout
 accepted_is text layout is = by_document (document_of text) is
   where
-    by_document : (document : Option Members) → layout_or document ≡ Ok layout → IsLayout layout
+    by_document : (document : Option Members) → layout_or Program document ≡ Ok layout → IsLayout layout
     by_document None same = let never : Err Toml ≡ Ok layout = same in cc
-    by_document (Some table) same = layout_is table layout same
+    by_document (Some table) same = layout_is Program table layout same

@@ -1,10 +1,12 @@
 pub mod Keys
 pub mod Readings
 pub mod Passing
+pub mod Parts
 pub mod AcceptedVolumes
 pub mod Accepted
 pub mod Documents
 pub mod Soundness
+pub mod Readers
 pub mod Refusals
 pub mod TakenRuns
 pub mod PlaceLaws

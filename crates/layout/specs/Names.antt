@@ -2,7 +2,7 @@
 use Rattle.std.specs.Prelude.{ℕ, nat_eq, nat_le, Bool, ◌&&◌, ◌||◌, List, ◌++◌, length, codes}
 use Rattle.std.specs.List.{list_all}
 use Rattle.layout.specs.declared.faults.Key.{Key}
-use Rattle.layout.specs.declared.faults.Key.TheVariants.{Block, Bricks, Records, Port, Group, GroupM, GroupMembers, GroupStripes, Volume, VolumeName, VolumeSegments}
+use Rattle.layout.specs.declared.faults.Key.TheVariants.{Block, Bricks, Records, Port, Store, Spares, Group, GroupM, GroupMembers, GroupStripes, Volume, VolumeName, VolumeSegments}
 use Rattle.layout.specs.declared.faults.FieldName.{FieldName}
 use Rattle.layout.specs.declared.faults.FieldName.TheVariants.{Known, Other, OtherOfGroup, OtherOfVolume}
 use Rattle.layout.specs.declared.faults.LayoutFault.{LayoutFault}
@@ -14,6 +14,8 @@ key_text Block = codes "block"
 key_text Bricks = codes "bricks"
 key_text Records = codes "records"
 key_text Port = codes "port"
+key_text Store = codes "store"
+key_text Spares = codes "spares"
 key_text Group = codes "group"
 key_text GroupM = codes "m"
 key_text GroupMembers = codes "members"
@@ -28,6 +30,8 @@ key_name Block = codes "block"
 key_name Bricks = codes "bricks"
 key_name Records = codes "records"
 key_name Port = codes "port"
+key_name Store = codes "store"
+key_name Spares = codes "spares"
 key_name Group = codes "group"
 key_name GroupM = codes "group.m"
 key_name GroupMembers = codes "group.members"

@@ -19,6 +19,10 @@ pub enum Key {
     Records,
     /// `port`: the UDP port of brick 0.
     Port,
+    /// `store`: the form of the bricks' stores.
+    Store,
+    /// `spares`: the bricks that may take a member's place.
+    Spares,
     /// `group`: the list of groups.
     Group,
     /// `m` of a group: data blocks per stripe.
@@ -47,6 +51,8 @@ impl Key {
             Key::Bricks => "bricks",
             Key::Records => "records",
             Key::Port => "port",
+            Key::Store => "store",
+            Key::Spares => "spares",
             Key::Group => "group",
             Key::GroupM => "m",
             Key::GroupMembers => "members",
@@ -67,9 +73,14 @@ impl Key {
             Key::GroupStripes => "group.stripes",
             Key::VolumeName => "volume.name",
             Key::VolumeSegments => "volume.segments",
-            Key::Block | Key::Bricks | Key::Records | Key::Port | Key::Group | Key::Volume => {
-                self.as_str()
-            }
+            Key::Block
+            | Key::Bricks
+            | Key::Records
+            | Key::Port
+            | Key::Store
+            | Key::Spares
+            | Key::Group
+            | Key::Volume => self.as_str(),
         }
     }
 }
@@ -84,6 +95,15 @@ impl fmt::Display for Key {
         let name = self.name();
         write!(f, "{name}")
     }
+}
+
+/// Whose reading of a layout it is: the keys `store` and `spares` are known to an auditor alone.
+#[derive(Clone, Copy, Debug, PartialEq, Eq)]
+pub enum Reader {
+    /// A program that runs the disk. Its stores are of form 2, and it has no spares.
+    Program,
+    /// One that only looks at what others ran.
+    Auditor,
 }
 
 /// A key of a text, seen as the list of its bytes.

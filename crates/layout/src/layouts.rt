@@ -77,26 +77,27 @@ fn copy_volumes(alloc: Global, volumes: &[Volume]) -> Result<Vec<Volume>, NoMem>
 
 impl Layout {
     // A layout of blocks of this many bytes, this many bricks, each with room for so many live records, the port of brick 0,
-    // and these groups and volumes. Its stores have form 2, and it has no spares.
+    // the form of the stores, and these spares, groups and volumes.
     pub(crate) fn new(
-        alloc: Global,
         block: u16,
         bricks: u16,
         records: u32,
         port: u16,
+        store: u8,
+        spares: Vec<BrickId>,
         groups: Vec<Group>,
         volumes: Vec<Volume>,
     ) -> Layout
-        requires { IsLayout (layout_with block bricks records port groups.items volumes.items) }
-        ensures { result ≡ layout_with block bricks records port groups.items volumes.items }
+        requires { IsLayout (layout_with block bricks records port store spares.items groups.items volumes.items) }
+        ensures { result ≡ layout_with block bricks records port store spares.items groups.items volumes.items }
     {
         Layout {
             block,
             bricks,
             records,
             port,
-            store: 2,
-            spares: Vec::new(alloc),
+            store,
+            spares,
             groups,
             volumes,
         }

@@ -10,9 +10,9 @@ use Rattle.layout.proofs.document_checks.layout_in.Goals as goal
 pub new-requires : goal.new-requires
 new-requires c =
     let said : Layout =
-    layout_with c.in_ok-block.field-0 c.in_ok-bricks.field-0 c.in_ok-records.records c.in_ok-port.field-0 c.in_ok-groups.groups.items
-    c.in_ok-volumes.volumes.items in
-    layout_is (table_view c.args.table.now) said (grind (arith, common_steps))
+    layout_with c.in_ok-block.field-0 c.in_ok-bricks.field-0 c.in_ok-records.records c.in_ok-port.field-0 c.in_ok-store.field-0
+    c.in_ok-spares.spares.items c.in_ok-groups.groups.items c.in_ok-volumes.volumes.items in
+    layout_is c.args.reader (table_view c.args.table.now) said (grind (arith, common_steps))
 
 pub returns-in_err-block : goal.returns-in_err-block
 returns-in_err-block c = search rules
@@ -25,6 +25,12 @@ returns-in_err-records c = search rules
 
 pub returns-in_err-port : goal.returns-in_err-port
 returns-in_err-port c = search rules
+
+pub returns-in_err-store : goal.returns-in_err-store
+returns-in_err-store c = search rules
+
+pub returns-in_err-spares : goal.returns-in_err-spares
+returns-in_err-spares c = search rules
 
 pub returns-in_err-tables : goal.returns-in_err-tables
 returns-in_err-tables c = search rules
