@@ -1,5 +1,9 @@
+mod Lending
 mod Hosts
 mod Places
 mod Found
+mod Starting
+mod Turning
 mod Completing
 mod InOrder
+mod Printing
