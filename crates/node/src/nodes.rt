@@ -333,6 +333,20 @@ impl<D: Disk> Node<D> {
         self.store.is_halted()
     }
 
+    /// The layout that it is a brick of.
+    pub fn layout(&self) -> &Layout
+        ensures { result.now ≡ self.now.layout }
+    {
+        &self.layout
+    }
+
+    /// The brick's number.
+    pub fn me(&self) -> BrickId
+        ensures { result ≡ self.now.me }
+    {
+        self.calls.me()
+    }
+
     /// The store.
     pub fn store(&self) -> &BrickStore<D>
         ensures { result.now ≡ self.now.brick }

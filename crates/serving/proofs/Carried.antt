@@ -63,13 +63,6 @@ GrowsFront-after a b c datagrams more grows sent =
       grows = Grows-trans a b c datagrams sent.front grows sent.grows;
     }
 
--- what stays stays over more calls
-pub Stays-trans : (a b c : Option (List Datagram)) → Stays a b → Stays b c → Stays a c
-Stays-trans None b c p q = tt
-Stays-trans (Some x) None c p q = absurd p
-Stays-trans (Some x) (Some y) None p q = absurd q
-Stays-trans (Some x) (Some y) (Some z) p q = q ∙ p
-
 -- the datagrams of one more message
 one_more : (ports : Ports) (messages : List (BrickId × Message)) (i : ℕ) (sent : BrickId × Message) → i < length messages → sent ≡ get_or messages i sent
     → datagrams_of (addressed ports (take (i + 1) messages))

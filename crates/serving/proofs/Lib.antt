@@ -1,8 +1,8 @@
-mod Carried
+pub mod Carried
 mod DiskKeeping
 mod Doing
 mod Ends
-mod Looks
+pub mod Looks
 mod OneTurn
 mod Runs
 mod Taking

@@ -1,9 +1,30 @@
--- What looks at a link give.
+-- What looks at a link give, and what is sent between them.
 use Rattle.std.proofs.Common.{◌≡◌, ℕ, zero, suc, min, List, [], ◌∷◌, ◌++◌, length, take, drop, Option, Some, None, refl, sym, ap, ◌∙◌, arith}
 use Rattle.std.proofs.lemmas.List.{take_min}
 use Rattle.fab_io.specs.declared.links.Datagram.{Datagram}
-use Rattle.fab_io.specs.Datagrams.{Stays, Loses, HasNone, IsGiven}
+use Rattle.fab_io.specs.Datagrams.{Stays, Grows, Loses, HasNone, IsGiven}
 use Rattle.serving.specs.Datagrams.{Looked, looks, cut, most_bytes}
+
+-- what stays stays over more calls
+pub Stays-trans : (a b c : Option (List Datagram)) → Stays a b → Stays b c → Stays a c
+Stays-trans None b c p q = tt
+Stays-trans (Some x) None c p q = absurd p
+Stays-trans (Some x) (Some y) None p q = absurd q
+Stays-trans (Some x) (Some y) (Some z) p q = q ∙ p
+
+-- what was not sent yet is sent
+pub Grows-stays : (a b c : Option (List Datagram)) (datagrams : List Datagram) → Stays a b → Grows b c datagrams → Grows a c datagrams
+Grows-stays None b c datagrams p q = tt
+Grows-stays (Some x) None c datagrams p q = absurd p
+Grows-stays (Some x) (Some y) None datagrams p q = absurd q
+Grows-stays (Some x) (Some y) (Some z) datagrams p q = q ∙ ap (λ l. l ++ datagrams) p
+
+-- what was sent stays sent
+pub Grows-quiet : (a b c : Option (List Datagram)) (datagrams : List Datagram) → Grows a b datagrams → Stays b c → Grows a c datagrams
+Grows-quiet None b c datagrams p q = tt
+Grows-quiet (Some x) None c datagrams p q = absurd p
+Grows-quiet (Some x) (Some y) None datagrams p q = absurd q
+Grows-quiet (Some x) (Some y) (Some z) datagrams p q = q ∙ p
 
 -- of no datagrams none are left
 drop-none : (n : ℕ) → drop n (let none : List Datagram = [] in none) ≡ []
@@ -30,6 +51,13 @@ pub Looked-none : (a b : Option (List Datagram)) → Stays a b → Looked a b []
 Looked-none None b stays = tt
 Looked-none (Some x) None stays = absurd stays
 Looked-none (Some x) (Some y) stays = (refl, stays)
+
+-- what was looked at stays looked at
+pub Looked-stays : (a b c : Option (List Datagram)) (came : List (Option Datagram)) → Looked a b came → Stays b c → Looked a c came
+Looked-stays None b c came p q = tt
+Looked-stays (Some x) None c came p q = absurd p
+Looked-stays (Some x) (Some y) None came p q = absurd q
+Looked-stays (Some x) (Some y) (Some z) came p q = (p.0, q ∙ p.1)
 
 -- looks, and later more
 pub Looked-trans : (a b c : Option (List Datagram)) (first later : List (Option Datagram)) → Looked a b first → Looked b c later

@@ -17,21 +17,7 @@ use Rattle.serving.specs.Ports.{ports_of}
 use Rattle.serving.specs.Serves.{Outside, Does, RunsTurns, StopsBefore, StopsSending, Stops}
 use Rattle.serving.specs.Servings.{Serving, Served, served}
 use Rattle.serving.specs.Turns.{Turn}
-use Rattle.serving.proofs.Carried.{Stays-trans}
-
--- what was looked at stays looked at
-Looked-stays : (a b c : Option (List Datagram)) (came : List (Option Datagram)) → Looked a b came → Stays b c → Looked a c came
-Looked-stays None b c came p q = tt
-Looked-stays (Some x) None c came p q = absurd p
-Looked-stays (Some x) (Some y) None came p q = absurd q
-Looked-stays (Some x) (Some y) (Some z) came p q = (p.0, q ∙ p.1)
-
--- what was not sent yet is sent
-Grows-stays : (a b c : Option (List Datagram)) (datagrams : List Datagram) → Stays a b → Grows b c datagrams → Grows a c datagrams
-Grows-stays None b c datagrams p q = tt
-Grows-stays (Some x) None c datagrams p q = absurd p
-Grows-stays (Some x) (Some y) None datagrams p q = absurd q
-Grows-stays (Some x) (Some y) (Some z) datagrams p q = q ∙ ap (λ l. l ++ datagrams) p
+use Rattle.serving.proofs.Looks.{Stays-trans, Grows-stays, Looked-stays}
 
 -- what came is read with the ports of this layout, at this brick
 pub read_as : (ports those : Ports) (me that : BrickId) (came : Option Datagram) (incoming : Incoming) → ports ≡ those → me ≡ that

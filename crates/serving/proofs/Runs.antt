@@ -13,7 +13,6 @@ use Rattle.serving.specs.Servings.{Serving, HasNoClient, begun}
 use Rattle.serving.specs.Turns.{Turn, malformed_count, malformed_in}
 use Rattle.serving.proofs.Looks.{Looked-none}
 use Rattle.serving.proofs.Taking.{RunsTurns-none, RunsTurns-more, Stops-more, StopsBefore-look, malformed_in-append}
-use Rattle.serving.proofs.Waiting.{served-keeps}
 
 -- so many turns were taken, and so many datagrams came in them that are no message
 pub record HasServed (setting : Setting) (me : BrickId) (from to : Serving) (before after : Outside) (count malformed : ℕ) : Type 0 where
@@ -70,12 +69,6 @@ module _ (setting : Setting) (me : BrickId) where
         runs = RunsTurns-more setting me from mid to before between after p.turns (turn ∷ []) p.runs runs;
         malformed_is = one_counted p.turns turn malformed more p.malformed_is is;
       }
-
-  -- a turn leaves no client of a call that was not made
-  pub fresh_after : (from to : Serving) (before after : Outside) (more : ℕ) → HasNoClient from → TakesTurn setting me from to before after (Ok more)
-      → HasNoClient to
-  fresh_after from to before after more none (turn, runs, is) =
-      subst HasNoClient (sym runs.left) (served-keeps setting me from turn.incoming turn.now none)
 
   module _ (node : machine.Node) (before between after : Outside) (count bound : ℕ) where
     -- all turns were taken

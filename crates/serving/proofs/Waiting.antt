@@ -1,5 +1,5 @@
 -- No client waits for a call that was not made yet.
-use Rattle.std.proofs.Common.{◌≡◌, ℕ, ◌+◌, ◌<◌, ◌≤◌, Bool, true, false, if◌then◌else◌, nat_eq, nat_le, List, [], ◌∷◌, Option, Some, None, option_map, refl, sym, ap, ◌∙◌, arith, cond}
+use Rattle.std.proofs.Common.{◌≡◌, ℕ, ◌+◌, ◌<◌, ◌≤◌, Bool, true, false, if◌then◌else◌, nat_eq, nat_le, List, [], ◌∷◌, Option, Some, None, Result, Ok, Err, option_map, refl, sym, ap, ◌∙◌, subst, inl, inr, arith, cond}
 use Rattle.std.proofs.lemmas.Bool.Decides.{nat_tests}
 use Rattle.fab_base.specs.declared.asks.Ask.{Ask}
 use Rattle.fab_base.specs.declared.answers.Refusal.{Refusal}
@@ -15,10 +15,14 @@ use Rattle.protocol.specs.declared.tellings.Answered.{Answered}
 use Rattle.protocol.specs.Coordinators.{Coordinator, Next, Ignores, Waits, Sends, Makes, Ends, on_reply}
 use Rattle.protocol.specs.Nodes.{Node, put, group_at, seat_served, requested_at, requested_in, requested, known_after, fresh_stamp, carried_out, replied_at, replied, received, began, invoked, refusal_in, refusal_of, ticked}
 use Rattle.protocol.specs.Settings.{Setting}
+use Rattle.fab_io.specs.declared.links.Datagram.{Datagram}
 use Rattle.serving.specs.declared.clients.Client.{Client}
+use Rattle.serving.specs.declared.faults.ServeFault.{ServeFault}
+use Rattle.serving.specs.declared.faults.ServeFault.TheVariants.{Disk, Halted, Link, Clock, NoMemory}
 use Rattle.serving.specs.declared.incomings.Incoming.{Incoming}
 use Rattle.serving.specs.declared.incomings.Incoming.TheVariants.{Nothing, Malformed, Dropped, Handed, Asked}
 use Rattle.serving.specs.Ports.{ports_of}
+use Rattle.serving.specs.Serves.{Does}
 use Rattle.serving.specs.Servings.{Serving, HasNoClient, Served, served, asked_by, idle, to_ports, still_waiting}
 
 -- a message makes a brick make no call
@@ -123,6 +127,19 @@ served-keeps setting me serving (Handed packet) now none = λ k above.
     (none k (let same = received-seq setting me now serving.node packet.from packet.to packet.message in omega (arith, same)))
 served-keeps setting me serving (Asked client ask) now none =
     asked-keeps setting me serving now client ask (refusal_of setting.layout serving.node ask) none
+
+-- and so does one that is stopped
+pub Does-keeps : {T : Type 0} (setting : Setting) (me : BrickId) (from to : Serving) (incoming : Incoming) (now : ℕ) (sent sent_after : Option (List Datagram))
+    (r : Result T ServeFault) → HasNoClient from → Does from to sent sent_after (served setting me from incoming now) r → HasNoClient to
+Does-keeps setting me from to incoming now sent sent_after (Ok x) none does = subst HasNoClient (sym does.0) (served-keeps setting me from incoming now none)
+Does-keeps setting me from to incoming now sent sent_after (Err Disk) none does = subst HasNoClient (sym does.0) none
+Does-keeps setting me from to incoming now sent sent_after (Err Link) none does = subst HasNoClient (sym does.0) (served-keeps setting me from incoming now none)
+Does-keeps setting me from to incoming now sent sent_after (Err NoMemory) none does = elim does [
+  | inl left ↦ subst HasNoClient (sym left.0) none
+  | inr begun ↦ subst HasNoClient (sym begun.0) (served-keeps setting me from incoming now none)
+]
+Does-keeps setting me from to incoming now sent sent_after (Err Clock) none does = absurd does
+Does-keeps setting me from to incoming now sent sent_after (Err Halted) none does = absurd does
 
 -- a client that is there no more was never there
 back_at : (b : Bool) (o v : Option Client) → (b ≡ true → o ≡ None) → (if b then None else (if b then v else o)) ≡ o

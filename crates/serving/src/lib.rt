@@ -16,6 +16,8 @@ mod turns;
 pub use clients::Client;
 pub use faults::ServeFault;
 pub use incomings::Incoming;
+pub use looking::MOST_BYTES;
 pub use ports::Ports;
+pub use servers::Server;
 pub use spellings::has_spelling;
 pub use turns::serve;

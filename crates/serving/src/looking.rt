@@ -16,8 +16,8 @@ use fab_base::BrickId;
 use fab_io::{Clock, IoFault, Link};
 use std::alloc::Global;
 
-/// The most bytes of a datagram that are looked at.
-pub(crate) const MOST_BYTES: usize = 65_535;
+/// The most bytes of a datagram that are looked at: the room that a turn needs.
+pub const MOST_BYTES: usize = 65_535;
 
 /// Looks at the link once.
 pub(crate) fn look<L: Link>(

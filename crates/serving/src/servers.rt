@@ -1,28 +1,33 @@
 //! What a serving brick knows beside its node, and whom it answers.
 
-ghost use Rattle.std.specs.Prelude.{◌≡◌, ◌∷◌, [], ◌++◌, None, IfErr, OnOk, OnErr, MatchResult, option_to_list};
+ghost use Rattle.std.specs.Prelude.{◌≡◌, ◌∷◌, [], ◌++◌, IfErr, OnOk, OnErr, MatchResult, option_to_list};
 ghost use Rattle.fab_io.specs.Ends.{Kept};
 ghost use Rattle.fab_io.specs.Datagrams.{Stays, Grows};
+ghost use Rattle.node.specs.Running.{state_of};
 ghost use Rattle.serving.specs.Clients.{waiting_in};
 ghost use Rattle.serving.specs.Datagrams.{datagrams_of, GrowsFront};
 ghost use Rattle.serving.specs.Faults.{AtLink};
 ghost use Rattle.serving.specs.Sending.{addressed, replies};
 ghost use Rattle.serving.specs.Servers.{KeepsAllButClients};
-ghost use Rattle.serving.specs.Servings.{answer_to, answers_for, still_waiting};
+ghost use Rattle.serving.specs.Servings.{answer_to, answers_for, begun, still_waiting};
+ghost use Rattle.serving.specs.Views.{serving_of, IsServerOf};
 
 use crate::clients::{Client, Clients};
 use crate::faults::ServeFault;
 use crate::ports::Ports;
 use crate::sending::{send, send_all};
 use fab_base::{Answer, BrickId};
+use fab_disk::Disk;
 use fab_io::Link;
 use messages::{ClientAnswer, Message};
+use node::Node;
 use protocol::Answered;
 use std::alloc::Global;
 
-/// What a serving brick knows beside its node.
+/// What a serving brick knows beside its node: its number, the ports of the bricks, the clients that wait for answers, and the moment of its
+/// last tick. It is made for one node, and takes the turns of that one alone.
 #[derive(Drop)]
-pub(crate) struct Server {
+pub struct Server {
     pub(crate) alloc: Global,
     pub(crate) ports: Ports,
     pub(crate) me: BrickId,
@@ -32,17 +37,15 @@ pub(crate) struct Server {
 }
 
 impl Server {
-    /// A brick of this number begins to serve: no client waits, and no tick was.
-    pub(crate) fn new(alloc: Global, ports: Ports, me: BrickId) -> Server
-        ensures ports { result.ports ≡ ports }
-        ensures me { result.me ≡ me }
-        ensures clients { waiting_in result.clients ≡ (λ seq. None) }
-        ensures ticked { result.ticked ≡ 0 }
+    /// The brick of this node begins to serve: no client waits, and no tick was. The server holds no memory yet.
+    pub fn new<D: Disk>(alloc: Global, node: &Node<D>) -> Server
+        ensures server { IsServerOf result node.now }
+        ensures begins { serving_of result node.now ≡ begun (state_of node.now) }
     {
         Server {
             alloc,
-            ports,
-            me,
+            ports: Ports::of(node.layout()),
+            me: node.me(),
             clients: Clients::new(alloc),
             ticked: 0,
         }

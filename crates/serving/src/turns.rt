@@ -12,18 +12,22 @@ ghost use Rattle.serving.specs.Views.{serving_of, IsServerOf};
 use crate::faults::ServeFault;
 use crate::incomings::malformed_count;
 use crate::looking::{MOST_BYTES, look, read_clock};
-use crate::ports::Ports;
 use crate::servers::Server;
-use fab_base::BrickId;
 use fab_disk::Disk;
 use fab_io::{Clock, Link};
-use layout::Layout;
 use node::Node;
 use std::alloc::Global;
 
 impl Server {
-    /// Takes a turn, and answers how many datagrams came in it that are no message.
-    fn take_turn<D: Disk, L: Link, C: Clock>(
+    /// Takes a turn of [`serve`] as the brick of this node, which it was made for, and answers how many datagrams came in it that are no
+    /// message. `room` is room for a datagram, of [`MOST_BYTES`] bytes.
+    ///
+    /// # Errors
+    ///
+    /// `Disk`, `Link` and `Clock` only where that thing's count of faults rose; after `Disk` the brick is halted, and takes no further turn.
+    /// `NoMemory` where no memory was left. Nothing was done then; or, after `Link` and `NoMemory`, some of the turn's datagrams were not sent,
+    /// the last ones.
+    pub fn take_turn<D: Disk, L: Link, C: Clock>(
         &mut self,
         node: &mut Node<D>,
         link: &mut L,
@@ -39,6 +43,7 @@ impl Server {
         ensures few { IfOk result (λ malformed. malformed ≤ 1) }
         ensures same { IsSameBrick node.old node.new }
         ensures server { IsServerOf self.new node.new }
+        ensures fresh { HasNoClient (serving_of self.new node.new) }
         ensures runs { result ≢ Err ServeFault.Disk → node.new.brick.halted ≡ false }
         ensures disk { disks.Kept (D.faults node.old.brick.disk) (D.faults node.new.brick.disk) (D.sound node.old.brick.disk)
             (D.sound node.new.brick.disk) (result ≡ Err ServeFault.Disk) }
@@ -52,15 +57,7 @@ impl Server {
     }
 }
 
-/// The number of a brick.
-fn me_of<D: Disk>(node: &Node<D>) -> BrickId
-    ensures { result ≡ node.now.me }
-{
-    let _ = node.is_halted();
-    node.store().me()
-}
-
-/// Serves so many turns as a brick of this layout, over a link and a clock, and answers how many datagrams came that are no message.
+/// Serves so many turns as the brick of a node, over a link and a clock, and answers how many datagrams came that are no message.
 ///
 /// A turn looks at the link once, into room for 65,535 bytes, and then reads the clock once. A datagram that came is handled. Where none
 /// came, there is a tick if the reading is at least 100 above that of the last tick, 0 at first. The sender of a message is the brick whose
@@ -75,13 +72,11 @@ fn me_of<D: Disk>(node: &Node<D>) -> BrickId
 /// was done; or, after `Link` and `NoMemory`, some of its datagrams were not sent, the last ones.
 pub fn serve<D: Disk, L: Link, C: Clock>(
     alloc: Global,
-    layout: &Layout,
     node: &mut Node<D>,
     link: &mut L,
     clock: &mut C,
     turns: u64,
 ) -> Result<u64, ServeFault>
-    requires { layout.now ≡ node.old.layout }
     ensures served { node.old.brick.halted ≡ false → IsServed (coding node.old.layout) node.old.me (state_of node.old) (state_of node.new)
         (outside (L.waiting link.old) (L.sent link.old) (C.coming clock.old)) (outside (L.waiting link.new) (L.sent link.new) (C.coming clock.new)) turns result }
     ensures same { IsSameBrick node.old node.new }
@@ -101,7 +96,7 @@ pub fn serve<D: Disk, L: Link, C: Clock>(
     if node.is_halted() {
         return Err(ServeFault::Halted);
     }
-    let served = serve_turns(alloc, layout, node, link, clock, turns);
+    let served = serve_turns(alloc, node, link, clock, turns);
     // The clauses speak of the disk too, so the brick is looked at.
     let _ = node.is_halted();
     served
@@ -110,13 +105,11 @@ pub fn serve<D: Disk, L: Link, C: Clock>(
 /// The same, at a brick that is not halted.
 fn serve_turns<D: Disk, L: Link, C: Clock>(
     alloc: Global,
-    layout: &Layout,
     node: &mut Node<D>,
     link: &mut L,
     clock: &mut C,
     turns: u64,
 ) -> Result<u64, ServeFault>
-    requires layout { layout.now ≡ node.old.layout }
     requires runs { node.old.brick.halted ≡ false }
     ensures served { IsServed (coding node.old.layout) node.old.me (state_of node.old) (state_of node.new)
         (outside (L.waiting link.old) (L.sent link.old) (C.coming clock.old)) (outside (L.waiting link.new) (L.sent link.new) (C.coming clock.new)) turns result }
@@ -128,7 +121,7 @@ fn serve_turns<D: Disk, L: Link, C: Clock>(
     ensures clock { Kept (C.faults clock.old) (C.faults clock.new) (C.sound clock.old) (C.sound clock.new) (result ≡ Err ServeFault.Clock) }
 {
     let mut room = vec![in alloc; 0u8; MOST_BYTES]?;
-    let server = Server::new(alloc, Ports::of(layout), me_of(node));
+    let server = Server::new(alloc, node);
     take_turns(server, node, link, clock, room.as_mut_slice(), turns)
 }
 

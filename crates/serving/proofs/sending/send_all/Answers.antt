@@ -4,7 +4,8 @@ use Rattle.fab_io.proofs.Keeping.{Kept-refl, Kept-trans, Kept-calm, Kept-narrowe
 use Rattle.fab_io.proofs.Told.{Stays-refl, Grows-none}
 use Rattle.serving.specs.declared.faults.ServeFault.{ServeFault}
 use Rattle.serving.specs.declared.faults.ServeFault.TheVariants.{Link}
-use Rattle.serving.proofs.Carried.{Stays-trans, sent_more, sent_first}
+use Rattle.serving.proofs.Carried.{sent_more, sent_first}
+use Rattle.serving.proofs.Looks.{Stays-trans}
 use Rattle.serving.proofs.Ends.{on_err, was_met}
 use Rattle.serving.proofs.sending.send_all.Goals as goal
 

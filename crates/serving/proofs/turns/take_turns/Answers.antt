@@ -13,7 +13,7 @@ use Rattle.serving.specs.Servings.{begun}
 use Rattle.serving.specs.Views.{serving_of}
 use Rattle.serving.proofs.DiskKeeping.{disk-none, disk-then, disk-narrower}
 use Rattle.serving.proofs.Ends.{at_exit, was_met}
-use Rattle.serving.proofs.Runs.{same_disk, HasServed-none, HasServed-more, fresh_begun, fresh_after, served_all, served_stop}
+use Rattle.serving.proofs.Runs.{same_disk, HasServed-none, HasServed-more, fresh_begun, served_all, served_stop}
 use Rattle.serving.proofs.turns.take_turns.Goals as goal
 
 pub loop-turn-init : goal.loop-turn-init
@@ -47,7 +47,7 @@ loop-turn-preserved g c =
       has = HasServed-more (coding node.layout) node.me (begun (state_of node)) from to before between after c.loop-turn.turn c.loop-turn.malformed
           c.in_ok-malformed.field-0 inv.has turn;
       few = (let few = inv.few in let one = said.few in omega (arith, few, one));
-      fresh = fresh_after (coding node.layout) node.me from to between after c.in_ok-malformed.field-0 inv.fresh turn;
+      fresh = said.fresh;
       server = said.server;
       same = record { layout = said.same.layout ∙ inv.same.layout; me = said.same.me ∙ inv.same.me };
       runs = said.runs (λ e. cc);

@@ -9,6 +9,7 @@ use Rattle.serving.specs.Views.{serving_of}
 use Rattle.serving.proofs.Ends.{at_exit, link-not_halted, clock-not_halted}
 use Rattle.serving.proofs.OneTurn.{turn_taken, turn_stopped, read_as}
 use Rattle.serving.proofs.Taking.{StopsBefore-look, Stops-early}
+use Rattle.serving.proofs.Waiting.{Does-keeps}
 use Rattle.serving.proofs.servers.Server.take_turn.Goals as goal
 
 pub returns-in_err-incoming-clause-turn : goal.returns-in_err-incoming-clause-turn
@@ -68,3 +69,16 @@ returns-clause-turn g c =
           c.in_ok-handle.ensures.waiting c.in_ok-handle.field-0 c.in_ok-handle.ensures.does,
       c.malformed_count.ensures.value,
     )
+
+-- no client waits for a call that was not made, whether it was stopped or not
+pub returns-in_err-handle-clause-fresh : goal.returns-in_err-handle-clause-fresh
+returns-in_err-handle-clause-fresh g c =
+    let node = c.args.node.now in
+    Does-keeps (coding node.layout) node.me (serving_of c.args.self.now node) (serving_of c.handle.new.self c.handle.new.node) c.in_ok-incoming.incoming
+    c.in_ok-now.now _ _ c.handle.result c.requires.fresh c.handle.ensures.does
+
+pub returns-clause-fresh : goal.returns-clause-fresh
+returns-clause-fresh g c =
+    let node = c.args.node.now in
+    Does-keeps (coding node.layout) node.me (serving_of c.args.self.now node) (serving_of c.handle.new.self c.handle.new.node) c.in_ok-incoming.incoming
+    c.in_ok-now.now _ _ c.handle.result c.requires.fresh c.handle.ensures.does
