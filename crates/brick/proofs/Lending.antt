@@ -4,12 +4,12 @@ use Rattle.fab_host.specs.Opening.{Lends, Regains, WhereTold}
 use Rattle.brick.specs.Hosts.{Told, Has}
 
 -- a thing was lent
-pub lends_told : {H T E : Type 0} (before after : Option H) (gives : H → T → Type 0) (lent_by : H → H) (thing : T)
+pub lends_told : {H T : Type 0} (E : Type 0) (before after : Option H) (gives : H → T → Type 0) (lent_by : H → H) (thing : T)
     → Lends {E = E} before after gives lent_by (Ok thing) → Told before after (λ h now. gives h thing × (now ≡ lent_by h))
-lends_told None None gives lent_by thing l = tt
-lends_told None (Some now) gives lent_by thing l = absurd l
-lends_told (Some h) None gives lent_by thing l = absurd l
-lends_told (Some h) (Some now) gives lent_by thing l = l
+lends_told E None None gives lent_by thing l = tt
+lends_told E None (Some now) gives lent_by thing l = absurd l
+lends_told E (Some h) None gives lent_by thing l = absurd l
+lends_told E (Some h) (Some now) gives lent_by thing l = l
 
 -- and given back
 pub regains_told : {H : Type 0} (before after : Option H) (kept_by : H → H) → Regains before after kept_by

@@ -1,4 +1,5 @@
 mod Lending
+mod Lent
 mod Hosts
 mod Places
 mod Found

@@ -3,7 +3,7 @@
 ghost use Rattle.std.specs.Prelude.{◌≡◌, ◌≢◌, ◌<◌, false};
 ghost use Rattle.fab_disk.specs.Disk as disks;
 ghost use Rattle.fab_io.specs.Ends.{Kept};
-ghost use Rattle.node.specs.Running.{IsSameBrick};
+ghost use Rattle.node.specs.Running.{IsSameBrick, state_of, LeavesBrick};
 ghost use Rattle.serving.specs.Ports.{ports_of, port_of};
 ghost use Rattle.brick.specs.Endings.{status_of, IsDone};
 ghost use Rattle.brick.specs.Hosts.{host_seen, Told, Has};
@@ -138,14 +138,16 @@ fn serve_link<H: Host, K: Sink>(
     port: u16,
     turns: u64,
 ) -> Ending
-    requires { node.old.brick.halted ≡ false }
+    requires runs { node.old.brick.halted ≡ false }
+    requires durable { H.Disk.tells → LeavesBrick node.old.layout node.old.me (state_of node.old) (H.Disk.may_leave node.old.brick.disk) }
     ensures serves { ServesByLink (views H.Disk.tells H.Disk.seen H.Disk.may_leave H.Disk.faults H.Link.waiting H.Link.sent H.Link.faults H.Clock.coming H.Clock.faults)
         turns port (host_seen (H.faults host.old) (H.asked host.old) (H.holds host.old))
         (host_seen (H.faults host.new) (H.asked host.new) (H.holds host.new)) node.old node.new (K.told out.old) (K.told out.new) result }
     ensures disks { Told (H.holds host.old) (H.holds host.new) (λ h now. now.disks ≡ h.disks) }
     ensures stays { H.sound host.old → H.sound host.new }
     ensures same { IsSameBrick node.old node.new }
-    ensures runs { result ≢ Ending.Disk → node.new.brick.halted ≡ false }
+    ensures durable { H.Disk.tells → result ≢ Ending.Disk → LeavesBrick node.new.layout node.new.me (state_of node.new)
+        (H.Disk.may_leave node.new.brick.disk) }
     ensures disk { H.Disk.sound node.old.brick.disk → H.Disk.sound node.new.brick.disk }
     ensures sink { Kept (K.faults out.old) (K.faults out.new) (K.sound out.old) (K.sound out.new) (status_of result ≡ 6) }
     ensures done { H.sound host.old → H.Disk.sound node.old.brick.disk → K.sound out.old
@@ -170,14 +172,16 @@ fn serve_clock<H: Host, K: Sink>(
     link: &mut H::Link,
     turns: u64,
 ) -> Ending
-    requires { node.old.brick.halted ≡ false }
+    requires runs { node.old.brick.halted ≡ false }
+    requires durable { H.Disk.tells → LeavesBrick node.old.layout node.old.me (state_of node.old) (H.Disk.may_leave node.old.brick.disk) }
     ensures serves { ServesByClock (views H.Disk.tells H.Disk.seen H.Disk.may_leave H.Disk.faults H.Link.waiting H.Link.sent H.Link.faults H.Clock.coming H.Clock.faults)
         turns (host_seen (H.faults host.old) (H.asked host.old) (H.holds host.old))
         (host_seen (H.faults host.new) (H.asked host.new) (H.holds host.new)) node.old node.new link.old link.new (K.told out.old) (K.told out.new) result }
     ensures others { Told (H.holds host.old) (H.holds host.new) (λ h now. (now.disks ≡ h.disks) × (now.links ≡ h.links)) }
     ensures stays { H.sound host.old → H.sound host.new }
     ensures same { IsSameBrick node.old node.new }
-    ensures runs { result ≢ Ending.Disk → node.new.brick.halted ≡ false }
+    ensures durable { H.Disk.tells → result ≢ Ending.Disk → LeavesBrick node.new.layout node.new.me (state_of node.new)
+        (H.Disk.may_leave node.new.brick.disk) }
     ensures disk { H.Disk.sound node.old.brick.disk → H.Disk.sound node.new.brick.disk }
     ensures link { H.Link.sound link.old → H.Link.sound link.new }
     ensures sink { Kept (K.faults out.old) (K.faults out.new) (K.sound out.old) (K.sound out.new) (status_of result ≡ 6) }
@@ -203,11 +207,12 @@ fn serve_turns<D: Disk, L: Link, C: Clock, K: Sink>(
     clock: &mut C,
     turns: u64,
 ) -> Ending
-    requires { node.old.brick.halted ≡ false }
+    requires runs { node.old.brick.halted ≡ false }
+    requires durable { D.tells → LeavesBrick node.old.layout node.old.me (state_of node.old) (D.may_leave node.old.brick.disk) }
     ensures serves { ServesTurns (views D.tells D.seen D.may_leave D.faults L.waiting L.sent L.faults C.coming C.faults)
         turns node.old node.new link.old link.new clock.old clock.new (K.told out.old) (K.told out.new) result }
     ensures same { IsSameBrick node.old node.new }
-    ensures runs { result ≢ Ending.Disk → node.new.brick.halted ≡ false }
+    ensures durable { D.tells → result ≢ Ending.Disk → LeavesBrick node.new.layout node.new.me (state_of node.new) (D.may_leave node.new.brick.disk) }
     ensures disk { D.sound node.old.brick.disk → D.sound node.new.brick.disk }
     ensures link { L.sound link.old → L.sound link.new }
     ensures clock { C.sound clock.old → C.sound clock.new }

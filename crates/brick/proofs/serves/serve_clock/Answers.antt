@@ -1,13 +1,12 @@
 -- The clock is lent for the turns.
-use Rattle.std.proofs.Common.{inl, inr, refl, sym, ap, ◌∙◌, subst}
-use Rattle.fab_host.specs.Held.{IsKnown}
+use Rattle.std.proofs.Common.{inr, refl}
 use Rattle.brick.specs.Hosts.{host_seen}
-use Rattle.brick.proofs.Lending.{lends_told, regains_told, told_then, where_lent, has_apart}
+use Rattle.brick.proofs.Lending.{lends_told, regains_told}
+use Rattle.brick.proofs.Lent.{clock_known, clock_others}
 use Rattle.brick.proofs.serves.serve_clock.Goals as goal
 
 pub keep_clock-requires : goal.keep_clock-requires
-keep_clock-requires g c =
-    where_lent _ _ (lends_told _ _ _ _ _ c.in-Ok.ensures.lends) (λ h now p. subst IsKnown (sym (ap (λ z. z.clock) p.1)) tt)
+keep_clock-requires g c = clock_known _ _ c.in-Ok.clock (lends_told _ _ _ _ _ _ c.in-Ok.ensures.lends)
 
 pub returns : goal.returns
 returns g c = record {
@@ -20,7 +19,7 @@ returns g c = record {
       lends = record {
         asked = c.in-Ok.ensures.asked;
         later = c.in-Ok.ensures.kept.later;
-        told = lends_told _ _ _ _ _ c.in-Ok.ensures.lends;
+        told = lends_told _ _ _ _ _ _ c.in-Ok.ensures.lends;
       };
       does = (refl, c.serve_turns-ending.ensures.serves);
       asked = c.keep_clock.ensures.asked;
@@ -28,11 +27,11 @@ returns g c = record {
       regains = regains_told _ _ _ c.keep_clock.ensures.holds;
     },
   );
-  others = told_then _ _ _ (lends_told _ _ _ _ _ c.in-Ok.ensures.lends) (regains_told _ _ _ c.keep_clock.ensures.holds)
-      (λ h mid now p q. (ap (λ z. z.disks) q ∙ ap (λ z. z.disks) p.1, ap (λ z. z.links) q ∙ ap (λ z. z.links) p.1));
+  others = clock_others _ _ _ c.in-Ok.clock c.serve_turns-ending.new.clock (lends_told _ _ _ _ _ _ c.in-Ok.ensures.lends)
+      (regains_told _ _ _ c.keep_clock.ensures.holds);
   stays = λ s. c.keep_clock.ensures.sound (c.serve_turns-ending.ensures.clock (c.in-Ok.ensures.gives s)) (c.in-Ok.ensures.kept.stays s);
   same = c.serve_turns-ending.ensures.same;
-  runs = c.serve_turns-ending.ensures.runs;
+  durable = c.serve_turns-ending.ensures.durable;
   disk = c.serve_turns-ending.ensures.disk;
   link = c.serve_turns-ending.ensures.link;
   sink = c.serve_turns-ending.ensures.sink;

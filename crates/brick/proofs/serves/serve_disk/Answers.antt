@@ -1,18 +1,14 @@
 -- The disk is lent, and its store opened.
-use Rattle.std.proofs.Common.{inl, inr, refl, sym, ap, ◌∙◌, subst}
-use Rattle.fab_host.specs.Held.{IsKnown, IsMissing, lent}
-use Rattle.fab_host.proofs.Known.{at_name-own}
+use Rattle.std.proofs.Common.{inr, refl}
 use Rattle.brick.specs.Hosts.{host_seen}
 use Rattle.brick.proofs.Completing.{lent_starts}
-use Rattle.brick.proofs.Lending.{lends_told, regains_told, where_lent, where_after}
+use Rattle.brick.proofs.Lending.{lends_told, regains_told}
+use Rattle.brick.proofs.Lent.{disk_known}
 use Rattle.brick.proofs.serves.serve_disk.Goals as goal
 
 pub keep_disk-requires : goal.keep_disk-requires
 keep_disk-requires g c =
-    where_after _ _ c.serve_store-disk.ensures.disks
-    (where_lent _ _ (lends_told _ _ _ _ _ (c.in-Ok.ensures.lends refl))
-    (λ h now p. subst IsKnown (sym (ap (λ z. z.disks c.args.name.now) p.1 ∙ at_name-own h.disks c.args.name.now lent)) tt))
-    (λ h now p known. subst IsKnown (sym (ap (λ d. d c.args.name.now) p)) known)
+    disk_known _ _ _ c.args.name.now c.in-Ok.disk (lends_told _ _ _ _ _ _ (c.in-Ok.ensures.lends refl)) c.serve_store-disk.ensures.disks
 
 pub returns : goal.returns
 returns g c = record {
@@ -25,7 +21,7 @@ returns g c = record {
       lends = record {
         asked = c.in-Ok.ensures.asked;
         later = c.in-Ok.ensures.kept.later;
-        told = lends_told _ _ _ _ _ (c.in-Ok.ensures.lends refl);
+        told = lends_told _ _ _ _ _ _ (c.in-Ok.ensures.lends refl);
       };
       does = c.serve_store-disk.ensures.serves;
       asked = c.keep_disk.ensures.asked;
@@ -37,6 +33,6 @@ returns g c = record {
   sink = c.serve_store-disk.ensures.sink;
   done = λ s sink has.
       let starts = lent_starts g.H.Disk.Disk.tells g.H.Disk.Disk.seen c.args.layout c.args.me _ _ c.args.name.now c.in-Ok.disk
-      (lends_told _ _ _ _ _ (c.in-Ok.ensures.lends refl)) has in
+      (lends_told _ _ _ _ _ _ (c.in-Ok.ensures.lends refl)) has in
       c.serve_store-disk.ensures.done (c.in-Ok.ensures.kept.stays s) (c.in-Ok.ensures.gives s) sink starts.0 starts.1;
 }

@@ -1,7 +1,9 @@
 -- A store was opened, and the brick serves; or it was refused.
-use Rattle.std.proofs.Common.{◌≡◌, ℕ, inl, inr, refl, sym, ap, ◌∙◌, subst}
+use Rattle.std.proofs.Common.{◌≡◌, ◌≢◌, ℕ, inl, inr, refl, sym, ap, ◌∙◌, subst}
 use Rattle.fab_io.proofs.Keeping.{Kept-refl, Kept-narrower}
 use Rattle.brick.specs.Endings.{status_of, IsDone}
+use Rattle.node.specs.Running.{state_of, LeavesBrick}
+use Rattle.brick.specs.declared.endings.Ending.TheVariants.{Disk}
 use Rattle.brick.specs.Hosts.{Has, host_seen}
 use Rattle.brick.specs.Serves.{ServesByLink, RefusesStore, HasLink}
 use Rattle.brick.specs.Views.{views}
@@ -9,6 +11,11 @@ use Rattle.brick.proofs.Lending.{told_same}
 use Rattle.brick.proofs.Starting.{shown_as, is_a_store, is_not_worn}
 use Rattle.brick.proofs.Turning.{refuses, refusal_not_sink, refusal_done}
 use Rattle.brick.proofs.serves.serve_store.Goals as goal
+
+-- the brick that was started is left by a crash under its own layout and number
+pub serve_link-ending-requires-clause-durable : goal.serve_link-ending-requires-clause-durable
+serve_link-ending-requires-clause-durable g c = λ tells image may.
+    shown_as _ _ _ _ _ _ (sym c.in-Ok.ensures.layout) (sym c.in-Ok.ensures.me) (c.in-Ok.ensures.durable tells image may)
 
 pub returns-in-Ok : goal.returns-in-Ok
 returns-in-Ok g c =
@@ -23,6 +30,8 @@ returns-in-Ok g c =
     let node = c.serve_link-ending.new.node in
     let layouts = served.same.layout ∙ c.in-Ok.ensures.layout in
     let bricks = served.same.me ∙ c.in-Ok.ensures.me in
+    let left : d.tells → c.serve_link-ending.result ≢ Disk → LeavesBrick node.layout node.me (state_of node) (d.may_leave c.into_disk.result) =
+    λ tells not. subst (λ x. LeavesBrick node.layout node.me (state_of node) (d.may_leave x)) (sym c.into_disk.ensures.disk) (served.durable tells not) in
     record {
       serves = inr (record {
         node = c.in-Ok.node;
@@ -38,8 +47,8 @@ returns-in-Ok g c =
             c.serve_link-ending.result) c.port_of-port.ensures served.serves;
         left = record {
           disk = c.into_disk.ensures.disk;
-          shows = λ tells not. shown_as _ _ _ _ _ _ layouts bricks (c.into_disk.ensures.seen tells (served.runs not));
-          durable = λ tells not image left. shown_as _ _ _ _ _ _ layouts bricks (c.into_disk.ensures.durable tells (served.runs not) image left);
+          shows = λ tells not. shown_as _ _ _ _ _ _ layouts bricks (left tells not _ (g.met.H.Disk.Disk.seen_is_left c.into_disk.result));
+          durable = λ tells not image may. shown_as _ _ _ _ _ _ layouts bricks (left tells not image may);
         };
       });
       disks = served.disks;
