@@ -4,6 +4,7 @@ use Rattle.fab_io.proofs.Keeping.{Kept-narrower}
 use Rattle.std.specs.Io.KnownBytes.{Appends}
 use Rattle.fab_base.specs.declared.identities.BrickId.{BrickId}
 use Rattle.brick.specs.Endings.{status_of, serving_text, IsDone}
+use Rattle.brick.specs.Views.{views}
 use Rattle.brick.proofs.Turning.{rose_at, turns_not_sink, turns_done, not_disk_turns}
 use Rattle.brick.proofs.serves.serve_turns.Goals as goal
 
@@ -13,6 +14,9 @@ true_false e = cc
 
 pub returns-in-Ok : goal.returns-in-Ok
 returns-in-Ok g c =
+    let d = g.D.Disk in
+    let l = g.L.Link in
+    let k = g.C.Clock in
     let turns = c.serve.ensures in
     record {
       serves = inr (record {
@@ -20,7 +24,8 @@ returns-in-Ok g c =
         says = subst (λ (b : BrickId). Appends (g.K.Sink.told c.args.out.now) (g.K.Sink.told c.say_serving.new.out) (serving_text b)) c.me.ensures
             c.in-Ok.ensures.content;
         served = turns.served c.requires.runs;
-        rose = rose_at _ _ _ _ _ _ _ c.serve.result turns.disk.rose turns.link.rose turns.clock.rose;
+        rose = rose_at (views d.tells d.seen d.may_leave d.faults l.waiting l.sent l.faults k.coming k.faults) c.args.node.now.brick.disk
+            c.serve.new.node.brick.disk c.args.link.now c.serve.new.link c.args.clock.now c.serve.new.clock c.serve.result turns.disk.rose turns.link.rose turns.clock.rose;
         ends = c.ending_of.ensures;
       });
       same = turns.same;
