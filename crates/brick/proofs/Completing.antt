@@ -16,10 +16,10 @@ use Rattle.brick.specs.declared.words.Work.{Work}
 use Rattle.brick.specs.declared.words.Work.TheVariants.{Format, Serve}
 use Rattle.brick.specs.Bricks.{MayDo, MayRun}
 use Rattle.brick.specs.Endings.{IsDone}
-use Rattle.brick.specs.Formats.{FormatsBrick, MakesStore, MayFormat}
+use Rattle.brick.specs.Formats.{FormatsBrick}
 use Rattle.brick.specs.Hosts.{HostSeen, Told, Has, ReturnsSource}
 use Rattle.brick.specs.Layouts.{most_layout_bytes, Says, ReadsSource, FindsLayout, HoldsLayout, brick_of}
-use Rattle.brick.specs.Serves.{MayStart, HasDisk, HasLink, MayServe}
+use Rattle.brick.specs.Serves.{MayStart, HasDisk, HasLink}
 use Rattle.brick.proofs.Lending.{has_apart}
 
 -- what is here is one thing

@@ -1,5 +1,5 @@
 -- Which calls were asked of a host, by how a program ended.
-use Rattle.std.proofs.Common.{◌≡◌, ℕ, suc, ◌<◌, ◌+◌, arith, true, false, List, [], ◌∷◌, ◌++◌, Option, Some, None, Result, Ok, Err, IfSome, ◌⊎◌, inl, inr, refl, sym, ap, ◌∙◌, subst, append-nil, append_assoc, take}
+use Rattle.std.proofs.Common.{◌≡◌, ℕ, suc, ◌<◌, ◌+◌, arith, true, false, List, [], ◌∷◌, ◌++◌, Option, Some, None, Result, Ok, Err, inl, inr, refl, sym, ap, ◌∙◌, subst, append-nil, append_assoc, take}
 use Rattle.fab_base.specs.declared.identities.BrickId.{BrickId}
 use Rattle.fab_base.specs.Layouts.{Layout}
 use Rattle.fab_host.specs.declared.hosts.Asked.{Asked}

@@ -1,5 +1,5 @@
 -- What a host holds, from before a call to after it, where it tells that.
-use Rattle.std.proofs.Common.{◌≡◌, Option, Some, None, Result, Ok, Err}
+use Rattle.std.proofs.Common.{◌≡◌, Option, Some, None, Ok}
 use Rattle.fab_host.specs.Opening.{Lends, Regains, WhereTold}
 use Rattle.brick.specs.Hosts.{Told, Has}
 

@@ -1,6 +1,6 @@
 -- What a host still holds while a thing of it is lent, and once that was given back.
-use Rattle.std.proofs.Common.{◌≡◌, ℕ, List, Option, refl, sym, ap, ◌∙◌, subst}
-use Rattle.fab_host.specs.Held.{Held, lent, here, IsKnown, IsMissing}
+use Rattle.std.proofs.Common.{◌≡◌, ℕ, List, Option, sym, ap, ◌∙◌, subst}
+use Rattle.fab_host.specs.Held.{lent, here, IsKnown, IsMissing}
 use Rattle.fab_host.specs.Holdings.{Holdings, with_disk, with_link, with_clock}
 use Rattle.fab_host.specs.Opening.{WhereTold}
 use Rattle.fab_host.proofs.Known.{at_name-own, at_port-own}

@@ -1,5 +1,5 @@
 -- What the exit status says of how a program ended, and of its sink.
-use Rattle.std.proofs.Common.{◌≡◌, ◌≢◌, ◌⊎◌, ◌≤◌, ◌<◌, ℕ, arith, List, Option, inl, inr, refl, ◌∙◌}
+use Rattle.std.proofs.Common.{◌≡◌, ◌≢◌, ◌⊎◌, ◌≤◌, ℕ, arith, List, Option, inl, inr, refl, ◌∙◌}
 use Rattle.std.proofs.lemmas.Bool.{cases_lt}
 use Rattle.fab_io.specs.Ends.{Rose, Kept}
 use Rattle.fab_io.proofs.Keeping.{Rose-later}

@@ -1,5 +1,5 @@
 -- How turns, and stores that are not opened, end a program.
-use Rattle.std.proofs.Common.{◌≡◌, ◌≢◌, ◌⊎◌, ◌-◌, ◌^◌, ℕ, arith, List, Option, Result, Ok, Err, inl, inr, refl}
+use Rattle.std.proofs.Common.{◌≡◌, ◌≢◌, ◌⊎◌, ◌-◌, ◌^◌, ℕ, arith, List, Result, Ok, Err, inl, inr, refl}
 use Rattle.std.specs.Prelude.{IsOk}
 use Rattle.fab_base.specs.declared.identities.BrickId.{BrickId}
 use Rattle.fab_base.specs.Layouts.{Layout}
@@ -16,7 +16,6 @@ use Rattle.replica.specs.Parts.{IsFirstView}
 use Rattle.node.specs.Running.{shape_at}
 use Rattle.serving.specs.declared.faults.ServeFault.{ServeFault}
 use Rattle.serving.specs.declared.faults.ServeFault.TheVariants as faults
-use Rattle.brick.specs.declared.endings.Ending.{Ending}
 use Rattle.brick.specs.declared.endings.Ending.TheVariants.{Disk}
 use Rattle.brick.specs.Endings.{status_of, IsDone}
 use Rattle.brick.specs.Serves.{ending_of, refusal_of, RoseAt, IsUnharmed, RefusesStore}

@@ -1,7 +1,6 @@
 //! `brick serve`.
 
 ghost use Rattle.std.specs.Prelude.{◌≡◌, ◌≢◌, ◌<◌, false};
-ghost use Rattle.fab_disk.specs.Disk as disks;
 ghost use Rattle.fab_io.specs.Ends.{Kept};
 ghost use Rattle.node.specs.Running.{IsSameBrick, state_of, LeavesBrick};
 ghost use Rattle.serving.specs.Ports.{ports_of, port_of};
