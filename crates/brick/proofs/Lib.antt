@@ -1,5 +1,10 @@
+mod Lending
+mod Lent
 mod Hosts
 mod Places
 mod Found
+mod Starting
+mod Turning
 mod Completing
 mod InOrder
+mod Printing

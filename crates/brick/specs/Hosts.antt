@@ -1,17 +1,21 @@
 -- What a program asked of its host, and what it gave back.
-use Rattle.std.specs.Prelude.{◌≡◌, ℕ, false, List, [], ◌∷◌, ◌++◌, ⊤, Option, Some, None}
+use Rattle.std.specs.Prelude.{◌≡◌, ℕ, ◌≤◌, false, List, [], ◌∷◌, ◌++◌, ⊤, Option, Some, None}
 use Rattle.std.specs.Str.{bytes_eq}
+use Rattle.fab_io.specs.Ends.{Rose}
 use Rattle.fab_host.specs.declared.hosts.Asked.{Asked}
-use Rattle.fab_host.specs.Held.{here}
+use Rattle.fab_host.specs.Held.{Held, lent, here}
 use Rattle.fab_host.specs.Holdings.{Holdings, IsFree}
+use Rattle.brick.specs.declared.endings.Ending.{Ending}
+use Rattle.brick.specs.declared.endings.Ending.TheVariants.{Memory, Host}
 
--- what is seen of a host: the calls that were asked of it, and what it holds, where it tells that
+-- what is seen of a host: its count of faults, the calls that were asked of it, and what it holds, where it tells that
 pub record HostSeen (S D L C : Type 0) : Type 0 where
+  pub faults : ℕ
   pub asked : List Asked
   pub holds : Option (Holdings S D L C)
 
-abbrev pub host_seen : {S D L C : Type 0} → List Asked → Option (Holdings S D L C) → HostSeen S D L C
-host_seen asked holds = record { asked = asked; holds = holds }
+abbrev pub host_seen : {S D L C : Type 0} → ℕ → List Asked → Option (Holdings S D L C) → HostSeen S D L C
+host_seen faults asked holds = record { faults = faults; asked = asked; holds = holds }
 
 -- this is so of what a host held and of what it holds now, where it tells that
 abbrev pub Told : {H : Type 0} → Option H → Option H → (H → H → Type 0) → Type 0
@@ -20,18 +24,24 @@ Told None (Some now) P = ⊥
 Told (Some h) None P = ⊥
 Told (Some h) (Some now) P = P h now
 
+-- what is held is told, and this is so of it
+abbrev pub Has : {H : Type 0} → Option H → (H → Type 0) → Type 0
+Has None P = ⊥
+Has (Some h) P = P h
+
 -- no call was asked, and the same is held
 abbrev pub IsUnasked : {S D L C : Type 0} → HostSeen S D L C → HostSeen S D L C → Type 0
 IsUnasked before after = (after.asked ≡ before.asked) × Told before.holds after.holds (λ h now. now ≡ h)
 
--- this call alone was asked, and this is so of what is held
+-- this call alone was asked, and this is so of what is held; the count of faults never falls
 pub record AsksOnly {S D L C : Type 0} (before after : HostSeen S D L C) (call : Asked) (P : Holdings S D L C → Holdings S D L C → Type 0) : Type 0 where
   pub asked : after.asked ≡ before.asked ++ call ∷ []
+  pub later : before.faults ≤ after.faults
   pub told : Told before.holds after.holds P
 
--- the call failed: the same is held
+-- the call failed, as the count of faults says: the same is held
 abbrev pub AsksInVain : {S D L C : Type 0} → HostSeen S D L C → HostSeen S D L C → Asked → Type 0
-AsksInVain before after call = AsksOnly before after call (λ h now. now ≡ h)
+AsksInVain before after call = AsksOnly before after call (λ h now. now ≡ h) × Rose before.faults after.faults
 
 -- The source of this name was opened, and given back as it is now. All else is as it was.
 pub record ReturnsSource {S D L C : Type 0} (name : List ℕ) (opened back : S) (h now : Holdings S D L C) : Type 0 where
@@ -50,3 +60,21 @@ pub record ReturnsFresh {S D L C : Type 0} (name : List ℕ) (back : D) (h now :
   pub sources : now.sources ≡ h.sources
   pub links : now.links ≡ h.links
   pub clock : now.clock ≡ h.clock
+
+-- Nothing was opened by this call: the host failed, or no memory was left.
+abbrev pub IsRefused : {S D L C : Type 0} → HostSeen S D L C → HostSeen S D L C → Asked → Ending → Type 0
+IsRefused before after call Host = AsksInVain before after call
+IsRefused before after call Memory = IsUnasked before after
+IsRefused before after call other = ⊥
+
+-- A thing was lent by this call, this was done with the host meanwhile, and the thing was given back as it is now. `at` says where it stands
+-- among what is held, and `with` is that with something else there.
+pub record Borrows {S D L C T : Type 0} (before after : HostSeen S D L C) (call : Asked) (at : Holdings S D L C → Held T)
+    (with : Holdings S D L C → Held T → Holdings S D L C) (thing back : T) (meanwhile : HostSeen S D L C → HostSeen S D L C → Type 0) : Type 0 where
+  pub began : HostSeen S D L C
+  pub ended : HostSeen S D L C
+  pub lends : AsksOnly before began call (λ h now. (at h ≡ here thing) × (now ≡ with h lent))
+  pub does : meanwhile began ended
+  pub asked : after.asked ≡ ended.asked
+  pub faults : after.faults ≡ ended.faults
+  pub regains : Told ended.holds after.holds (λ h now. now ≡ with h (here back))

@@ -1,27 +1,49 @@
 -- What the words of a command line ask for.
-use Rattle.std.specs.Prelude.{ℕ, nat_eq, not, ◌&&◌, Bool, if◌then◌else◌, List, [], ◌∷◌, codes, Option, None, option_map}
+use Rattle.std.specs.Prelude.{ℕ, nat_eq, not, ◌&&◌, Bool, if◌then◌else◌, List, [], ◌∷◌, codes, Option, None, option_map, option_and_then}
 use Rattle.std.specs.List.{starts_with}
 use Rattle.std.specs.Str.{bytes_eq}
 use Rattle.lines.specs.Tokens.{number}
-use Rattle.brick.specs.declared.words.FormatWords.{FormatWords}
+use Rattle.brick.specs.declared.words.Words.{Words}
+use Rattle.brick.specs.declared.words.Work.{Work}
+use Rattle.brick.specs.declared.words.Work.TheVariants.{Format, Serve}
 
--- to make the store of a brick: the name of the layout's source, that of the disk, and the brick's number
-pub data Wanted : Type 0 where
-  Format : (layout disk : List ℕ) → (id : ℕ) → Wanted
+-- the name of the layout's source, that of the disk, and what is to be done with it
+pub record Wanted : Type 0 where
+  pub layout : List ℕ
+  pub name : List ℕ
+  pub work : Work
 
 -- a name does not begin with `-`
 abbrev pub is_name : List ℕ → Bool
 is_name word = not (starts_with nat_eq word (codes "-"))
 
--- `LAYOUT DISK ID`
-abbrev pub wants_format : List ℕ → List ℕ → List ℕ → Option Wanted
-wants_format layout disk id = if is_name layout && is_name disk then option_map (Format layout disk) (number id) else None
+-- to make the store of brick ID
+abbrev pub format_work : List ℕ → Option Work
+format_work id = option_map Format (number id)
+
+-- to serve TURNS turns as brick ID
+abbrev pub serve_work : List ℕ → List ℕ → Option Work
+serve_work id turns = option_and_then (λ brick. option_map (Serve brick) (number turns)) (number id)
+
+-- this work on the disk of this name
+abbrev pub wants : List ℕ → List ℕ → Option Work → Option Wanted
+wants layout name work =
+    if is_name layout && is_name name then option_map (λ w. record { layout = layout; name = name; work = w }) work else None
 
 -- `format LAYOUT DISK ID`
+abbrev pub four_words : List ℕ → List ℕ → List ℕ → List ℕ → Option Wanted
+four_words word layout disk id = if bytes_eq word (codes "format") then wants layout disk (format_work id) else None
+
+-- `serve LAYOUT DISK ID TURNS`
+abbrev pub five_words : List ℕ → List ℕ → List ℕ → List ℕ → List ℕ → Option Wanted
+five_words word layout disk id turns = if bytes_eq word (codes "serve") then wants layout disk (serve_work id turns) else None
+
+-- what a command line wants, if it is of one of these forms
 unfoldable pub command_of : List (List ℕ) → Option Wanted
-command_of (word ∷ layout ∷ disk ∷ id ∷ []) = if bytes_eq word (codes "format") then wants_format layout disk id else None
+command_of (word ∷ layout ∷ disk ∷ id ∷ []) = four_words word layout disk id
+command_of (word ∷ layout ∷ disk ∷ id ∷ turns ∷ []) = five_words word layout disk id turns
 command_of _ = None
 
 -- what these words ask for
-abbrev pub wanted : FormatWords → Wanted
-wanted words = Format words.layout.now words.disk.now words.id
+abbrev pub wanted : Words → Wanted
+wanted words = record { layout = words.layout.now; name = words.name.now; work = words.work }

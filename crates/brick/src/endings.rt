@@ -3,7 +3,7 @@
 ghost use Rattle.std.specs.Prelude.{◌≡◌, ◌≢◌, IfOk, string_bytes};
 ghost use Rattle.std.specs.Io.KnownBytes.{Keeps};
 ghost use Rattle.fab_io.specs.Ends.{Kept, WriteTakes};
-ghost use Rattle.brick.specs.Endings.{status_of, text_of, Prints};
+ghost use Rattle.brick.specs.Endings.{status_of, serving_text, text_of, Prints};
 
 use fab_base::BrickId;
 use fab_io::{IoFault, Sink};
@@ -15,6 +15,13 @@ use std::alloc::{AllocError, Global};
 pub enum Ending {
     /// The store of this brick was made.
     Formatted(BrickId),
+    /// The brick served all its turns.
+    Ended {
+        /// How many turns it served.
+        turns: u64,
+        /// How many datagrams came in them that are no message.
+        malformed: u64,
+    },
     /// The words are of no form, or the layout has no brick of this number.
     Usage,
     /// The source's text is no layout.
@@ -23,12 +30,18 @@ pub enum Ending {
     LongLayout,
     /// The source failed.
     Source,
+    /// The sink failed as the brick said that it serves.
+    Sink,
     /// No memory was left.
     Memory,
     /// The disk failed.
     Disk,
-    /// The host failed.
+    /// The host, the link or the clock failed.
     Host,
+    /// The disk holds no store of this layout and brick.
+    NotAStore,
+    /// The disk's store was opened as often as it can be.
+    Worn,
 }
 
 impl From<AllocError> for Ending {
@@ -47,13 +60,16 @@ impl Ending {
         ensures { result ≡ status_of self.now }
     {
         match self {
-            Ending::Formatted(_) => 0,
+            Ending::Formatted(_) | Ending::Ended { .. } => 0,
             Ending::Usage => 2,
             Ending::BadLayout(_) | Ending::LongLayout => 3,
             Ending::Source => 5,
+            Ending::Sink => 6,
             Ending::Memory => 7,
             Ending::Disk => 9,
             Ending::Host => 10,
+            Ending::NotAStore => 11,
+            Ending::Worn => 12,
         }
     }
 
@@ -66,12 +82,17 @@ impl Ending {
                 let id = me.0;
                 Ok(format!(in alloc; "formatted {id}\n")?)
             }
+            Ending::Ended { turns, malformed } => {
+                Ok(format!(in alloc; "ended {turns} malformed {malformed}\n")?)
+            }
             Ending::BadLayout(fault) => Ok(format!(in alloc; "bad layout: {fault}\n")?),
             Ending::Usage => Ok(String::from_str(alloc, USAGE)?),
             Ending::LongLayout => Ok(String::from_str(alloc, "bad layout: limit layout\n")?),
             Ending::Disk => Ok(String::from_str(alloc, "disk\n")?),
             Ending::Host => Ok(String::from_str(alloc, "host\n")?),
-            Ending::Source | Ending::Memory => Ok(String::new(alloc)),
+            Ending::NotAStore => Ok(String::from_str(alloc, "not a store\n")?),
+            Ending::Worn => Ok(String::from_str(alloc, "worn\n")?),
+            Ending::Source | Ending::Sink | Ending::Memory => Ok(String::new(alloc)),
         }
     }
 }
@@ -83,7 +104,8 @@ const USAGE: &str =
 /// Writes the last text of a program that ends so, and answers its exit status: 6 where the sink fails, 7 where no memory is left.
 pub(crate) fn finish<K: Sink>(alloc: Global, out: &mut K, ending: &Ending) -> u8
     ensures printed { Prints (K.told out.old) (K.told out.new) (text_of ending.now) (status_of ending.now) result }
-    ensures kept { Kept (K.faults out.old) (K.faults out.new) (K.sound out.old) (K.sound out.new) (result ≡ 6) }
+    ensures kept { Kept (K.faults out.old) (K.faults out.new) (K.sound out.old) (K.sound out.new)
+        ((result ≡ 6) × (status_of ending.now ≢ 6)) }
 {
     match write_text(alloc, out, ending) {
         Ok(()) => ending.status(),
@@ -102,5 +124,16 @@ fn write_text<K: Sink>(alloc: Global, out: &mut K, ending: &Ending) -> Result<()
     if text.is_empty() {
         return Ok(());
     }
+    out.write(text.as_bytes())
+}
+
+/// Says that this brick serves.
+pub(crate) fn say_serving<K: Sink>(alloc: Global, out: &mut K, me: BrickId) -> Result<(), IoFault>
+    ensures content { WriteTakes (K.told out.old) (K.told out.new) result (serving_text me) }
+    ensures memory { result ≡ Err IoFault.NoMemory → Keeps (K.told out.old) (K.told out.new) }
+    ensures kept { Kept (K.faults out.old) (K.faults out.new) (K.sound out.old) (K.sound out.new) (result ≡ Err IoFault.Failed) }
+{
+    let id = me.0;
+    let text = format!(in alloc; "serving {id}\n")?;
     out.write(text.as_bytes())
 }

@@ -1,16 +1,15 @@
 //! `brick format`.
 
-ghost use Rattle.std.specs.Prelude.{◌≡◌, ◌≢◌, ◌≤◌, Some};
-ghost use Rattle.fab_io.specs.Ends.{Rose};
+ghost use Rattle.std.specs.Prelude.{◌≡◌, ◌≢◌};
 ghost use Rattle.fab_host.specs.Holdings.{IsFree};
 ghost use Rattle.fab_host.specs.Opening.{WhereTold};
-ghost use Rattle.brick.specs.Bricks.{MayRun};
-ghost use Rattle.brick.specs.Formats.{brick_of, MakesStore, FormatEnds, IsMade};
+ghost use Rattle.brick.specs.Endings.{status_of};
+ghost use Rattle.brick.specs.Formats.{MakesStore, FormatsBrick};
 ghost use Rattle.brick.specs.Hosts.{host_seen};
-ghost use Rattle.brick.specs.Words.{Format};
+ghost use Rattle.brick.specs.Layouts.{brick_of};
 
 use crate::endings::Ending;
-use crate::layout_texts::find_layout;
+use crate::layout_texts::brick_of;
 use brick_store::StoreFault;
 use fab_base::BrickId;
 use fab_host::Host;
@@ -18,39 +17,25 @@ use fab_io::IoFault;
 use layout::Layout;
 use std::alloc::Global;
 
-/// Makes the store of a brick of a layout on a fresh disk, and gives back to the host what it opened.
+/// Makes the store of the brick of this number on the fresh disk of this name, and gives the disk back.
 pub(crate) fn format<H: Host>(
     alloc: Global,
     host: &mut H,
-    source: &str,
-    disk: &str,
+    name: &str,
+    layout: &Layout,
     id: u64,
 ) -> Ending
-    ensures ends { FormatEnds H.Source.told H.Source.faults H.Disk.tells H.Disk.seen H.Disk.may_leave H.Disk.faults
-        (host_seen (H.asked host.old) (H.holds host.old)) (host_seen (H.asked host.new) (H.holds host.new)) source.now disk.now id result }
-    ensures later { H.faults host.old ≤ H.faults host.new }
-    ensures rose { result ≡ Ending.Host → Rose (H.faults host.old) (H.faults host.new) }
+    ensures formats { FormatsBrick H.Disk.tells H.Disk.seen H.Disk.may_leave H.Disk.faults layout.now (brick_of layout.now id)
+        (host_seen (H.faults host.old) (H.asked host.old) (H.holds host.old))
+        (host_seen (H.faults host.new) (H.asked host.new) (H.holds host.new)) name.now result }
     ensures stays { H.sound host.old → H.sound host.new }
-    ensures made { H.sound host.old → MayRun H.Source.told (H.holds host.old) (Some (Format source.now disk.now id)) → IsMade result }
+    ensures sink { status_of result ≢ 6 }
+    ensures disk { H.sound host.old → result ≢ Ending.Disk }
+    ensures taken { H.sound host.old → result ≡ Ending.Host → WhereTold (H.holds host.old) (λ h. ¬ (IsFree h name.now)) }
 {
-    let layout = match find_layout(alloc, host, source) {
-        Ok(layout) => layout,
-        Err(ending) => return ending,
-    };
-    match brick_of(&layout, id) {
-        Some(me) => make_store(alloc, host, disk, &layout, me),
+    match brick_of(layout, id) {
+        Some(me) => make_store(alloc, host, name, layout, me),
         None => Ending::Usage,
-    }
-}
-
-/// The brick of this number, if the layout has it.
-pub(crate) fn brick_of(layout: &Layout, id: u64) -> Option<BrickId>
-    ensures { result ≡ brick_of layout.now id }
-{
-    if id < layout.bricks() as u64 {
-        Some(BrickId(id as u16))
-    } else {
-        None
     }
 }
 
@@ -63,10 +48,10 @@ fn make_store<H: Host>(
     me: BrickId,
 ) -> Ending
     ensures makes { MakesStore H.Disk.tells H.Disk.seen H.Disk.may_leave H.Disk.faults layout.now me
-        (host_seen (H.asked host.old) (H.holds host.old)) (host_seen (H.asked host.new) (H.holds host.new)) name.now result }
-    ensures later { H.faults host.old ≤ H.faults host.new }
-    ensures rose { result ≡ Ending.Host → Rose (H.faults host.old) (H.faults host.new) }
+        (host_seen (H.faults host.old) (H.asked host.old) (H.holds host.old))
+        (host_seen (H.faults host.new) (H.asked host.new) (H.holds host.new)) name.now result }
     ensures stays { H.sound host.old → H.sound host.new }
+    ensures sink { status_of result ≢ 6 }
     ensures disk { H.sound host.old → result ≢ Ending.Disk }
     ensures taken { H.sound host.old → result ≡ Ending.Host → WhereTold (H.holds host.old) (λ h. ¬ (IsFree h name.now)) }
 {

@@ -1,16 +1,16 @@
-//! Reading a layout.
+//! Reading a layout, and finding a brick of it.
 
-ghost use Rattle.std.specs.Prelude.{◌≡◌, ◌≢◌, ◌⊎◌, ◌≤◌, ◌<◌, length, IfOk, IfSome, OnErr};
+ghost use Rattle.std.specs.Prelude.{◌≡◌, ◌≢◌, ◌⊎◌, OnErr};
 ghost use Rattle.std.specs.Io.{ReadsAtMost};
 ghost use Rattle.std.specs.Io.KnownBytes.{ReadConsumes};
-ghost use Rattle.fab_io.specs.Ends.{Kept, Rose};
+ghost use Rattle.fab_io.specs.Ends.{Kept};
 ghost use Rattle.fab_host.specs.Held.{IsMissing};
 ghost use Rattle.fab_host.specs.Opening.{WhereTold};
-ghost use Rattle.brick.specs.Formats.{Gives, TextGives, FindsLayout};
 ghost use Rattle.brick.specs.Hosts.{host_seen};
+ghost use Rattle.brick.specs.Layouts.{Gives, TextGives, FindsLayout, brick_of};
 
 use crate::endings::Ending;
-use fab_base::Bytes;
+use fab_base::{BrickId, Bytes};
 use fab_host::Host;
 use fab_io::{IoFault, Source};
 use layout::texts::LAYOUT_LIMIT;
@@ -26,10 +26,8 @@ pub(crate) fn find_layout<H: Host>(
     host: &mut H,
     name: &str,
 ) -> Result<Layout, Ending>
-    ensures found { FindsLayout H.Source.told H.Source.faults (host_seen (H.asked host.old) (H.holds host.old))
-        (host_seen (H.asked host.new) (H.holds host.new)) name.now result }
-    ensures later { H.faults host.old ≤ H.faults host.new }
-    ensures rose { result ≡ Err Ending.Host → Rose (H.faults host.old) (H.faults host.new) }
+    ensures found { FindsLayout H.Source.told H.Source.faults (host_seen (H.faults host.old) (H.asked host.old) (H.holds host.old))
+        (host_seen (H.faults host.new) (H.asked host.new) (H.holds host.new)) name.now result }
     ensures stays { H.sound host.old → H.sound host.new }
     ensures source { H.sound host.old → result ≢ Err Ending.Source }
     ensures missing { H.sound host.old → result ≡ Err Ending.Host → WhereTold (H.holds host.old) (λ h. IsMissing (h.sources name.now)) }
@@ -89,5 +87,16 @@ fn read_piece<S: Source>(source: &mut S, piece: &mut [u8]) -> Result<usize, Endi
         Ok(came) => Ok(came),
         Err(IoFault::Failed) => Err(Ending::Source),
         Err(IoFault::NoMemory) => Err(Ending::Memory),
+    }
+}
+
+/// The brick of this number, if the layout has it.
+pub(crate) fn brick_of(layout: &Layout, id: u64) -> Option<BrickId>
+    ensures { result ≡ brick_of layout.now id }
+{
+    if id < layout.bricks() as u64 {
+        Some(BrickId(id as u16))
+    } else {
+        None
     }
 }

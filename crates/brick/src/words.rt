@@ -4,45 +4,117 @@ ghost use Rattle.std.specs.Prelude.{◌≡◌, map, string_bytes, option_map};
 ghost use Rattle.std.specs.Char.{is_ascii_digit};
 ghost use Rattle.std.specs.List.{list_all};
 ghost use Rattle.lines.specs.Tokens.{number};
-ghost use Rattle.brick.specs.Words.{wanted, is_name, wants_format, command_of};
+ghost use Rattle.brick.specs.Words.{wanted, is_name, format_work, serve_work, wants, four_words, five_words, command_of};
 
-/// The words `format LAYOUT DISK ID`, which ask for the store of a brick.
+/// What the words of a command line ask for.
 #[derive(Clone, Copy)]
-pub struct FormatWords<'w> {
+pub struct Words<'w> {
     /// The name of the source whose text is the layout.
     pub layout: &'w str,
     /// The name of the disk.
-    pub disk: &'w str,
-    /// The number of the brick.
-    pub id: u64,
+    pub name: &'w str,
+    /// What is to be done.
+    pub work: Work,
+}
+
+/// What is to be done.
+#[derive(Clone, Copy)]
+pub enum Work {
+    /// The store of the brick of this number is to be made.
+    Format {
+        /// The number of the brick.
+        id: u64,
+    },
+    /// The brick of this number is to serve so many turns.
+    Serve {
+        /// The number of the brick.
+        id: u64,
+        /// How many turns it is to serve.
+        turns: u64,
+    },
 }
 
 /// The most digits that a number may have.
 const MOST_DIGITS: usize = 20;
 
 /// What the words ask for; `None` where they are of no form.
-pub(crate) fn parse(words: &[String]) -> Option<FormatWords<'_>>
+pub(crate) fn parse(words: &[String]) -> Option<Words<'_>>
     ensures { option_map wanted result ≡ command_of (map string_bytes words.now) }
 {
-    if words.len() != 4 {
-        return None;
+    if words.len() == 4 {
+        return four_words(
+            words[0].as_str(),
+            words[1].as_str(),
+            words[2].as_str(),
+            words[3].as_str(),
+        );
     }
-    if words[0].as_str() == "format" {
-        wants_format(words[1].as_str(), words[2].as_str(), words[3].as_str())
+    if words.len() == 5 {
+        return five_words(
+            words[0].as_str(),
+            words[1].as_str(),
+            words[2].as_str(),
+            words[3].as_str(),
+            words[4].as_str(),
+        );
+    }
+    None
+}
+
+/// What `format LAYOUT DISK ID` asks for.
+fn four_words<'w>(word: &str, layout: &'w str, disk: &'w str, id: &str) -> Option<Words<'w>>
+    ensures { option_map wanted result ≡ four_words word.now layout.now disk.now id.now }
+{
+    if word == "format" {
+        wants(layout, disk, format_work(id))
     } else {
         None
     }
 }
 
-/// What `LAYOUT DISK ID` asks for.
-fn wants_format<'w>(layout: &'w str, disk: &'w str, id: &str) -> Option<FormatWords<'w>>
-    ensures { option_map wanted result ≡ wants_format layout.now disk.now id.now }
+/// What `serve LAYOUT DISK ID TURNS` asks for.
+fn five_words<'w>(
+    word: &str,
+    layout: &'w str,
+    disk: &'w str,
+    id: &str,
+    turns: &str,
+) -> Option<Words<'w>>
+    ensures { option_map wanted result ≡ five_words word.now layout.now disk.now id.now turns.now }
 {
-    if !is_name(layout) || !is_name(disk) {
+    if word == "serve" {
+        wants(layout, disk, serve_work(id, turns))
+    } else {
+        None
+    }
+}
+
+/// To make the store of brick ID.
+fn format_work(id: &str) -> Option<Work>
+    ensures { result ≡ format_work id.now }
+{
+    let id = parse_number(id)?;
+    Some(Work::Format { id })
+}
+
+/// To serve TURNS turns as brick ID.
+fn serve_work(id: &str, turns: &str) -> Option<Work>
+    ensures { result ≡ serve_work id.now turns.now }
+{
+    let id = parse_number(id)?;
+    let turns = parse_number(turns)?;
+    Some(Work::Serve { id, turns })
+}
+
+/// This work on the disk of this name.
+fn wants<'w>(layout: &'w str, name: &'w str, work: Option<Work>) -> Option<Words<'w>>
+    ensures { option_map wanted result ≡ wants layout.now name.now work }
+{
+    if !is_name(layout) || !is_name(name) {
         return None;
     }
-    let id = parse_number(id)?;
-    Some(FormatWords { layout, disk, id })
+    let work = work?;
+    Some(Words { layout, name, work })
 }
 
 /// Whether a word is a name: it does not begin with `-`.

@@ -1,4 +1,4 @@
-use Rattle.std.proofs.Common.{inr, refl, ◌∙◌}
+use Rattle.std.proofs.Common.{arith, inr, refl, ◌∙◌}
 use Rattle.brick.proofs.Found.{fresh}
 use Rattle.brick.proofs.Hosts.{fresh_returned}
 use Rattle.brick.proofs.formats.make_store.Goals as goal
@@ -10,6 +10,7 @@ returns-in-Ok-made-clause-makes g c = (
     c.format-made.new.disk,
     record {
       asked = c.keep_disk.ensures.asked ∙ c.in-Ok.ensures.asked;
+      later = rw (c.keep_disk.ensures.faults) c.in-Ok.ensures.kept.later;
       told = fresh_returned _ _ _ _ _ _ _ (c.in-Ok.ensures.makes refl) c.keep_disk.ensures.holds;
     },
     λ tells. fresh _ _ _ _ _ _ _ c.block.ensures c.records.ensures.value (c.in-Ok-made.ensures.empty tells) (c.in-Ok-made.ensures.durable tells),
@@ -22,12 +23,12 @@ returns-in-Err g c = record {
     c.format-made.new.disk,
     record {
       asked = c.keep_disk.ensures.asked ∙ c.in-Ok.ensures.asked;
+      later = rw (c.keep_disk.ensures.faults) c.in-Ok.ensures.kept.later;
       told = fresh_returned _ _ _ _ _ _ _ (c.in-Ok.ensures.makes refl) c.keep_disk.ensures.holds;
     },
   );
-  later = rw (c.keep_disk.ensures.faults) c.in-Ok.ensures.kept.later;
-  rose = λ e. cc;
   stays = λ s. c.keep_disk.ensures.sound (c.in-Err.ensures.cause.stays (c.in-Ok.ensures.gives s)) (c.in-Ok.ensures.kept.stays s);
+  sink = λ e. absurd (omega arith);
   disk = λ s e. cc;
   taken = λ s e. cc;
 }

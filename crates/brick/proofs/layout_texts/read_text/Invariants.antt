@@ -1,7 +1,7 @@
 use Rattle.std.proofs.Common.{◌≤◌, length}
 use Rattle.std.specs.Io.KnownBytes.{Consumes}
 use Rattle.fab_io.specs.Ends.{Kept}
-use Rattle.brick.specs.Formats.{most_layout_bytes}
+use Rattle.brick.specs.Layouts.{most_layout_bytes}
 use Rattle.brick.proofs.layout_texts.read_text.Given as goal
 
 abbrev pub invariant-loop : goal.invariant-loop

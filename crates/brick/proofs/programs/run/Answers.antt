@@ -1,11 +1,23 @@
-use Rattle.brick.specs.Endings.{text_of}
+-- What was done, and then printed.
+use Rattle.brick.specs.Endings.{text_of, status_of}
 use Rattle.brick.proofs.InOrder.{in_order}
+use Rattle.brick.proofs.Printing.{kept_six, completes}
 use Rattle.brick.proofs.programs.run.Goals as goal
 
-pub returns-clause-runs : goal.returns-clause-runs
-returns-clause-runs g c = record {
-  ending = c.format-ending.result;
-  ends = c.format-ending.ensures.ends;
-  printed = c.finish.ensures.printed;
-  asks = in_order _ _ _ _ _ _ _ _ _ _ _ c.format-ending.result _ _ (text_of c.format-ending.result) _ c.format-ending.ensures.ends c.finish.ensures.printed;
-}
+pub returns : goal.returns
+returns g c =
+    let ending = c.work-ending.result in
+    let done = c.work-ending.ensures in
+    let last = c.finish.ensures in
+    record {
+      runs = record {
+        said = g.K.Sink.told c.work-ending.new.out;
+        ending = ending;
+        works = done.works;
+        printed = last.printed;
+        asks = in_order _ _ _ _ _ _ _ _ _ _ (text_of ending) _ done.works last.printed;
+      };
+      stays = done.stays;
+      sink = kept_six (status_of ending) c.finish.result done.sink last.kept;
+      complete = λ s sink may. completes ending _ _ (text_of ending) c.finish.result (done.done s sink may) last.printed (last.kept.never (done.sink.stays sink));
+    }

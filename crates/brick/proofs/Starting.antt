@@ -1,0 +1,53 @@
+-- A store that may be started is neither refused as none nor as worn.
+use Rattle.std.proofs.Common.{◌≡◌, ◌⊎◌, ◌-◌, ◌^◌, ◌<◌, ℕ, arith, List, inl, inr, sym, ap, ◌∙◌, subst}
+use Rattle.frame_store.specs.declared.frames.Frame.{Frame}
+use Rattle.frame_store.specs.declared.shapes.Shape.{Shape}
+use Rattle.frame_store.specs.declared.shapes.Half.{Half}
+use Rattle.frame_store.specs.declared.shapes.Half.TheVariants.{A, B}
+use Rattle.frame_store.specs.Images.{InForce, IsNoStore}
+use Rattle.frame_store.proofs.Openings.{opens_once}
+use Rattle.version_log.specs.Versions.{Version}
+use Rattle.brick_state.specs.States.{StateOf}
+use Rattle.brick_store.specs.Images.{IsFound, state_in}
+use Rattle.replica.specs.Parts.{IsFirstView}
+use Rattle.fab_base.specs.declared.identities.BrickId.{BrickId}
+use Rattle.fab_base.specs.Layouts.{Layout}
+use Rattle.protocol.specs.Nodes as machine
+use Rattle.node.specs.Running.{shape_at, ImageShows}
+use Rattle.brick.specs.Serves.{MayStart}
+
+-- an image is found as one state
+found_once : (shape : Shape) (st other : StateOf Version) (image : List ℕ) → IsFound shape st image → IsFound shape other image → st ≡ other
+found_once shape st other image found again =
+    let once = opens_once shape image found.frames again.frames found.closed again.closed found.opens again.opens in
+    sym found.state ∙ ap (λ (frames : List Frame). state_in shape frames image) once.0 ∙ again.state
+
+-- an image that is read by one half has an open header
+in_force_open : (shape : Shape) (half : Half) (image : List ℕ) → InForce shape half image → IsNoStore shape image → ⊥
+in_force_open shape A image force none = none.first force.0
+in_force_open shape B image force none = none.second force.0
+
+pub is_a_store : {D : Type 0} (tells : Type 0) (seen : D → List ℕ) (layout : Layout) (me : BrickId) (disk : D) (U : Type 0)
+    → MayStart tells seen layout me disk
+    → (tells → (IsNoStore (shape_at layout me) (seen disk) × U)
+    ⊎ ((st : StateOf Version) × IsFound (shape_at layout me) st (seen disk) × (IsFirstView st → ⊥))) → ⊥
+is_a_store tells seen layout me disk U may refused =
+    elim (refused may.told) [
+      | inl none ↦ in_force_open (shape_at layout me) may.found.opens.half (seen disk) may.found.opens.in_force none.0
+      | inr later ↦ later.2 (subst IsFirstView (found_once (shape_at layout me) may.st later.0 (seen disk) may.found later.1) may.first)
+    ]
+
+pub is_not_worn : {D : Type 0} (tells : Type 0) (seen : D → List ℕ) (layout : Layout) (me : BrickId) (disk : D) → MayStart tells seen layout me disk
+    → (tells → (st : StateOf Version) × IsFound (shape_at layout me) st (seen disk) × (st.boot ≡ 2 ^ 32 - 1)) → ⊥
+is_not_worn tells seen layout me disk may refused =
+    let worn = refused may.told in
+    let same : may.st.boot ≡ worn.0.boot = ap (λ (s : StateOf Version). s.boot) (found_once (shape_at layout me) may.st worn.0 (seen disk) may.found worn.1) in
+    let few : may.st.boot < 2 ^ 32 - 1 = may.openable in
+    let many : worn.0.boot ≡ 2 ^ 32 - 1 = worn.2 in
+    omega (arith, same, few, many)
+
+-- what an image shows of a brick is shown by the same layout and number under other names
+pub shown_as : (layout other : Layout) (me you : BrickId) (state : machine.Node) (image : List ℕ) → layout ≡ other → me ≡ you
+    → ImageShows layout me state image → ImageShows other you state image
+shown_as layout other me you state image layouts bricks shows =
+    subst (λ (l : Layout). ImageShows l you state image) layouts (subst (λ (b : BrickId). ImageShows layout b state image) bricks shows)

@@ -1,0 +1,239 @@
+//! `brick serve`.
+
+ghost use Rattle.std.specs.Prelude.{◌≡◌, ◌≢◌, ◌<◌, false};
+ghost use Rattle.fab_io.specs.Ends.{Kept};
+ghost use Rattle.node.specs.Running.{IsSameBrick, state_of, LeavesBrick};
+ghost use Rattle.serving.specs.Ports.{ports_of, port_of};
+ghost use Rattle.brick.specs.Endings.{status_of, IsDone};
+ghost use Rattle.brick.specs.Hosts.{host_seen, Told, Has};
+ghost use Rattle.brick.specs.Layouts.{brick_of};
+ghost use Rattle.brick.specs.Serves.{ending_of, refusal_of, ServesTurns, ServesByClock, ServesByLink, ServesOver, ServesByDisk, ServesBrick, MayStart, HasClock, HasLink, HasDisk};
+ghost use Rattle.brick.specs.Views.{views};
+
+use crate::endings::{Ending, say_serving};
+use crate::layout_texts::brick_of;
+use brick_store::StoreFault;
+use fab_base::BrickId;
+use fab_disk::Disk;
+use fab_host::Host;
+use fab_io::{Clock, IoFault, Link, Sink};
+use layout::Layout;
+use node::Node;
+use serving::ServeFault;
+use std::alloc::Global;
+
+/// Has the brick of this number serve so many turns over the disk of this name, and gives back to the host what it opened.
+pub(crate) fn serve<H: Host, K: Sink>(
+    alloc: Global,
+    host: &mut H,
+    out: &mut K,
+    name: &str,
+    layout: Layout,
+    id: u64,
+    turns: u64,
+) -> Ending
+    ensures serves { ServesBrick (views H.Disk.tells H.Disk.seen H.Disk.may_leave H.Disk.faults H.Link.waiting H.Link.sent H.Link.faults H.Clock.coming H.Clock.faults)
+        layout (brick_of layout id) turns (host_seen (H.faults host.old) (H.asked host.old) (H.holds host.old))
+        (host_seen (H.faults host.new) (H.asked host.new) (H.holds host.new)) name.now (K.told out.old) (K.told out.new) result }
+    ensures stays { H.sound host.old → H.sound host.new }
+    ensures sink { Kept (K.faults out.old) (K.faults out.new) (K.sound out.old) (K.sound out.new) (status_of result ≡ 6) }
+    ensures done { H.sound host.old → K.sound out.old → id < layout.bricks → Has (H.holds host.old)
+        (HasDisk H.Disk.tells H.Disk.seen layout (record { 0 = id }) name.now) → IsDone result }
+{
+    match brick_of(&layout, id) {
+        Some(me) => serve_disk(alloc, host, out, name, layout, me, turns),
+        None => Ending::Usage,
+    }
+}
+
+/// The same, by the brick's name.
+fn serve_disk<H: Host, K: Sink>(
+    alloc: Global,
+    host: &mut H,
+    out: &mut K,
+    name: &str,
+    layout: Layout,
+    me: BrickId,
+    turns: u64,
+) -> Ending
+    requires { me.0 < layout.bricks }
+    ensures serves { ServesByDisk (views H.Disk.tells H.Disk.seen H.Disk.may_leave H.Disk.faults H.Link.waiting H.Link.sent H.Link.faults H.Clock.coming H.Clock.faults)
+        layout me turns (host_seen (H.faults host.old) (H.asked host.old) (H.holds host.old))
+        (host_seen (H.faults host.new) (H.asked host.new) (H.holds host.new)) name.now (K.told out.old) (K.told out.new) result }
+    ensures stays { H.sound host.old → H.sound host.new }
+    ensures sink { Kept (K.faults out.old) (K.faults out.new) (K.sound out.old) (K.sound out.new) (status_of result ≡ 6) }
+    ensures done { H.sound host.old → K.sound out.old → Has (H.holds host.old)
+        (HasDisk H.Disk.tells H.Disk.seen layout me name.now) → IsDone result }
+{
+    let disk = match host.disk(name, false) {
+        Ok(disk) => disk,
+        Err(IoFault::Failed) => return Ending::Host,
+        Err(IoFault::NoMemory) => return Ending::Memory,
+    };
+    let (disk, ending) = serve_store(alloc, host, out, layout, me, disk, turns);
+    host.keep_disk(name, disk);
+    ending
+}
+
+/// Opens the store that a disk holds, has the brick serve, and hands the disk back.
+fn serve_store<H: Host, K: Sink>(
+    alloc: Global,
+    host: &mut H,
+    out: &mut K,
+    layout: Layout,
+    me: BrickId,
+    disk: H::Disk,
+    turns: u64,
+) -> (H::Disk, Ending)
+    requires { me.0 < layout.bricks }
+    ensures serves { ServesOver (views H.Disk.tells H.Disk.seen H.Disk.may_leave H.Disk.faults H.Link.waiting H.Link.sent H.Link.faults H.Clock.coming H.Clock.faults)
+        layout me turns disk result.0 (host_seen (H.faults host.old) (H.asked host.old) (H.holds host.old))
+        (host_seen (H.faults host.new) (H.asked host.new) (H.holds host.new)) (K.told out.old) (K.told out.new) result.1 }
+    ensures disks { Told (H.holds host.old) (H.holds host.new) (λ h now. now.disks ≡ h.disks) }
+    ensures stays { H.sound host.old → H.sound host.new }
+    ensures disk { H.Disk.sound disk → H.Disk.sound result.0 }
+    ensures sink { Kept (K.faults out.old) (K.faults out.new) (K.sound out.old) (K.sound out.new) (status_of result.1 ≡ 6) }
+    ensures done { H.sound host.old → H.Disk.sound disk → K.sound out.old
+        → MayStart H.Disk.tells H.Disk.seen layout me disk → Has (H.holds host.old) (HasLink (port_of (ports_of layout) me)) → IsDone result.1 }
+{
+    let port = port_of(&layout, me);
+    match Node::start(alloc, layout, me, disk) {
+        Ok(node) => {
+            let mut node = node;
+            let ending = serve_link(alloc, host, out, &mut node, port, turns);
+            (node.into_disk(), ending)
+        }
+        Err((fault, disk)) => (disk, refusal_of(fault)),
+    }
+}
+
+/// The port of a brick of a layout.
+fn port_of(layout: &Layout, me: BrickId) -> u16
+    requires { me.0 < layout.now.bricks }
+    ensures { result ≡ port_of (ports_of layout.now) me }
+{
+    layout.port() + me.0
+}
+
+/// How a store that is not opened ends the program.
+fn refusal_of(fault: StoreFault) -> Ending
+    ensures { result ≡ refusal_of fault }
+{
+    match fault {
+        StoreFault::Disk => Ending::Disk,
+        StoreFault::NotAStore => Ending::NotAStore,
+        StoreFault::Worn => Ending::Worn,
+        // An opening answers no other fault but that of memory.
+        StoreFault::Halted | StoreFault::Full { .. } | StoreFault::NoMemory => Ending::Memory,
+    }
+}
+
+/// Has a brick serve over the link of this port, and gives the link back.
+fn serve_link<H: Host, K: Sink>(
+    alloc: Global,
+    host: &mut H,
+    out: &mut K,
+    node: &mut Node<H::Disk>,
+    port: u16,
+    turns: u64,
+) -> Ending
+    requires runs { node.old.brick.halted ≡ false }
+    requires durable { H.Disk.tells → LeavesBrick node.old.layout node.old.me (state_of node.old) (H.Disk.may_leave node.old.brick.disk) }
+    ensures serves { ServesByLink (views H.Disk.tells H.Disk.seen H.Disk.may_leave H.Disk.faults H.Link.waiting H.Link.sent H.Link.faults H.Clock.coming H.Clock.faults)
+        turns port (host_seen (H.faults host.old) (H.asked host.old) (H.holds host.old))
+        (host_seen (H.faults host.new) (H.asked host.new) (H.holds host.new)) node.old node.new (K.told out.old) (K.told out.new) result }
+    ensures disks { Told (H.holds host.old) (H.holds host.new) (λ h now. now.disks ≡ h.disks) }
+    ensures stays { H.sound host.old → H.sound host.new }
+    ensures same { IsSameBrick node.old node.new }
+    ensures durable { H.Disk.tells → result ≢ Ending.Disk → LeavesBrick node.new.layout node.new.me (state_of node.new)
+        (H.Disk.may_leave node.new.brick.disk) }
+    ensures disk { H.Disk.sound node.old.brick.disk → H.Disk.sound node.new.brick.disk }
+    ensures sink { Kept (K.faults out.old) (K.faults out.new) (K.sound out.old) (K.sound out.new) (status_of result ≡ 6) }
+    ensures done { H.sound host.old → H.Disk.sound node.old.brick.disk → K.sound out.old
+        → Has (H.holds host.old) (HasLink port) → IsDone result }
+{
+    let mut link = match host.link(port) {
+        Ok(link) => link,
+        Err(IoFault::Failed) => return Ending::Host,
+        Err(IoFault::NoMemory) => return Ending::Memory,
+    };
+    let ending = serve_clock(alloc, host, out, node, &mut link, turns);
+    host.keep_link(port, link);
+    ending
+}
+
+/// Has a brick serve by the clock, and gives the clock back.
+fn serve_clock<H: Host, K: Sink>(
+    alloc: Global,
+    host: &mut H,
+    out: &mut K,
+    node: &mut Node<H::Disk>,
+    link: &mut H::Link,
+    turns: u64,
+) -> Ending
+    requires runs { node.old.brick.halted ≡ false }
+    requires durable { H.Disk.tells → LeavesBrick node.old.layout node.old.me (state_of node.old) (H.Disk.may_leave node.old.brick.disk) }
+    ensures serves { ServesByClock (views H.Disk.tells H.Disk.seen H.Disk.may_leave H.Disk.faults H.Link.waiting H.Link.sent H.Link.faults H.Clock.coming H.Clock.faults)
+        turns (host_seen (H.faults host.old) (H.asked host.old) (H.holds host.old))
+        (host_seen (H.faults host.new) (H.asked host.new) (H.holds host.new)) node.old node.new link.old link.new (K.told out.old) (K.told out.new) result }
+    ensures others { Told (H.holds host.old) (H.holds host.new) (λ h now. (now.disks ≡ h.disks) × (now.links ≡ h.links)) }
+    ensures stays { H.sound host.old → H.sound host.new }
+    ensures same { IsSameBrick node.old node.new }
+    ensures durable { H.Disk.tells → result ≢ Ending.Disk → LeavesBrick node.new.layout node.new.me (state_of node.new)
+        (H.Disk.may_leave node.new.brick.disk) }
+    ensures disk { H.Disk.sound node.old.brick.disk → H.Disk.sound node.new.brick.disk }
+    ensures link { H.Link.sound link.old → H.Link.sound link.new }
+    ensures sink { Kept (K.faults out.old) (K.faults out.new) (K.sound out.old) (K.sound out.new) (status_of result ≡ 6) }
+    ensures done { H.sound host.old → H.Disk.sound node.old.brick.disk → H.Link.sound link.old → K.sound out.old
+        → Has (H.holds host.old) HasClock → IsDone result }
+{
+    let mut clock = match host.clock() {
+        Ok(clock) => clock,
+        Err(IoFault::Failed) => return Ending::Host,
+        Err(IoFault::NoMemory) => return Ending::Memory,
+    };
+    let ending = serve_turns(alloc, out, node, link, &mut clock, turns);
+    host.keep_clock(clock);
+    ending
+}
+
+/// Says that a brick serves, and has it serve its turns.
+fn serve_turns<D: Disk, L: Link, C: Clock, K: Sink>(
+    alloc: Global,
+    out: &mut K,
+    node: &mut Node<D>,
+    link: &mut L,
+    clock: &mut C,
+    turns: u64,
+) -> Ending
+    requires runs { node.old.brick.halted ≡ false }
+    requires durable { D.tells → LeavesBrick node.old.layout node.old.me (state_of node.old) (D.may_leave node.old.brick.disk) }
+    ensures serves { ServesTurns (views D.tells D.seen D.may_leave D.faults L.waiting L.sent L.faults C.coming C.faults)
+        turns node.old node.new link.old link.new clock.old clock.new (K.told out.old) (K.told out.new) result }
+    ensures same { IsSameBrick node.old node.new }
+    ensures durable { D.tells → result ≢ Ending.Disk → LeavesBrick node.new.layout node.new.me (state_of node.new) (D.may_leave node.new.brick.disk) }
+    ensures disk { D.sound node.old.brick.disk → D.sound node.new.brick.disk }
+    ensures link { L.sound link.old → L.sound link.new }
+    ensures clock { C.sound clock.old → C.sound clock.new }
+    ensures sink { Kept (K.faults out.old) (K.faults out.new) (K.sound out.old) (K.sound out.new) (status_of result ≡ 6) }
+    ensures done { D.sound node.old.brick.disk → L.sound link.old → C.sound clock.old → K.sound out.old → IsDone result }
+{
+    match say_serving(alloc, out, node.me()) {
+        Ok(()) => ending_of(turns, serving::serve(alloc, node, link, clock, turns)),
+        Err(IoFault::Failed) => Ending::Sink,
+        Err(IoFault::NoMemory) => Ending::Memory,
+    }
+}
+
+/// How the turns of a brick end the program.
+fn ending_of(turns: u64, served: Result<u64, ServeFault>) -> Ending
+    ensures { result ≡ ending_of turns served }
+{
+    match served {
+        Ok(malformed) => Ending::Ended { turns, malformed },
+        // A brick that was just started is not halted.
+        Err(ServeFault::Disk | ServeFault::Halted) => Ending::Disk,
+        Err(ServeFault::Link | ServeFault::Clock) => Ending::Host,
+        Err(ServeFault::NoMemory) => Ending::Memory,
+    }
+}
