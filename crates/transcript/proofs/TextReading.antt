@@ -44,7 +44,7 @@ text_so_far : (unread now : List ℕ) (told told_now : Option (List ℕ)) (came 
     → count ≤ most_lines → (h : HasText unread now told told_now came untouched count said) → IsBegun most_line_bytes begun
     → bytes ≡ concat h.raw ++ begun → TextSoFar bytes
 text_so_far unread now told told_now came untouched count said begun bytes within h is_begun is =
-    let many : length (map content h.raw) ≡ count = length-map content h.raw ∙ h.count_is in
+    let many : length (map content h.raw) ≡ count = length-map h.raw content ∙ h.count_is in
     record {
       raw = h.raw;
       begun = begun;

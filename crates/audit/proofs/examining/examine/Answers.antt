@@ -12,5 +12,5 @@ returns-in_err-text-clause-reads g c =
 pub returns-in-Ok-clause-reads : goal.returns-in-Ok-clause-reads
 returns-in-Ok-clause-reads g c = TextReads-as _ _ _ _ _ _ _ (λ e. cc) c.in_ok-text.ensures.reads
 
-pub returns-in-Err-clause-reads : goal.returns-in-Err-clause-reads
-returns-in-Err-clause-reads g c = TextReads-as _ _ _ _ _ _ _ (λ e. cc) c.in_ok-text.ensures.reads
+pub returns-clause-reads : goal.returns-clause-reads
+returns-clause-reads g c = TextReads-as _ _ _ _ _ _ _ (λ e. cc) c.in_ok-text.ensures.reads

@@ -1,7 +1,8 @@
 -- What is left of the text tells what all of it is.
-use Rattle.std.proofs.Common.{◌≡◌, ◌×◌, Err, List, ℕ, Option, refl, sym, ap, ◌∙◌, subst, arith}
+use Rattle.std.proofs.Common.{◌≡◌, Result, Err, refl, sym, ap, ◌∙◌, subst, arith}
 use Rattle.std.specs.Io.KnownBytes.{prepend_known}
 use Rattle.std.proofs.lemmas.Result.{err_from_is_err_and}
+use Rattle.fab_io.specs.declared.fault.IoFault.{IoFault}
 use Rattle.fab_io.proofs.Keeping.{Kept-refl, Kept-trans, Kept-calm}
 use Rattle.transcript.specs.declared.readings.Text.{Text}
 use Rattle.transcript.specs.Said.{Transcribed}
@@ -9,6 +10,10 @@ use Rattle.transcript.specs.Transcripts.{IsTextBehind, IsTextOf, StripesRise, En
 use Rattle.transcript.proofs.Turns.{ends_whole, from_start, none_left_at, many_come}
 use Rattle.transcript.proofs.TextReading.{HasText, HasText-start, HasText-line, TextReads-ended, TextReads-failed}
 use Rattle.transcript.proofs.readings.read.Goals as goal
+
+-- the fault of an exit is the one that was met
+same_fault : {T : Type 0} (r : Result T IoFault) (met gave said : IoFault) → r ≡ Err gave → gave ≡ met → r ≡ Err said → met ≡ said
+same_fault r met gave said is same e = cc
 
 pub returns-in-Last-clause-text : goal.returns-in-Last-clause-text
 returns-in-Last-clause-text g c =
@@ -78,7 +83,8 @@ pub returns-in_err-take_next-clause-reads : goal.returns-in_err-take_next-clause
 returns-in_err-take_next-clause-reads g c =
     let q = err_from_is_err_and c.from_residual-in_err-take_next.result c.from_residual-in_err-take_next.ensures.1 in
     TextReads-ended _ _ _ _ _ _ _ _ _ _ _ _ _ _ _ _ (omega (arith, c.loop-count-test.true)) c.loop-count.invariant.has c.in_ok-piece.ensures.reads
-    (λ e. (ap g.S.Source.came e, λ u. e ∙ u)) (λ e. cc)
+    (λ e. (ap g.S.Source.came e, λ u. e ∙ u))
+    (λ e. c.in_err-take_next.ensures.cause (ap (λ (f : IoFault). Err f) (same_fault _ _ _ _ q.1 q.2 e)))
 
 pub returns-in-Last-clause-reads : goal.returns-in-Last-clause-reads
 returns-in-Last-clause-reads g c =
