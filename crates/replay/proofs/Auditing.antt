@@ -1,21 +1,20 @@
 -- What an audit finds of an input, from what was read of its layout and found of the text behind it.
 use Rattle.std.proofs.Common.{◌≡◌, ℕ, ◌≤◌, true, List, [], ◌∷◌, ◌++◌, length, map, codes, Option, Some, None, Result, Ok, Err, inl, inr, refl, sym, ap, ◌∙◌, subst, arith}
 use Rattle.std.specs.Io.KnownBytes.{Appends, Keeps, IsAtEnd, prepend_known}
-use Rattle.std.proofs.KnownBytes.{Keeps-refl, prepend_known-nil}
+use Rattle.std.proofs.KnownBytes.{prepend_known-nil}
 use Rattle.std.proofs.lemmas.Slice.Eq.{bytes_eq-Decides}
-use Rattle.fab_io.specs.Ends.{AppendsFront}
 use Rattle.fab_io.proofs.Content.{Appends-none}
 use Rattle.fab_base.specs.Layouts.{Layout}
 use Rattle.layout.specs.declared.faults.LayoutFault.{LayoutFault}
 use Rattle.layout.specs.Texts.{layout_of}
 use Rattle.lines.specs.Lines.{raw_lines, content}
-use Rattle.lines.specs.Reading.{IsNeeded, ReadsSchedule}
+use Rattle.lines.specs.Reading.{ReadsSchedule}
 use Rattle.lines.proofs.Needs.{IsNeeded-map}
 use Rattle.transcript.specs.Transcripts.{text_of, text_behind}
 use Rattle.transcript.specs.Readings.{TextSoFar, TextReads}
 use Rattle.audit.specs.declared.examining.Verdict.{Verdict as Found}
 use Rattle.audit.specs.declared.examining.Verdict.TheVariants.{Judged, BadForm, TooMany}
-use Rattle.audit.specs.Examining.{Examines, ExaminesLeft, EndsJudged}
+use Rattle.audit.specs.Examining.{Examines, ExaminesLeft}
 use Rattle.audit.proofs.OneVerdict.{verdict_alone}
 use Rattle.replay.specs.declared.endings.Verdict.{Verdict}
 use Rattle.replay.specs.declared.endings.Halt.{Halt}
@@ -25,7 +24,7 @@ use Rattle.replay.specs.declared.audits.Audited.TheVariants.{NoLayout, LongLayou
 use Rattle.replay.specs.Inputs.{Input, Parted, TooLong, Endless, most_layout_bytes, input_of, IsInput}
 use Rattle.replay.specs.Readings.{ReadsPart, BehindSoFar}
 use Rattle.replay.specs.Replays.{is_word, status_of, MayGoOn, LeavesOpen}
-use Rattle.replay.specs.Audits.{audited_end, audited_text, AuditsWith, Audits, FindsAlone, FindsTold, EndsAudited, FindsLeft, FindsBehind, FindsIn, AuditPrints, AuditGoesOn, IsAuditDecided}
+use Rattle.replay.specs.Audits.{AuditsWith, Audits, FindsAlone, FindsTold, EndsAudited, FindsLeft, FindsBehind, FindsIn, AuditPrints, AuditGoesOn, IsAuditDecided}
 use Rattle.replay.proofs.Inputs.{input_of-parts, at_end}
 
 -- no word is both
@@ -96,17 +95,18 @@ left_found head layout None found is p = tt
 left_found head layout (Some bytes) found is p =
     subst (λ (r : Result Layout LayoutFault). AuditsWith r (map content (raw_lines bytes)) (Examined found)) (sym is) (found, p, refl)
 
+-- a text without lines has no counts
+empty_found : (layout : Layout) → Examines layout (text_of []) (BadForm 1)
+unfolding text_behind
+empty_found layout = refl
+
 -- no line is left, and the counts are missing on the first
 pub none_found : (head : List ℕ) (layout : Layout) (left : Option (List ℕ)) → layout_of head ≡ Ok layout → IsAtEnd left
     → FindsLeft head left (Examined (BadForm 1))
 none_found head layout None is end = tt
 none_found head layout (Some bytes) is end =
     left_found head layout (Some bytes) (BadForm 1) is
-    (subst (λ (b : List ℕ). Examines layout (text_of (map content (raw_lines b))) (BadForm 1)) (sym end) empty)
-  where
-    empty : Examines layout (text_of []) (BadForm 1)
-    unfolding text_behind
-    empty = refl
+    (subst (λ (b : List ℕ). Examines layout (text_of (map content (raw_lines b))) (BadForm 1)) (sym end) (empty_found layout))
 
 -- the layout's text is none
 pub refused_found : (head : List ℕ) (left : Option (List ℕ)) (fault : LayoutFault) → layout_of head ≡ Err fault → FindsLeft head left (NoLayout fault)
@@ -156,21 +156,6 @@ ReadsPart-sink told told_after old new came untouched failed stopped cause r = r
       let open_at = r.printed stop.0 in
       (open_at.0, open_at.1, subst (Appends old new) (sym (no_text _ _ open_at.0 open_at.1)) (Appends-none old new stop.1));
 }
-
--- an audit that was stopped before it wrote
-pub AuditPrints-stopped : (finds : Audited → Type 0) (old : Option (List ℕ)) (halt : Halt) → (halt ≡ Sink → ⊥) → AuditPrints finds old old (Err halt)
-AuditPrints-stopped finds old Source other = Keeps-refl old
-AuditPrints-stopped finds old Sink other = absurd (other refl)
-AuditPrints-stopped finds old Memory other = Keeps-refl old
-
--- an audit whose text could not be written
-pub AuditPrints-cut : (finds : Audited → Type 0) (old new : Option (List ℕ)) (halt : Halt) (audited : Audited) (text : List ℕ)
-    → (halt ≡ Source → ⊥) → (halt ≡ Memory → Keeps old new) → finds audited → text ≡ audited_text audited → AppendsFront old new text
-    → AuditPrints finds old new (Err halt)
-AuditPrints-cut finds old new Source audited text other keeps found is front = absurd (other refl)
-AuditPrints-cut finds old new Sink audited text other keeps found is front =
-    (audited, found, subst (AppendsFront old new) is front)
-AuditPrints-cut finds old new Memory audited text other keeps found is front = keeps refl
 
 -- an audit that neither end stopped answers what the input calls for, or was stopped for want of memory
 pub audit_decided : (source source_after old new : Option (List ℕ)) (ending : Result Verdict Halt)

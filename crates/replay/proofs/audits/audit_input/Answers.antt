@@ -1,11 +1,10 @@
-use Rattle.std.proofs.Common.{List, ℕ, Err, refl, sym, ap, ◌∙◌, subst}
+use Rattle.std.proofs.Common.{Err, ap, ◌∙◌, subst}
 use Rattle.std.specs.Io.KnownBytes.{Appends}
 use Rattle.std.proofs.KnownBytes.{Keeps-refl}
 use Rattle.std.proofs.lemmas.Result.{err_from_is_err_and}
 use Rattle.replay.specs.declared.endings.Halt.{Halt}
-use Rattle.replay.specs.Audits.{FindsIn, AuditPrints}
-use Rattle.replay.proofs.Printing.{at_err, same_error, memory_alone}
-use Rattle.replay.proofs.Auditing.{ReadsPart-sink, AuditPrints-stopped, AuditPrints-cut}
+use Rattle.replay.proofs.Printing.{same_error, memory_alone}
+use Rattle.replay.proofs.Auditing.{ReadsPart-sink}
 use Rattle.replay.proofs.audits.audit_input.Goals as goal
 
 pub returns-in_err-audited-clause-reads : goal.returns-in_err-audited-clause-reads
@@ -28,6 +27,9 @@ pub returns-clause-reads : goal.returns-clause-reads
 returns-clause-reads g c = ReadsPart-sink _ _ _ _ _ _ _ _ (λ e. cc) c.in_ok-audited.ensures.reads
 
 pub returns-clause-output : goal.returns-clause-output
-returns-clause-output g c =
-    (c.audited, c.in_ok-audited.ensures.found, c.end.ensures,
-    subst (Appends _ _) (c.as_bytes.ensures.value ∙ c.in_ok-text.ensures) c.in_ok-write.ensures.content)
+returns-clause-output g c = (
+  c.in_ok-audited.audited,
+  c.in_ok-audited.ensures.found,
+  c.end.ensures,
+  subst (Appends _ _) (c.as_bytes.ensures.value ∙ c.in_ok-text.ensures) c.in_ok-write.ensures.content,
+)

@@ -1,9 +1,8 @@
 use Rattle.std.proofs.Common.{List, ℕ, Err, refl, sym, ap, ◌∙◌, subst}
 use Rattle.std.specs.Io.KnownBytes.{prepend_known}
-use Rattle.std.proofs.KnownBytes.{Appends-nil}
 use Rattle.std.proofs.lemmas.Result.{err_from_is_err_and, IfOk-weaker}
 use Rattle.replay.specs.declared.endings.Halt.{Halt}
-use Rattle.replay.specs.Readings.{BehindSoFar, ReadsPart, TakesHead}
+use Rattle.replay.specs.Readings.{TakesHead}
 use Rattle.replay.specs.Audits.{AuditGoesOn, FindsBehind, FindsIn}
 use Rattle.replay.proofs.Printing.{same_error}
 use Rattle.replay.proofs.OpenEnds.{HeadReads-first, ReadsPart-head, ReadsPart-both, ReadsPart-alone}

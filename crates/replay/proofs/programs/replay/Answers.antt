@@ -1,4 +1,5 @@
 use Rattle.std.proofs.Common.{◌≡◌, ℕ, ◌⊎◌, Result, Err, inl, inr, refl, sym, ap, ◌∙◌, subst}
+use Rattle.std.specs.Prelude.{map, string_bytes}
 use Rattle.std.specs.Io.KnownBytes.{Appends}
 use Rattle.fab_io.specs.Ends.{AppendsFront}
 use Rattle.replay.specs.declared.endings.Verdict.{Verdict}
@@ -41,10 +42,10 @@ returns-then-is_word-clause-decided g c = λ asks source sink.
     (λ e. c.run.ensures.sink.never sink e))
 
 pub returns-then-is_word-clause-audit : goal.returns-then-is_word-clause-audit
-returns-then-is_word-clause-audit g c = λ audit. absurd (one_word _ (sym c.is_word.ensures ∙ c.if-is_word.true) audit)
+returns-then-is_word-clause-audit g c = λ audit. absurd (one_word (map string_bytes c.args.words.now) (sym c.is_word.ensures ∙ c.if-is_word.true) audit)
 
 pub returns-then-is_word-clause-audit_decided : goal.returns-then-is_word-clause-audit_decided
-returns-then-is_word-clause-audit_decided g c = λ audit source sink. absurd (one_word _ (sym c.is_word.ensures ∙ c.if-is_word.true) audit)
+returns-then-is_word-clause-audit_decided g c = λ audit source sink. absurd (one_word (map string_bytes c.args.words.now) (sym c.is_word.ensures ∙ c.if-is_word.true) audit)
 
 pub returns-then-is_word-2-clause-audit : goal.returns-then-is_word-2-clause-audit
 returns-then-is_word-2-clause-audit g c = λ _. record {
@@ -61,11 +62,11 @@ returns-then-is_word-2-clause-audit_decided g c = λ asks source sink.
     (audit_decided _ _ _ _ _ c.audit_input.ensures.output (λ e. c.audit_input.ensures.source.never source e) (λ e. c.audit_input.ensures.sink.never sink e))
 
 pub returns-in-Ok-clause-words : goal.returns-in-Ok-clause-words
-returns-in-Ok-clause-words g c = λ _.
+returns-in-Ok-clause-words g c = λ _ _.
     (inl (refl, subst (Appends _ _) c.as_slice.ensures c.in-Ok.ensures.content), refl)
 
 pub returns-in-Err-clause-words : goal.returns-in-Err-clause-words
-returns-in-Err-clause-words g c = λ _.
+returns-in-Err-clause-words g c = λ _ _.
     let status = of_write c.in-Err.halt (λ e. c.write.ensures.cause (c.in-Err.is ∙ ap (λ h. Err h) e)) in (
       inr (
         subst (λ (s : ℕ). (s ≡ 6) ⊎ (s ≡ 7)) (sym c.status_of-in-Err.ensures) status,
