@@ -1,4 +1,4 @@
-//! `brick format`: makes the store of a brick on a file.
+//! `brick format` makes the store of a brick on a file, and `brick serve` has the brick serve over it, a UDP port and the clock.
 #![tactic(auto)]
 
 use brick::brick;
