@@ -1,8 +1,8 @@
 -- What was written of lines that were run, one after another.
-use Rattle.std.proofs.Common.{◌≡◌, ℕ, ◌⊎◌, List, [], ◌∷◌, ◌++◌, map, Option, Some, Result, Ok, Err, IsErr, refl, sym, ap, ◌∙◌, subst, append-nil}
-use Rattle.std.specs.Io.KnownBytes.{Appends, Keeps, IsAtEnd}
-use Rattle.std.proofs.KnownBytes.{Appends-nil, Appends-trans, Keeps-refl}
-use Rattle.fab_io.specs.Ends.{AppendsFront}
+use Rattle.std.proofs.Common.{◌≡◌, ℕ, true, List, [], ◌∷◌, ◌++◌, map, Option, Some, Result, Ok, Err, IsErr, refl, sym, ap, ◌∙◌, subst, append-nil}
+use Rattle.std.specs.Io.KnownBytes.{Appends, IsAtEnd, prepend_known}
+use Rattle.std.proofs.KnownBytes.{Appends-nil, Appends-trans, Keeps-refl, prepend_known-nil}
+use Rattle.fab_io.specs.Ends.{AppendsFront, WriteTakes}
 use Rattle.fab_io.proofs.Content.{AppendsFront-none, AppendsFront-after}
 use Rattle.fab_base.specs.Layouts.{Layout}
 use Rattle.lines.specs.declared.forms.Line.{Line}
@@ -22,7 +22,7 @@ use Rattle.replay.specs.Outputs.{steps_text}
 use Rattle.replay.specs.LineSteps.{LeadsTo, AreLinesOfSteps, AreStepsOf}
 use Rattle.replay.proofs.Steppings.{leads_none, leads_one, leads_both, leads_layout, leads_world, lines_both, steps_text-append, after_steps}
 use Rattle.trace_runs.specs.declared.endings.Verdict.{Verdict}
-use Rattle.trace_runs.specs.declared.endings.Verdict.TheVariants.{Whole}
+use Rattle.trace_runs.specs.declared.endings.Verdict.TheVariants.{Whole, BadLayout}
 use Rattle.trace_runs.specs.declared.endings.Halt.{Halt}
 use Rattle.trace.specs.Told.{told_in, IsTold, indented, IsStepText}
 use Rattle.trace.specs.Tales.{Takes, WritesTold, TellsRun, TellsNothing, Tells, OpensLayout, TellsLines, TellsRest, EndsAs}
@@ -33,6 +33,10 @@ use Rattle.trace.proofs.PrintedTexts.{step-told}
 pub at_err : {T E : Type 0} (r : Result T E) (P : Result T E → Type 0) → ((e : E) → P (Err e)) → IsErr r → P r
 at_err (Ok x) P h is = cc
 at_err (Err e) P h is = h e
+
+-- an equal text tells the same
+pub page-told : (text page told : List ℕ) → text ≡ page → IsTold page told → IsTold text told
+page-told text page told is p = subst (λ (l : List ℕ). IsTold l told) (sym is) p
 
 -- a text was written, and then one more, or some of it
 takes-after : {T : Type 0} (r : Result T Halt) (old mid new : Option (List ℕ)) (a b : List ℕ) → Appends old mid a → Takes r mid new b
@@ -48,6 +52,16 @@ writes-after r value old mid new s t p q = record {
   taken = takes-after r old mid new p.text q.text p.taken q.taken;
 }
 
+-- a page was written, or some of it
+pub writes-page : {T : Type 0} (r : Result T Halt) (old new : Option (List ℕ)) (text page told : List ℕ) → WriteTakes old new r text → text ≡ page
+    → IsTold page told → WritesTold r old new told
+writes-page r old new text page told taken is p =
+    record { text = text; is_told = page-told text page told is p; taken = takes r taken }
+  where
+    takes : {T : Type 0} (r : Result T Halt) → WriteTakes old new r text → Takes r old new text
+    takes (Ok x) taken = taken
+    takes (Err halt) taken = taken
+
 -- nothing was written
 pub writes-none : {T : Type 0} (value : T) (old : Option (List ℕ)) → WritesTold (Ok value) old old []
 writes-none value old = record { text = []; is_told = told-none; taken = Appends-nil old }
@@ -62,6 +76,11 @@ writes-line-stopped halt old text is = record {
   is_told = step-told text is;
   taken = AppendsFront-none old old (indented true text) (Keeps-refl old);
 }
+
+-- it does not matter here what stopped the run
+pub writes-halt : {S T : Type 0} (halt other : Halt) (old new : Option (List ℕ)) (told : List ℕ) → WritesTold {T = S} (Err halt) old new told
+    → WritesTold {T = T} (Err other) old new told
+writes-halt halt other old new told w = record { text = w.text; is_told = w.is_told; taken = w.taken }
 
 -- a line that was run, as a step
 ran_step : (before after : Run) (bytes text : List ℕ) → (ran : Ran before after bytes text) → Runs before after ran.step.line ran.step
@@ -89,7 +108,7 @@ lines-none first source left head old value read = record {
 -- one more was run
 pub lines-more : {S T : Type 0} (r : Result T Halt) (value : S) (first before after : Run) (source left next : Option (List ℕ)) (head raw text : List ℕ)
     (old mid new : Option (List ℕ)) → TellsLines {T = S} first before source left head old mid (Ok value) → Passes left next (raw ∷ [])
-    → Ran before after (content raw) text → WritesTold r mid new text → TellsLines r first after source next head old new
+    → Ran before after (content raw) text → WritesTold r mid new text → TellsLines first after source next head old new r
 lines-more r value first before after source left next head raw text old mid new h passes ran writes =
     let step : Step = ran.step in
     let w : World = world_of first in
@@ -132,6 +151,16 @@ lines-end ending value first last source left head old mid new h writes all =
       };
       all = all;
     }
+
+-- a run that stops is not whole
+pub stopped : (halt : Halt) (P : Type 0) → (let r : Result Verdict Halt = Err halt in r ≡ Ok Whole → P)
+stopped halt P e = cc
+
+-- the run was stopped in the midst of a line's text
+pub lines-stopped : (halt : Halt) (first last : Run) (source left : Option (List ℕ)) (head : List ℕ) (old new : Option (List ℕ))
+    → (let r : Result Verdict Halt = Err halt in TellsLines first last source left head old new r → TellsRest first source head old new r)
+lines-stopped halt first last source left head old new h =
+    record { last = last; left = left; lines = h; all = stopped halt (IsAtEnd left) }
 
 -- an end that is not whole
 pub ends_not : (verdict : Verdict) (ending : Result Verdict Halt) → EndsAs verdict ending → (verdict ≡ Whole → ⊥) → ending ≡ Ok Whole → ⊥
@@ -176,3 +205,14 @@ nothing-told old new ending writes not_all = record {
   taken = writes.taken;
   not_all = not_all;
 }
+
+-- a layout that is none is an end that is not whole
+pub bad_layout : BadLayout ≡ Whole → ⊥
+bad_layout e = cc
+
+-- nothing was read before
+pub from-start : (source left : Option (List ℕ)) (unread head : List ℕ) → unread ≡ [] → ReadsSchedule (prepend_known unread source) left head []
+    → ReadsSchedule source left head []
+from-start source left unread head empty read =
+    subst (λ (start : Option (List ℕ)). ReadsSchedule start left head []) (prepend_known-nil source)
+    (subst (λ (l : List ℕ). ReadsSchedule (prepend_known l source) left head []) empty read)

@@ -160,11 +160,15 @@ hex bytes text ends = behind (encode_lower bytes) text (inside-hex bytes) ends
 inside-number : (n : ℕ) → IsInside (decimal n)
 inside-number n = all_inside (decimal n) (decimal-starts n)
 
+inside-point : (n : ℕ) (text : List ℕ) → IsInside text → IsInside (decimal n ++ (codes "." ++ text))
+inside-point n text inside = inside-both (decimal n) (codes "." ++ text) (inside-number n) inside
+
 inside-stamp : (s : Stamp) → IsInside (stamp_text s)
 inside-stamp s =
-    inside-both (decimal s.view.0) _ (inside-number s.view.0) (inside-both (codes ".") _ refl
-    (inside-both (decimal s.time) _ (inside-number s.time) (inside-both (codes ".") _ refl
-    (inside-both (decimal s.brick.0) _ (inside-number s.brick.0) (inside-both (codes ".") (decimal s.boot) refl (inside-number s.boot))))))
+    let boot : List ℕ = decimal s.boot in
+    let brick : List ℕ = decimal s.brick.0 ++ (codes "." ++ boot) in
+    let time : List ℕ = decimal s.time ++ (codes "." ++ brick) in
+    inside-point s.view.0 time (inside-point s.time brick (inside-point s.brick.0 boot (inside-number s.boot)))
 
 stamp : (s : Stamp) (text : List ℕ) → Ends text → Ends (stamp_text s ++ text)
 stamp s text ends = behind (stamp_text s) text (inside-stamp s) ends
@@ -246,3 +250,16 @@ speaks-events_of setting w l (event ∷ events) = speaks-events setting w (event
 pub step-told : (text : List ℕ) → IsStepText text → IsTold (indented true text) text
 step-told text (setting, w, step, is) =
     subst (λ (l : List ℕ). IsTold (indented true l) l) (sym is) (speaks-events_of setting w step.line step.events).is_told
+
+-- a text, and that behind it
+pub tell-after : (old new printed : List ℕ) → IsStepText printed → new ≡ old ++ indented true printed → (told : List ℕ) → IsTold old told
+    → IsTold new (told ++ printed)
+tell-after old new printed step is told h =
+    subst (λ (l : List ℕ). IsTold l (told ++ printed)) (sym is) (told-after old (indented true printed) told printed h (step-told printed step))
+
+-- what begins with a number begins with no space
+pub number-solid : (n : ℕ) (text number space rest : List ℕ) → text ≡ number ++ rest → number ≡ decimal n ++ space → 32 < slice_index text 0
+number-solid n text number space rest is spelled =
+    let (first, digits, solid, inside, starts) = decimal-starts n in
+    subst (λ (l : List ℕ). 32 < slice_index l 0)
+    (sym (is ∙ ap (λ (l : List ℕ). l ++ rest) spelled ∙ ap (λ (l : List ℕ). (l ++ space) ++ rest) starts)) solid

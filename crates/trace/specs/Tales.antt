@@ -95,7 +95,7 @@ RunsLine before after raw (turn.Refused verdict why) = IsRefusal (turn.Refused v
 -- what came next: a line, which was run; or nothing; or what is no line
 abbrev pub Turns : Run → Run → Option (List ℕ) → Option (List ℕ) → Turn → Type 0
 Turns before after start now (turn.Ran line taken) = Passes start now (line ∷ []) × Ran before after (content line) taken.printed
-Turns before after start now turn.Ended = IsAtEnd now
+Turns before after start now turn.Ended = IsAtEnd start
 Turns before after start now (turn.Refused verdict why) = IsRefusal (turn.Refused verdict why)
 
 -- Lines of a schedule were run behind a layout, and a text was written that tells what `replay` prints for them.

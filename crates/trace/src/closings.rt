@@ -1,6 +1,7 @@
 //! What a run left: the happenings of each stripe that an operation named, and its log at each member.
 
-use fab_base::{BrickId, GroupId, NoMem, StripeNo};
+use brick_store::State;
+use fab_base::{BrickId, Bytes, GroupId, NoMem, Stamp, StripeNo};
 use reg_model::Happening;
 use std::alloc::Global;
 use trace_runs::{Deed, Hex, Journal, Reached, answer_at, is_up, op_at};
@@ -25,6 +26,14 @@ fn happening_text(
     Ok(text)
 }
 
+/// The newest version below a stamp, or of all.
+fn older<'a>(log: &'a State<'_>, bound: Option<Stamp>) -> Option<(Stamp, &'a Bytes)> {
+    match bound {
+        Some(stamp) => log.below(stamp),
+        None => log.newest(),
+    }
+}
+
 /// The log of a stripe at a member, newest version first.
 fn log_text(
     alloc: Global,
@@ -38,11 +47,11 @@ fn log_text(
     }
     let mut text = format!(in alloc; "brick {brick} keeps")?;
     if let Some(log) = world.log_of(brick, group, stripe) {
-        let mut version = log.newest();
+        let mut bound = None;
         for _ in 0..log.len() {
-            if let Some((stamp, block)) = version {
+            if let Some((stamp, block)) = older(&log, bound) {
                 write!(text, " {stamp}={}", Hex(block.as_slice()))?;
-                version = log.below(stamp);
+                bound = Some(stamp);
             }
         }
     }

@@ -36,12 +36,12 @@ fn line_page(
     content: &[u8],
     taken: &Taken,
 ) -> Result<Page, NoMem>
-    requires number { 0 < number }
-    requires printed { IsStepText taken.now.printed }
+    requires { IsStepText taken.now.printed }
     ensures { IfOk result (λ page. IsTold page taken.now.printed) }
 {
     let notes = account_notes(alloc, world, journal, &taken.account)?;
-    let mut title = format!(in alloc; "{number} ")?.into_bytes();
+    let number = format!(in alloc; "{number} ")?;
+    let mut title = Vec::from_slice(alloc, number.as_bytes())?;
     title.extend_from_slice(content)?;
     let mut page = Page::new(alloc);
     page.head(title.as_slice())?;
@@ -60,8 +60,7 @@ fn tell_line<K: Sink>(
     content: &[u8],
     taken: &Taken,
 ) -> Result<(), Halt>
-    requires number { 0 < number }
-    requires printed { IsStepText taken.now.printed }
+    requires { IsStepText taken.now.printed }
     ensures { WritesTold result (K.told sink.old) (K.told sink.new) taken.now.printed }
 {
     let page = line_page(alloc, world, journal, number, content, taken)?;
