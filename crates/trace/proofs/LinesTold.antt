@@ -1,8 +1,8 @@
 -- What was written of lines that were run, one after another.
-use Rattle.std.proofs.Common.{◌≡◌, ℕ, true, List, [], ◌∷◌, ◌++◌, map, Option, Some, Result, Ok, Err, IsErr, refl, sym, ap, ◌∙◌, subst, append-nil}
+use Rattle.std.proofs.Common.{◌≡◌, ℕ, true, List, [], ◌∷◌, ◌++◌, Option, Some, Result, Ok, Err, IsErr, refl, sym, ap, ◌∙◌, subst, append-nil}
 use Rattle.std.specs.Io.KnownBytes.{Appends, IsAtEnd, prepend_known}
 use Rattle.std.proofs.KnownBytes.{Appends-nil, Appends-trans, Keeps-refl, prepend_known-nil}
-use Rattle.fab_io.specs.Ends.{AppendsFront, WriteTakes}
+use Rattle.fab_io.specs.Ends.{WriteTakes}
 use Rattle.fab_io.proofs.Content.{AppendsFront-none, AppendsFront-after}
 use Rattle.fab_base.specs.Layouts.{Layout}
 use Rattle.lines.specs.declared.forms.Line.{Line}
@@ -11,7 +11,7 @@ use Rattle.lines.specs.Lines.{content}
 use Rattle.lines.specs.Reading.{Passes, ReadsSchedule}
 use Rattle.lines.proofs.ScheduleLines.{ReadsSchedule-line}
 use Rattle.layout.specs.Texts.{layout_of}
-use Rattle.protocol.specs.Worlds.{World, first_world, run}
+use Rattle.protocol.specs.Worlds.{World}
 use Rattle.protocol.specs.Settings.{Setting}
 use Rattle.stripe_code.specs.Codes.{coding}
 use Rattle.world.specs.Runs.{Run, Step, world_of}
@@ -19,13 +19,12 @@ use Rattle.world.specs.Disks.{ShowsDisks}
 use Rattle.world.specs.Steps.{Ran, Runs}
 use Rattle.world.specs.Texts.{step_text}
 use Rattle.replay.specs.Outputs.{steps_text}
-use Rattle.replay.specs.LineSteps.{LeadsTo, AreLinesOfSteps, AreStepsOf}
 use Rattle.replay.proofs.Steppings.{leads_none, leads_one, leads_both, leads_layout, leads_world, lines_both, steps_text-append, after_steps}
 use Rattle.trace_runs.specs.declared.endings.Verdict.{Verdict}
 use Rattle.trace_runs.specs.declared.endings.Verdict.TheVariants.{Whole, BadLayout}
 use Rattle.trace_runs.specs.declared.endings.Halt.{Halt}
-use Rattle.trace.specs.Told.{told_in, IsTold, indented, IsStepText}
-use Rattle.trace.specs.Tales.{Takes, WritesTold, TellsRun, TellsNothing, Tells, OpensLayout, TellsLines, TellsRest, EndsAs}
+use Rattle.trace.specs.Told.{IsTold, indented, IsStepText}
+use Rattle.trace.specs.Tales.{Takes, WritesTold, TellsRun, TellsNothing, TellsLines, TellsRest, EndsAs}
 use Rattle.trace.proofs.WholeTexts.{told-none, told-after, told-alone}
 use Rattle.trace.proofs.PrintedTexts.{step-told}
 

@@ -1,10 +1,10 @@
 -- Lines behind a margin tell nothing, but behind two spaces.
-use Rattle.std.proofs.Common.{◌≡◌, ℕ, ◌<◌, ◌==◌, ◌&&◌, not, Bool, true, false, cond, List, [], ◌∷◌, ◌++◌, Result, Ok, Err, OnOk, refl, sym, ap, ◌∙◌, subst, arith, append_assoc, slice_index}
+use Rattle.std.proofs.Common.{◌≡◌, ℕ, ◌<◌, ◌==◌, ◌&&◌, not, false, cond, List, [], ◌∷◌, ◌++◌, Result, Ok, Err, OnOk, refl, sym, ap, ◌∙◌, subst, arith, append_assoc, slice_index}
 use Rattle.std.specs.Prelude.{filter}
 use Rattle.std.proofs.lemmas.Bool.Decides.{nat_tests}
 use Rattle.world.specs.Texts.{newline}
-use Rattle.trace.specs.Told.{is_told, told_in, IsTold, is_inside, with_margin}
-use Rattle.trace.proofs.WholeTexts.{IsInside, inside_byte, inside-cons, inside-filter, told-other, told-beside}
+use Rattle.trace.specs.Told.{told_in, IsTold, is_inside, with_margin}
+use Rattle.trace.proofs.WholeTexts.{inside_byte, inside-cons, inside-filter, told-other, told-beside}
 
 -- a line feed at the end of a text, before more
 ends_before : (body more : List ℕ) → (body ++ newline) ++ more ≡ body ++ 10 ∷ more

@@ -1,5 +1,5 @@
 -- What `replay` prints for a line is whole lines, none of which begins with a space.
-use Rattle.std.proofs.Common.{◌≡◌, ℕ, zero, suc, ◌+◌, ◌/◌, ◌%◌, ◌<◌, ◌≤◌, ◌==◌, ◌&&◌, not, Bool, true, false, cond, List, [], ◌∷◌, ◌++◌, codes, nat_lt, slice_index, refl, sym, ap, ◌∙◌, subst, arith, lit<, append_assoc, append-nil}
+use Rattle.std.proofs.Common.{◌≡◌, ℕ, zero, suc, ◌+◌, ◌/◌, ◌%◌, ◌<◌, ◌==◌, not, true, false, List, [], ◌∷◌, ◌++◌, codes, nat_lt, slice_index, refl, sym, ap, ◌∙◌, subst, arith, lit<, append_assoc}
 use Rattle.std.specs.List.{list_all}
 use Rattle.std.specs.Fmt.{decimal, digits, digits_onto, digit_glyph}
 use Rattle.std.proofs.lemmas.Bool.{cond_both}
@@ -18,16 +18,14 @@ use Rattle.fab_base.specs.declared.answers.Refusal.TheVariants.{Down, NoStripe, 
 use Rattle.fab_base.specs.Stamps.{stamp_text}
 use Rattle.reg_model.specs.declared.marks.Mark.{Mark}
 use Rattle.reg_model.specs.declared.marks.Mark.TheVariants.{Begin, End, Crash}
-use Rattle.lines.specs.Lines.{is_line_feed}
 use Rattle.lines.specs.declared.forms.Line.{Line}
 use Rattle.lines.specs.declared.forms.Line.TheVariants as line
 use Rattle.protocol.specs.Settings.{Setting}
 use Rattle.protocol.specs.Worlds.{World, Event, happens}
-use Rattle.world.specs.Runs.{Step}
-use Rattle.world.specs.Texts.{newline, place_text, op_text, cause_text, answer_text, mark_text, marks_text, refusal_text, idle_text, outcome_of, new_marks, outcome_text, event_text, text_of, empty_text, line_text, step_text}
+use Rattle.world.specs.Texts.{newline, place_text, op_text, cause_text, answer_text, mark_text, marks_text, refusal_text, idle_text, outcome_of, new_marks, outcome_text, event_text, text_of, empty_text, line_text}
 use Rattle.world.specs.declared.simulations.Outcome.{Outcome}
 use Rattle.world.specs.declared.simulations.Outcome.TheVariants.{Marks, Refused, Idle}
-use Rattle.trace.specs.Told.{is_told, told_in, IsTold, IsStepText, behind_spaces, indented, is_inside}
+use Rattle.trace.specs.Told.{told_in, IsTold, IsStepText, indented, is_inside}
 use Rattle.trace.proofs.WholeTexts.{IsInside, no_feed, inside_byte, inside_first, inside_rest, inside-cons, inside-both, told-own, told-none, told-after}
 
 -- a text behind spaces, whatever stands behind it, and what that tells

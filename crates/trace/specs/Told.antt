@@ -1,5 +1,5 @@
 -- What the text of a trace tells of what `replay` prints.
-use Rattle.std.specs.Prelude.{◌≡◌, ℕ, ◌==◌, ◌&&◌, not, Bool, true, false, if◌then◌else◌, List, [], ◌∷◌, ◌++◌, drop, filter, map, slice_index}
+use Rattle.std.specs.Prelude.{◌≡◌, ℕ, ◌==◌, ◌&&◌, not, Bool, if◌then◌else◌, List, [], ◌∷◌, ◌++◌, drop, filter, map, slice_index}
 use Rattle.std.specs.List.{concat}
 use Rattle.lines.specs.Lines.{is_line_feed, raw_lines}
 use Rattle.protocol.specs.Settings.{Setting}

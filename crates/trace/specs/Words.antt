@@ -1,5 +1,5 @@
 -- What the program `trace` promises of the word `text`.
-use Rattle.std.specs.Prelude.{◌≡◌, ℕ, Bool, false, List, [], ◌∷◌, codes, Option, Result, Ok, Err}
+use Rattle.std.specs.Prelude.{◌≡◌, ℕ, Bool, false, List, [], ◌∷◌, Option, Result, Ok, Err}
 use Rattle.std.specs.Str.{bytes_eq}
 use Rattle.trace_runs.specs.declared.endings.Verdict.{Verdict}
 use Rattle.trace_runs.specs.declared.endings.Verdict.TheVariants.{Whole, BadLayout, BadLine, TooManyLines}

@@ -1,8 +1,7 @@
 -- The page tells nothing, and it was written, or some of it.
-use Rattle.std.proofs.Common.{List, ℕ, [], Result, sym, subst}
+use Rattle.std.proofs.Common.{[], Result}
 use Rattle.trace_runs.specs.declared.endings.Verdict.{Verdict}
 use Rattle.trace_runs.specs.declared.endings.Halt.{Halt}
-use Rattle.trace.specs.Told.{IsTold}
 use Rattle.trace.specs.Tales.{WritesTold}
 use Rattle.trace.proofs.WholeTexts.{told-none}
 use Rattle.trace.proofs.LinesTold.{at_err, page-told}

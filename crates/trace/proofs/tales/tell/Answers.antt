@@ -1,7 +1,4 @@
-use Rattle.std.proofs.Common.{◌≡◌, List, ℕ, [], Option, Result, Ok, Err, inl, inr, refl, subst, ap}
-use Rattle.std.specs.Io.KnownBytes.{prepend_known}
-use Rattle.std.proofs.KnownBytes.{prepend_known-nil}
-use Rattle.lines.specs.Reading.{ReadsSchedule}
+use Rattle.std.proofs.Common.{Result, Err, inl, inr}
 use Rattle.trace_runs.specs.declared.endings.Verdict.{Verdict}
 use Rattle.trace_runs.specs.declared.endings.Verdict.TheVariants.{BadLayout}
 use Rattle.trace_runs.specs.declared.endings.Halt.{Halt}

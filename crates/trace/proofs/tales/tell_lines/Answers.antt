@@ -1,11 +1,10 @@
 -- What was told of the lines so far, and of the next one or the end.
-use Rattle.std.proofs.Common.{◌≡◌, List, ℕ, [], Option, Result, Ok, Err}
-use Rattle.std.specs.Io.KnownBytes.{prepend_known}
+use Rattle.std.proofs.Common.{Result, Ok, Err}
 use Rattle.trace_runs.specs.declared.endings.Verdict.{Verdict}
 use Rattle.trace_runs.specs.declared.endings.Halt.{Halt}
 use Rattle.trace_runs.specs.declared.endings.Halt.TheVariants.{Memory}
-use Rattle.trace.specs.Tales.{TellsRest, TellsLines}
-use Rattle.trace.proofs.LinesTold.{at_err, writes-stopped, writes-halt, ran_text, lines-none, lines-more, lines-end, lines-stopped, stopped, ends_not}
+use Rattle.trace.specs.Tales.{TellsRest}
+use Rattle.trace.proofs.LinesTold.{at_err, writes-stopped, writes-halt, lines-none, lines-more, lines-end, lines-stopped, stopped, ends_not}
 use Rattle.trace.proofs.tales.tell_lines.Goals as goal
 
 pub returns-in_err-line : goal.returns-in_err-line

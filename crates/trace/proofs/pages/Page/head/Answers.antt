@@ -1,5 +1,3 @@
-use Rattle.std.proofs.Common.{◌≡◌, ◌++◌, List, ℕ}
-use Rattle.trace.specs.Told.{IsTold, with_margin}
 use Rattle.trace.proofs.Margins.{on_ok, head-after}
 use Rattle.trace.proofs.pages.Page.head.Goals as goal
 

@@ -1,5 +1,3 @@
-use Rattle.std.proofs.Common.{◌≡◌, ◌++◌, List, ℕ}
-use Rattle.trace.specs.Told.{IsTold, with_margin}
 use Rattle.trace.proofs.Margins.{on_ok, note-after}
 use Rattle.trace.proofs.pages.Page.note.Goals as goal
 

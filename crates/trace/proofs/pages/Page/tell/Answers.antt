@@ -1,5 +1,3 @@
-use Rattle.std.proofs.Common.{◌≡◌, ◌++◌, List, ℕ}
-use Rattle.trace.specs.Told.{IsTold, indented}
 use Rattle.trace.proofs.Margins.{on_ok}
 use Rattle.trace.proofs.PrintedTexts.{tell-after}
 use Rattle.trace.proofs.pages.Page.tell.Goals as goal
