@@ -2,32 +2,30 @@
 
 use crate::journals::Journal;
 use fab_base::{BrickId, GroupId, NoMem, StripeNo};
-use lines::{Fault, Line};
-use messages::{Message, Packet, Request};
+use lines::{Fault, Line, parse};
+use messages::{Message, Packet};
 use std::alloc::Global;
 use world::World;
 
 /// What came of a message that a line was to deliver.
-#[derive(Clone, Copy, PartialEq, Eq)]
+#[derive(Clone, Copy)]
 pub enum Fate {
     /// There is no message of its number.
     Absent,
     /// Its receiver was down.
     Down,
-    /// A reply, which its operation counted.
+    /// A reply, which its operation counted. Nothing else came of it.
     Counted,
     /// A reply, which its operation did not count: it has ended, or is in a later phase, or had this brick's reply.
     NotCounted,
-    /// So many old versions were dropped.
-    Dropped(usize),
-    /// Nothing.
+    /// A request, of which nothing came.
     Ignored,
     /// Messages or marks, which tell it.
     Told,
 }
 
 /// What befell a call of a brick's disk.
-#[derive(Clone, Copy, PartialEq, Eq)]
+#[derive(Clone, Copy)]
 pub enum Stop {
     /// The brick stopped inside that call.
     Inside(u64),
@@ -42,10 +40,8 @@ pub enum Stop {
 pub struct Account {
     /// Whether the line says anything.
     pub is_event: bool,
-    /// The message that it was to deliver, and what came of that.
-    pub delivery: Option<(u64, Fate)>,
-    /// The messages that were delivered one after another while an operation ran alone.
-    pub alone: Vec<u64>,
+    /// The messages that were to be delivered, one after another, and what came of each.
+    pub deliveries: Vec<(u64, Fate)>,
     /// What befell a call of a disk, and of which brick.
     pub stop: Option<(BrickId, Stop)>,
     /// The brick that it started.
@@ -56,289 +52,176 @@ pub struct Account {
     pub sent: usize,
 }
 
+/// What is known before a line is run, and is not told afterwards.
+#[derive(Drop)]
+pub(crate) struct Outlook {
+    is_event: bool,
+    /// The message that is to be delivered, and what comes of it where nothing else tells it.
+    delivery: Option<(u64, Fate)>,
+    /// What is to befall a call of a disk, and of which brick.
+    fault: Option<(BrickId, Fault)>,
+    /// A brick that is down, and is to start.
+    start: Option<BrickId>,
+    /// The messages of an operation that is to run alone which were not delivered yet.
+    waiting: Vec<u64>,
+    is_alone: bool,
+    marks: usize,
+    sent: usize,
+}
+
 /// Whether a brick is up.
 pub fn is_up(world: &World, brick: BrickId) -> bool {
     world.log_of(brick, GroupId(0), StripeNo(0)).is_some()
 }
 
-/// The brick of a number, where it is up.
-fn up_brick(world: &World, number: u64) -> Option<BrickId> {
-    let brick = BrickId(u16::try_from(number).ok()?);
-    if is_up(world, brick) {
-        Some(brick)
-    } else {
-        None
-    }
-}
-
 /// The message of a number.
 pub fn packet_at(world: &World, number: u64) -> Option<&Packet> {
-    if number == 0 {
-        return None;
-    }
-    world.sent().get((number - 1) as usize)
+    world.sent().get((number as usize).wrapping_sub(1))
 }
 
-/// How many versions a member keeps of the stripe that a Collect is of. None where the message is none.
-fn kept_for(world: &World, packet: &Packet) -> Option<usize> {
+/// What comes of a message where nothing else tells it. The journal notes a reply.
+fn fate_of(world: &World, journal: &mut Journal, packet: &Packet) -> Result<Fate, NoMem> {
+    if !is_up(world, packet.to) {
+        return Ok(Fate::Down);
+    }
     match &packet.message {
-        Message::Request(call, Request::Collect { .. }) => {
-            let state = world.log_of(packet.to, call.group, call.stripe)?;
-            Some(state.len())
-        }
-        _ => None,
-    }
-}
-
-/// What befell a call of a brick, by whether it is up.
-fn stop_of(fault: Option<Fault>, is_up: bool) -> Option<Stop> {
-    match fault? {
-        Fault::Cut { call, pick: _ } => Some(if is_up {
-            Stop::Unreached(call)
+        Message::Reply(_, _) => Ok(if journal.note_reply(packet)? {
+            Fate::Counted
         } else {
-            Stop::Inside(call)
+            Fate::NotCounted
         }),
-        Fault::Fail { call } => Some(if is_up {
-            Stop::Unreached(call)
-        } else {
-            Stop::Failed(call)
-        }),
+        _ => Ok(Fate::Ignored),
     }
-}
-
-/// What is known before a line is run, and is not told afterwards.
-#[derive(Drop)]
-pub enum Outlook {
-    /// The line says nothing.
-    Nothing,
-    /// All is told afterwards.
-    Plain,
-    /// A message is to be delivered.
-    Delivery {
-        /// Its number.
-        message: u64,
-        /// Its receiver, where there is such a message.
-        to: Option<BrickId>,
-        /// Whether the receiver is up.
-        is_up: bool,
-        /// Whether it is a reply, and counts.
-        counts: Option<bool>,
-        /// How many versions the receiver keeps, of a stripe whose old versions may go.
-        kept: Option<usize>,
-        /// What is to befall a call of its receiver's disk.
-        fault: Option<Fault>,
-    },
-    /// A brick is to start.
-    Start {
-        /// Its number.
-        brick: u64,
-        /// Whether it is up.
-        is_up: bool,
-        /// What is to befall a call of its disk.
-        fault: Option<Fault>,
-    },
-    /// An operation is to run alone. These of its messages wait.
-    Alone {
-        /// The numbers of its messages that were not delivered.
-        waiting: Vec<u64>,
-    },
 }
 
 impl Outlook {
     /// What is known before a line is run.
-    pub fn of(
+    pub(crate) fn of(
         alloc: Global,
         world: &World,
         journal: &mut Journal,
-        line: &Line,
+        content: &[u8],
     ) -> Result<Outlook, NoMem> {
-        match line {
-            Line::Nothing => Ok(Outlook::Nothing),
-            Line::Deliver { message, fault } => {
-                Outlook::of_delivery(world, journal, *message, *fault)
+        let mut outlook = Outlook {
+            is_event: true,
+            delivery: None,
+            fault: None,
+            start: None,
+            waiting: Vec::new(alloc),
+            is_alone: false,
+            marks: world.marks().len(),
+            sent: world.sent().len(),
+        };
+        match parse(alloc, content)? {
+            Some(Line::Nothing) => outlook.is_event = false,
+            Some(Line::Deliver { message, fault }) => {
+                outlook.look_at_delivery(world, journal, message, fault)?;
             }
-            Line::Start { brick, fault } => Ok(Outlook::Start {
-                brick: *brick,
-                is_up: up_brick(world, *brick).is_some(),
-                fault: *fault,
-            }),
-            Line::Calm { operation, .. } => {
-                let waiting = waiting_of(alloc, world, journal, *operation)?;
-                Ok(Outlook::Alone { waiting })
+            Some(Line::Start { brick, fault }) => outlook.look_at_start(world, brick, fault),
+            Some(Line::Calm { operation, .. }) => {
+                outlook.look_at_messages(world, journal, operation)?;
             }
-            Line::Invoke { .. } | Line::SetClock { .. } | Line::Tick { .. } | Line::Crash { .. } =>
-                { Ok(Outlook::Plain) }
+            _ => {}
         }
+        Ok(outlook)
     }
 
-    /// The same, before a delivery. The journal notes a reply.
-    fn of_delivery(
+    /// The same, before a delivery.
+    fn look_at_delivery(
+        &mut self,
         world: &World,
         journal: &mut Journal,
         message: u64,
         fault: Option<Fault>,
-    ) -> Result<Outlook, NoMem> {
+    ) -> Result<(), NoMem> {
         let Some(packet) = packet_at(world, message) else {
-            return Ok(Outlook::Delivery {
-                message,
-                to: None,
-                is_up: false,
-                counts: None,
-                kept: None,
-                fault,
-            });
+            self.delivery = Some((message, Fate::Absent));
+            return Ok(());
         };
-        let is_up = is_up(world, packet.to);
-        let counts = match &packet.message {
-            Message::Reply(_, _) if is_up => Some(journal.note_reply(packet)?),
-            _ => None,
-        };
-        Ok(Outlook::Delivery {
-            message,
-            to: Some(packet.to),
-            is_up,
-            counts,
-            kept: kept_for(world, packet),
-            fault,
-        })
+        let fate = fate_of(world, journal, packet)?;
+        self.delivery = Some((message, fate));
+        if let (Some(fault), true) = (fault, !matches!(fate, Fate::Down)) {
+            self.fault = Some((packet.to, fault));
+        }
+        Ok(())
     }
 
-    /// What the line did, from what is known now. Before it there were so many marks, and so many messages had been sent.
-    pub fn account(
-        self,
+    /// The same, before a start.
+    fn look_at_start(&mut self, world: &World, brick: u64, fault: Option<Fault>) {
+        if let Ok(number) = u16::try_from(brick) {
+            let brick = BrickId(number);
+            if !is_up(world, brick) {
+                self.start = Some(brick);
+                self.fault = fault.map(|fault| (brick, fault));
+            }
+        }
+    }
+
+    /// The same, before an operation is to run alone.
+    fn look_at_messages(
+        &mut self,
+        world: &World,
+        journal: &Journal,
+        operation: u64,
+    ) -> Result<(), NoMem> {
+        self.is_alone = true;
+        if let Some(operation) = journal.operation(operation) {
+            for number in &operation.messages {
+                if !world.was_delivered(*number) {
+                    self.waiting.push(*number)?;
+                }
+            }
+        }
+        Ok(())
+    }
+
+    /// The messages that the line was to deliver, and what came of each.
+    fn deliveries(&mut self, alloc: Global, world: &World) -> Result<Vec<(u64, Fate)>, NoMem> {
+        let mut deliveries = Vec::new(alloc);
+        let is_still = world.marks().len() == self.marks && world.sent().len() == self.sent;
+        if let Some((message, fate)) = self.delivery {
+            deliveries.push((message, if is_still { fate } else { Fate::Told }))?;
+        }
+        if self.is_alone {
+            for place in self.sent..world.sent().len() {
+                self.waiting.push((place as u64).saturating_add(1))?;
+            }
+        }
+        for number in &self.waiting {
+            if world.was_delivered(*number) {
+                deliveries.push((*number, Fate::Told))?;
+            }
+        }
+        Ok(deliveries)
+    }
+
+    /// What the line did, from what is known now. The journal notes it.
+    pub(crate) fn account(
+        mut self,
         alloc: Global,
         world: &World,
         journal: &mut Journal,
-        marks: usize,
-        sent: usize,
     ) -> Result<Account, NoMem> {
-        let is_still = world.marks().len() == marks && world.sent().len() == sent;
-        let mut account = Account {
-            is_event: true,
-            delivery: None,
-            alone: Vec::new(alloc),
-            stop: None,
-            started: None,
-            marks,
-            sent,
-        };
-        match self {
-            Outlook::Nothing => account.is_event = false,
-            Outlook::Plain => {}
-            Outlook::Delivery {
-                message,
-                to,
-                is_up,
-                counts,
-                kept,
-                fault,
-            } => {
-                account.delivery = Some((
-                    message,
-                    fate_of(world, message, is_up, counts, kept, is_still),
-                ));
-                account.stop = if is_up {
-                    stop_at(world, to, fault)
-                } else {
-                    None
-                };
-            }
-            Outlook::Start {
-                brick,
-                is_up,
-                fault,
-            } => {
-                if !is_up {
-                    account.started = up_brick(world, brick);
-                    account.stop = stop_at(world, u16::try_from(brick).ok().map(BrickId), fault);
-                }
-            }
-            Outlook::Alone { waiting } => {
-                account.alone = delivered_alone(alloc, world, journal, waiting, sent)?;
-            }
-        }
-        Ok(account)
+        journal.note_line(world, self.marks, self.sent)?;
+        let deliveries = self.deliveries(alloc, world)?;
+        Ok(Account {
+            is_event: self.is_event,
+            deliveries,
+            stop: self
+                .fault
+                .map(|(brick, fault)| (brick, stop_of(world, brick, fault))),
+            started: self.start.filter(|brick| is_up(world, *brick)),
+            marks: self.marks,
+            sent: self.sent,
+        })
     }
 }
 
 /// What befell a call of a brick's disk, now that the line was run.
-fn stop_at(world: &World, brick: Option<BrickId>, fault: Option<Fault>) -> Option<(BrickId, Stop)> {
-    let brick = brick?;
-    let stop = stop_of(fault, is_up(world, brick))?;
-    Some((brick, stop))
-}
-
-/// What came of a message that was to be delivered.
-fn fate_of(
-    world: &World,
-    message: u64,
-    is_up: bool,
-    counts: Option<bool>,
-    kept: Option<usize>,
-    is_still: bool,
-) -> Fate {
-    let Some(packet) = packet_at(world, message) else {
-        return Fate::Absent;
-    };
-    if !is_up {
-        return Fate::Down;
+fn stop_of(world: &World, brick: BrickId, fault: Fault) -> Stop {
+    match (fault, is_up(world, brick)) {
+        (Fault::Cut { call, .. }, false) => Stop::Inside(call),
+        (Fault::Fail { call }, false) => Stop::Failed(call),
+        (Fault::Cut { call, .. } | Fault::Fail { call }, true) => Stop::Unreached(call),
     }
-    if !is_still {
-        return Fate::Told;
-    }
-    match (counts, kept, kept_for(world, packet)) {
-        (Some(true), _, _) => Fate::Counted,
-        (Some(false), _, _) => Fate::NotCounted,
-        (None, Some(before), Some(after)) if after < before => Fate::Dropped(before - after),
-        _ => Fate::Ignored,
-    }
-}
-
-/// The numbers of an operation's messages that were not delivered.
-fn waiting_of(
-    alloc: Global,
-    world: &World,
-    journal: &Journal,
-    operation: u64,
-) -> Result<Vec<u64>, NoMem> {
-    let mut waiting = Vec::new(alloc);
-    if let Some(operation) = journal.operation(operation) {
-        for number in &operation.messages {
-            if !world.was_delivered(*number) {
-                waiting.push(*number)?;
-            }
-        }
-    }
-    Ok(waiting)
-}
-
-/// The numbers of an operation's messages that were delivered while it ran alone: some that had waited, and some that were sent then. The
-/// journal notes the replies.
-fn delivered_alone(
-    alloc: Global,
-    world: &World,
-    journal: &mut Journal,
-    waiting: Vec<u64>,
-    sent: usize,
-) -> Result<Vec<u64>, NoMem> {
-    let mut delivered = Vec::new(alloc);
-    for number in waiting {
-        if world.was_delivered(number) {
-            delivered.push(number)?;
-        }
-    }
-    for place in sent..world.sent().len() {
-        let number = (place as u64).saturating_add(1);
-        if world.was_delivered(number) {
-            delivered.push(number)?;
-        }
-    }
-    for number in &delivered {
-        if let Some(packet) = packet_at(world, *number) {
-            if let Message::Reply(_, _) = &packet.message {
-                let _ = journal.note_reply(packet)?;
-            }
-        }
-    }
-    Ok(delivered)
 }

@@ -1,13 +1,59 @@
-//! What operations were answered, and what they do to registers.
+//! What operations do, what they were answered, and what they do to registers.
 
 use crate::journals::Journal;
-use fab_base::{Answer, Op};
+use crate::packets::Hex;
+use fab_base::{Answer, Cause, Op};
 use reg_model::Mark;
+use std::fmt;
 use world::World;
 
-/// The answer that an operation was given.
-pub fn answer_at<'a>(world: &'a World, end: Option<usize>) -> Option<&'a Answer> {
-    match world.marks().get(end?)? {
+/// What an operation is asked to do.
+#[derive(Drop)]
+pub struct Deed<'a>(pub &'a Op);
+
+impl<'a> fmt::Display for Deed<'a> {
+    fn fmt<W: fmt::Write>(&self, f: &mut fmt::Formatter<W>) -> fmt::Result {
+        match self.0 {
+            Op::ReadBlock(block) => write!(f, "read {block}"),
+            Op::WriteBlock(block, bytes) => write!(f, "write {block} {}", Hex(bytes.as_slice())),
+            Op::ReadStripe => write!(f, "readall"),
+            Op::WriteStripe(bytes) => write!(f, "writeall {}", Hex(bytes.as_slice())),
+        }
+    }
+}
+
+/// An answer, in short.
+#[derive(Drop)]
+pub struct Reached<'a>(pub &'a Answer);
+
+impl<'a> fmt::Display for Reached<'a> {
+    fn fmt<W: fmt::Write>(&self, f: &mut fmt::Formatter<W>) -> fmt::Result {
+        match self.0 {
+            Answer::Data(bytes) => write!(f, "{}", Hex(bytes.as_slice())),
+            Answer::Done => f.write_str("done"),
+            Answer::Aborted(cause) => f.write_str(match cause {
+                Cause::Later { .. } => "aborted later",
+                Cause::Gone { .. } => "aborted gone",
+                Cause::Full { .. } => "aborted full",
+                Cause::Moved { .. } => "aborted moved",
+            }),
+        }
+    }
+}
+
+/// What an operation is asked to do, by its number.
+pub fn op_at<'a>(world: &'a World, journal: &Journal, number: u64) -> Option<&'a Op> {
+    let operation = journal.operation(number)?;
+    match world.marks().get(operation.begin)? {
+        Mark::Begin { ask, .. } => Some(&ask.op),
+        Mark::End { .. } | Mark::Crash { .. } => None,
+    }
+}
+
+/// The answer that an operation was given, by its number.
+pub fn answer_at<'a>(world: &'a World, journal: &Journal, number: u64) -> Option<&'a Answer> {
+    let operation = journal.operation(number)?;
+    match world.marks().get(operation.end?)? {
         Mark::End { answer, .. } => Some(answer),
         Mark::Begin { .. } | Mark::Crash { .. } => None,
     }
@@ -15,35 +61,19 @@ pub fn answer_at<'a>(world: &'a World, end: Option<usize>) -> Option<&'a Answer>
 
 /// Puts bytes into registers from this place on, as many as there is room for.
 fn put(registers: &mut Vec<u8>, from: usize, bytes: &[u8]) {
-    for (at, byte) in bytes.iter().enumerate() {
-        if let Some(register) = registers.get_mut(from.saturating_add(at)) {
-            *register = *byte;
-        }
+    for (register, byte) in registers.iter_mut().skip(from).zip(bytes) {
+        *register = *byte;
     }
 }
 
-/// Changes a stripe's registers as the operation of a number does.
-pub fn registers_after(
-    world: &World,
-    journal: &Journal,
-    operation: u64,
-    block: usize,
-    registers: &mut Vec<u8>,
-) {
-    let Some(operation) = journal.operation(operation) else {
-        return;
-    };
-    if let Some(Mark::Begin { ask, .. }) = world.marks().get(operation.begin) {
-        match &ask.op {
-            Op::WriteBlock(j, bytes) => {
-                put(
-                    registers,
-                    usize::from(*j).saturating_mul(block),
-                    bytes.as_slice(),
-                );
-            }
-            Op::WriteStripe(bytes) => put(registers, 0, bytes.as_slice()),
-            Op::ReadBlock(_) | Op::ReadStripe => {}
+/// Changes a stripe's registers as an operation does. A block has so many bytes.
+pub fn put_deed(op: &Op, block: usize, registers: &mut Vec<u8>) {
+    match op {
+        Op::WriteBlock(j, bytes) => {
+            let from = usize::from(*j).saturating_mul(block);
+            put(registers, from, bytes.as_slice());
         }
+        Op::WriteStripe(bytes) => put(registers, 0, bytes.as_slice()),
+        Op::ReadBlock(_) | Op::ReadStripe => {}
     }
 }

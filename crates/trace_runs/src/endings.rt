@@ -4,10 +4,10 @@ ghost use Rattle.std.specs.Prelude.{◌≡◌};
 ghost use Rattle.trace_runs.specs.declared.endings.Halt.TheVariants.{Memory};
 
 use fab_base::NoMem;
-use std::alloc::{AllocError, AllocFailed};
+use std::alloc::AllocError;
 
 /// How an input ends a run.
-#[derive(Clone, Copy, PartialEq, Eq)]
+#[derive(Clone, Copy)]
 pub enum Verdict {
     /// All lines were run.
     Whole,
@@ -20,7 +20,7 @@ pub enum Verdict {
 }
 
 /// What stops a run from outside.
-#[derive(Clone, Copy, Debug, PartialEq, Eq)]
+#[derive(Clone, Copy)]
 pub enum Halt {
     /// The source failed.
     Source,
@@ -42,14 +42,6 @@ impl From<AllocError> for Halt {
     ghost from_gives = { λ _ halt. halt ≡ Memory };
 
     fn from(_error: AllocError) -> Halt {
-        Halt::Memory
-    }
-}
-
-impl<T: Drop> From<AllocFailed<T>> for Halt {
-    ghost from_gives = { λ _ halt. halt ≡ Memory };
-
-    fn from(_error: AllocFailed<T>) -> Halt {
         Halt::Memory
     }
 }

@@ -14,35 +14,14 @@ pub struct Operation {
     pub brick: BrickId,
     /// The place of its Begin among all marks.
     pub begin: usize,
-    /// The place of its End among all marks, where it ended.
+    /// The place among all marks of its End, or of the Crash that cut it off.
     pub end: Option<usize>,
     /// The numbers of its messages, in the order of sending.
     pub messages: Vec<u64>,
-    /// How often its coordinator had stopped when it began.
-    stops: u64,
     /// The number of its newest phase.
     phase: u32,
     /// The bricks whose replies in that phase were delivered.
     replied: Vec<BrickId>,
-}
-
-impl Operation {
-    /// Notes a request of it: a later phase begins without a reply.
-    fn note_request(&mut self, phase: u32) {
-        if phase > self.phase {
-            self.phase = phase;
-            self.replied.clear();
-        }
-    }
-
-    /// Notes a reply that is delivered while it is open, and answers whether it counts: one a brick, of the newest phase.
-    fn note_reply(&mut self, from: BrickId, phase: u32) -> Result<bool, NoMem> {
-        if phase != self.phase || self.replied.contains(&from) {
-            return Ok(false);
-        }
-        self.replied.push(from)?;
-        Ok(true)
-    }
 }
 
 /// What is known of the operations of a run.
@@ -51,10 +30,10 @@ pub struct Journal {
     alloc: Global,
     /// The operations by number, from 1.
     operations: Vec<Operation>,
+    /// The numbers of those that are open.
+    open: Vec<u64>,
     /// The numbers of operations by their coordinator, its boot and their call.
     numbers: BTreeMap<(u16, u32, u64), u64>,
-    /// How often a brick stopped.
-    stops: BTreeMap<u16, u64>,
     /// The stripes that operations named, by group and number.
     stripes: BTreeSet<(u32, u32)>,
     /// An operation that began, and none of whose messages was seen yet.
@@ -66,11 +45,13 @@ fn call_of(packet: &Packet) -> Option<(BrickId, Call)> {
     match &packet.message {
         Message::Request(call, _) => Some((packet.from, *call)),
         Message::Reply(call, _) => Some((packet.to, *call)),
-        Message::Learn { .. }
-        | Message::Synced { .. }
-        | Message::Client(_)
-        | Message::ClientReply { .. } => None,
+        _ => None,
     }
+}
+
+/// The operation of a number, to change it.
+fn operation_at(operations: &mut Vec<Operation>, number: u64) -> Option<&mut Operation> {
+    operations.get_mut((number as usize).wrapping_sub(1))
 }
 
 impl Journal {
@@ -79,8 +60,8 @@ impl Journal {
         Journal {
             alloc,
             operations: Vec::new(alloc),
+            open: Vec::new(alloc),
             numbers: BTreeMap::new(alloc),
-            stops: BTreeMap::new(alloc),
             stripes: BTreeSet::new(alloc),
             nameless: None,
         }
@@ -88,10 +69,7 @@ impl Journal {
 
     /// The operation of a number.
     pub fn operation(&self, number: u64) -> Option<&Operation> {
-        if number == 0 {
-            return None;
-        }
-        self.operations.get((number - 1) as usize)
+        self.operations.get((number as usize).wrapping_sub(1))
     }
 
     /// The stripes that operations named, in order.
@@ -107,40 +85,52 @@ impl Journal {
             .copied()
     }
 
-    /// How often a brick stopped.
-    fn stops_of(&self, brick: BrickId) -> u64 {
-        self.stops.get(&brick.0).copied().unwrap_or(0)
-    }
-
-    /// Notes that a reply is delivered to a brick that is up, and answers whether its operation counts it.
+    /// Notes that a reply is delivered to a brick that is up, and answers whether its operation counts it: one a brick, of the newest phase.
     pub fn note_reply(&mut self, packet: &Packet) -> Result<bool, NoMem> {
-        let Some((coordinator, call)) = call_of(packet) else {
-            return Ok(false);
-        };
-        let stops = self.stops_of(coordinator);
         let number = self.operation_of(packet).unwrap_or(0);
-        let Some(operation) = operation_at(&mut self.operations, number) else {
-            return Ok(false);
-        };
-        if operation.end.is_some() || operation.stops != stops {
-            return Ok(false);
+        if let (Some((_, call)), Some(operation)) = (
+            call_of(packet),
+            operation_at(&mut self.operations, number),
+        ) {
+            if operation.end.is_none()
+                && call.phase == operation.phase
+                && !operation.replied.contains(&packet.from)
+            {
+                operation.replied.push(packet.from)?;
+                return Ok(true);
+            }
         }
-        operation.note_reply(packet.from, call.phase)
+        Ok(false)
     }
 
     /// Notes what a line did, before which there were so many marks, and so many messages had been sent.
     pub fn note_line(&mut self, world: &World, marks: usize, sent: usize) -> Result<(), NoMem> {
-        for place in marks..world.marks().len() {
-            if let Some(mark) = world.marks().get(place) {
-                self.note_mark(place, mark)?;
-            }
+        for (place, mark) in world.marks().iter().enumerate().skip(marks) {
+            self.note_mark(place, mark)?;
         }
-        for place in sent..world.sent().len() {
-            if let Some(packet) = world.sent().get(place) {
-                self.note_sent((place as u64).saturating_add(1), packet)?;
-            }
+        for (place, packet) in world.sent().iter().enumerate().skip(sent) {
+            self.note_sent((place as u64).saturating_add(1), packet)?;
         }
         Ok(())
+    }
+
+    /// Notes that an operation ended, or was cut off, at this mark.
+    fn close(&mut self, number: u64, place: usize) {
+        self.open.retain(|open| *open != number);
+        if let Some(operation) = operation_at(&mut self.operations, number) {
+            operation.end = Some(place);
+        }
+    }
+
+    /// The first operation of a brick that is open.
+    fn open_at(&self, brick: BrickId) -> Option<u64> {
+        self.open
+            .iter()
+            .copied()
+            .find(|number| match self.operation(*number) {
+                Some(operation) => operation.brick == brick,
+                None => false,
+            })
     }
 
     /// Notes the mark at this place.
@@ -153,38 +143,30 @@ impl Journal {
                 ..
             } => {
                 self.stripes.insert((ask.group.0, ask.stripe.0))?;
-                self.begin(place, *brick)?;
+                self.operations.push(Operation {
+                    brick: *brick,
+                    begin: place,
+                    end: None,
+                    messages: Vec::new(self.alloc),
+                    phase: 0,
+                    replied: Vec::new(self.alloc),
+                })?;
+                self.open.push(*operation)?;
                 self.nameless = Some(*operation);
             }
-            Mark::End { operation, .. } => {
-                if let Some(operation) = operation_at(&mut self.operations, *operation) {
-                    operation.end = Some(place);
-                }
-            }
+            Mark::End { operation, .. } => self.close(*operation, place),
             Mark::Crash { brick, .. } => {
-                let stops = self.stops_of(*brick).saturating_add(1);
-                self.stops.insert(brick.0, stops)?;
+                for _ in 0..self.open.len() {
+                    if let Some(number) = self.open_at(*brick) {
+                        self.close(number, place);
+                    }
+                }
             }
         }
         Ok(())
     }
 
-    /// Notes an operation that begins.
-    fn begin(&mut self, place: usize, brick: BrickId) -> Result<(), NoMem> {
-        let operation = Operation {
-            brick,
-            begin: place,
-            end: None,
-            messages: Vec::new(self.alloc),
-            stops: self.stops_of(brick),
-            phase: 0,
-            replied: Vec::new(self.alloc),
-        };
-        self.operations.push(operation)?;
-        Ok(())
-    }
-
-    /// Notes the message of this number, which was sent.
+    /// Notes the message of this number, which was sent. A later phase begins without a reply.
     fn note_sent(&mut self, number: u64, packet: &Packet) -> Result<(), NoMem> {
         let Some((coordinator, call)) = call_of(packet) else {
             return Ok(());
@@ -194,21 +176,13 @@ impl Journal {
                 .insert((coordinator.0, call.boot, call.seq), operation)?;
         }
         let operation = self.operation_of(packet).unwrap_or(0);
-        let Some(operation) = operation_at(&mut self.operations, operation) else {
-            return Ok(());
-        };
-        operation.messages.push(number)?;
-        if let Message::Request(_, _) = packet.message {
-            operation.note_request(call.phase);
+        if let Some(operation) = operation_at(&mut self.operations, operation) {
+            operation.messages.push(number)?;
+            if call.phase > operation.phase {
+                operation.phase = call.phase;
+                operation.replied.clear();
+            }
         }
         Ok(())
     }
-}
-
-/// The operation of a number, to change it.
-fn operation_at(operations: &mut Vec<Operation>, number: u64) -> Option<&mut Operation> {
-    if number == 0 {
-        return None;
-    }
-    operations.get_mut((number - 1) as usize)
 }

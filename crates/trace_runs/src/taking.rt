@@ -6,8 +6,7 @@ ghost use Rattle.trace_runs.specs.Taking.{RunsLine, TakesLine};
 use crate::accounts::{Account, Outlook};
 use crate::endings::Halt;
 use crate::journals::Journal;
-use fab_base::{Bytes, NoMem};
-use lines::parse;
+use fab_base::Bytes;
 use std::alloc::Global;
 use world::{StepFault, World};
 
@@ -31,32 +30,6 @@ fn run_line(world: &mut World, content: &[u8]) -> Result<Option<Bytes>, Halt>
     }
 }
 
-/// What is known before a line is run.
-fn outlook_of(
-    alloc: Global,
-    world: &World,
-    journal: &mut Journal,
-    content: &[u8],
-) -> Result<Outlook, NoMem> {
-    match parse(alloc, content)? {
-        Some(line) => Outlook::of(alloc, world, journal, &line),
-        None => Ok(Outlook::Nothing),
-    }
-}
-
-/// What a line did, from what was known before it. The journal notes it.
-fn account_of(
-    alloc: Global,
-    world: &World,
-    journal: &mut Journal,
-    outlook: Outlook,
-    marks: usize,
-    sent: usize,
-) -> Result<Account, NoMem> {
-    journal.note_line(world, marks, sent)?;
-    outlook.account(alloc, world, journal, marks, sent)
-}
-
 /// Runs a line, and answers what it did. None where it is no line.
 pub fn take_line(
     alloc: Global,
@@ -66,12 +39,10 @@ pub fn take_line(
 ) -> Result<Option<Taken>, Halt>
     ensures { IfOk result (TakesLine world.old world.new content.now) }
 {
-    let outlook = outlook_of(alloc, world, journal, content)?;
-    let marks = world.marks().len();
-    let sent = world.sent().len();
+    let outlook = Outlook::of(alloc, world, journal, content)?;
     let Some(printed) = run_line(world, content)? else {
         return Ok(None);
     };
-    let account = account_of(alloc, world, journal, outlook, marks, sent)?;
+    let account = outlook.account(alloc, world, journal)?;
     Ok(Some(Taken { account, printed }))
 }

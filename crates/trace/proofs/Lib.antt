@@ -1,0 +1,4 @@
+pub mod WholeTexts
+pub mod PrintedTexts
+pub mod Margins
+pub mod LinesTold

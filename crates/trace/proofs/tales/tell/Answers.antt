@@ -1,0 +1,24 @@
+use Rattle.std.proofs.Common.{Result, Err, inl, inr}
+use Rattle.trace_runs.specs.declared.endings.Verdict.{Verdict}
+use Rattle.trace_runs.specs.declared.endings.Verdict.TheVariants.{BadLayout}
+use Rattle.trace_runs.specs.declared.endings.Halt.{Halt}
+use Rattle.trace.specs.Tales.{Tells}
+use Rattle.trace.proofs.LinesTold.{at_err, writes-stopped, stopped, bad_layout, ends_not, run-told, nothing-told, from-start}
+use Rattle.trace.proofs.tales.tell.Goals as goal
+
+pub returns-in_err-world : goal.returns-in_err-world
+returns-in_err-world g c =
+    let sink = g.K.Sink.told c.args.sink.now in
+    at_err c.from_residual.result (λ (r : Result Verdict Halt). Tells (g.S.Source.told c.args.source.now) sink sink r)
+    (λ halt. inr (nothing-told sink sink (Err halt) (writes-stopped halt sink) (stopped halt _))) c.from_residual.ensures.0
+
+pub returns-in-Opened : goal.returns-in-Opened
+returns-in-Opened g c =
+    let opens = rw c.in-Opened.is at c.in_ok-world.ensures in
+    let read = from-start (g.S.Source.told c.args.source.now) _ c.new-unread.result opens.0 c.new-unread.ensures opens.1 in
+    inl (run-told _ _ _ c.tell_lines.result opens.0 c.in-Opened.world opens.2.0 opens.2.1 opens.2.2
+    (c.tell_lines.ensures (g.S.Source.told c.args.source.now) opens.0 read))
+
+pub returns : goal.returns
+returns g c =
+    inr (nothing-told _ _ c.refuse.result c.refuse.ensures.writes (λ e. ends_not BadLayout c.refuse.result c.refuse.ensures.ends bad_layout e))

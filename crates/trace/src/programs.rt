@@ -1,0 +1,73 @@
+//! The program's top call.
+
+ghost use Rattle.std.specs.Prelude.{◌≡◌, true, codes, map, string_bytes};
+ghost use Rattle.trace.specs.Words.{is_word, status_of, TextEnds};
+
+use crate::drawings::draw;
+use crate::tales::tell;
+use fab_io::{Sink, Source};
+use std::alloc::Global;
+use trace_runs::{Halt, Verdict, write};
+
+/// Whether the words are this one word.
+fn is_word(words: &[String], wanted: &str) -> bool
+    ensures { result ≡ is_word wanted.now (map string_bytes words.now) }
+{
+    match words {
+        [word] => word.as_str() == wanted,
+        _ => false,
+    }
+}
+
+/// The exit status of an end.
+fn status_of(ending: Result<Verdict, Halt>) -> u8
+    ensures { result ≡ status_of ending }
+{
+    match ending {
+        Ok(Verdict::Whole) => 0,
+        Ok(Verdict::BadLayout) => 3,
+        Ok(Verdict::BadLine(_)) => 4,
+        Ok(Verdict::TooManyLines) => 8,
+        Err(Halt::Source) => 5,
+        Err(Halt::Sink) => 6,
+        Err(Halt::Memory) => 7,
+    }
+}
+
+/// Runs the program `trace` with these words (its own name left out), and answers its exit status. The input is that of `replay run`.
+///
+/// With the word `text` each line of the schedule is written with its number, under it what `replay` prints for it, with two spaces before, and
+/// then what it did, with four. At the end stands what the run left. With the word `svg` the run is drawn, the first 2,000 lines of it.
+///
+/// | status | when | beside that |
+/// |---|---|---|
+/// | 0 | all lines were run, and all was written | |
+/// | 2 | the words are others | nothing is read; the usage line is written to `errors` |
+/// | 3, 4, 8 | as `replay` answers the input | what `replay` prints last is written; with `svg` to `errors`, and nothing is drawn |
+/// | 5 | the source failed | |
+/// | 6 | the sink failed, or with `svg` `errors` did | |
+/// | 7 | no memory was left | |
+///
+/// What is written with the word `text` tells what `replay` prints for the lines that were run, before it closes its output: it is the lines with
+/// exactly two spaces before, without these (`told_in`, `specs/Told.antt`; `TellsRun`, `specs/Tales.antt`).
+pub fn trace<S: Source, K: Sink, E: Sink>(
+    alloc: Global,
+    words: &[String],
+    source: &mut S,
+    sink: &mut K,
+    errors: &mut E,
+) -> u8
+    ensures { is_word (codes "text") (map string_bytes words.now) ≡ true
+        → TextEnds (S.told source.old) (K.told sink.old) (K.told sink.new) result }
+{
+    if is_word(words, "text") {
+        return status_of(tell(alloc, source, sink));
+    }
+    if is_word(words, "svg") {
+        return status_of(draw(alloc, source, sink, errors));
+    }
+    match write(errors, b"usage: trace text | trace svg\n".as_slice()) {
+        Ok(()) => 2,
+        Err(halt) => status_of(Err(halt)),
+    }
+}

@@ -1,0 +1,126 @@
+//! The input of a trace: its layout, and then a line of the schedule after another, each of which is run.
+
+ghost use Rattle.std.specs.Prelude.{◌<◌, IfOk, slice_index};
+ghost use Rattle.std.specs.Io.KnownBytes.{prepend_known};
+ghost use Rattle.trace.specs.Tales.{OpensLayout, IsRefused, Opens, IsRefusal, RunsLine, Turns};
+
+use fab_base::Bytes;
+use fab_io::Source;
+use layout::{Layout, LayoutFault};
+use lines::{LINE_LIMIT, Piece, Unread, content_of};
+use std::alloc::Global;
+use trace_runs::{Halt, Head, Journal, MOST_LINES, Taken, Verdict, next, read_head, take_line};
+use world::World;
+
+/// What stands before a schedule.
+#[derive(Drop)]
+pub(crate) enum Opening {
+    /// A layout. Nothing was run over its disk yet.
+    Opened(World),
+    /// No layout: what `replay` prints then, without its line feed.
+    Refused(String),
+}
+
+/// What comes next of a schedule.
+#[derive(Drop)]
+pub(crate) enum Turn {
+    /// A line, as it was read, which was run.
+    Ran(Bytes, Taken),
+    /// No line.
+    Ended,
+    /// What is no line, or one too many: how that ends the run, and what `replay` prints then, without its line feed.
+    Refused(Verdict, String),
+}
+
+/// The disk of a layout's text.
+fn opening_of(alloc: Global, head: &[u8]) -> Result<Opening, Halt>
+    ensures { IfOk result (OpensLayout head.now) }
+{
+    match Layout::read(alloc, head) {
+        Ok(layout) => Ok(Opening::Opened(World::new(alloc, layout)?)),
+        Err(LayoutFault::NoMemory) => Err(Halt::Memory),
+        Err(fault) => Ok(Opening::Refused(format!(in alloc; "bad layout: {fault}")?)),
+    }
+}
+
+/// An opening without a layout.
+fn no_opening(alloc: Global, why: &str) -> Result<Opening, Halt>
+    requires { 32 < slice_index why.now 0 }
+    ensures { IfOk result IsRefused }
+{
+    Ok(Opening::Refused(String::from_str(alloc, why)?))
+}
+
+/// Reads what stands before the schedule.
+pub(crate) fn open<S: Source>(
+    alloc: Global,
+    source: &mut S,
+    unread: &mut Unread,
+) -> Result<Opening, Halt>
+    ensures { IfOk result (Opens (prepend_known unread.old (S.told source.old)) (prepend_known unread.new (S.told source.new))) }
+{
+    match read_head(alloc, source, unread)? {
+        Head::Text(text) => opening_of(alloc, text.as_slice()),
+        Head::Alone(text) => opening_of(alloc, text.as_slice()),
+        Head::TooLong => no_opening(alloc, "bad layout: limit layout"),
+        Head::Endless => no_opening(alloc, "bad layout: end"),
+    }
+}
+
+/// The turn of what is no line, by its number.
+fn bad_line(alloc: Global, number: u64) -> Result<Turn, Halt>
+    ensures { IfOk result IsRefusal }
+{
+    let why = format!(in alloc; "bad line {number}")?;
+    Ok(Turn::Refused(Verdict::BadLine(number), why))
+}
+
+/// The turn of a line too many.
+fn too_many_lines(alloc: Global) -> Result<Turn, Halt>
+    ensures { IfOk result IsRefusal }
+{
+    let why = String::from_str(alloc, "too many lines")?;
+    Ok(Turn::Refused(Verdict::TooManyLines, why))
+}
+
+/// Runs a line. The journal notes it.
+fn run_line(
+    alloc: Global,
+    world: &mut World,
+    journal: &mut Journal,
+    line: Bytes,
+    number: u64,
+) -> Result<Turn, Halt>
+    ensures { IfOk result (RunsLine world.old world.new line) }
+{
+    match take_line(alloc, world, journal, content_of(line.as_slice()))? {
+        Some(taken) => Ok(Turn::Ran(line, taken)),
+        None => bad_line(alloc, number),
+    }
+}
+
+/// Runs what comes next after so many lines. The journal notes it.
+pub(crate) fn take_turn<S: Source>(
+    alloc: Global,
+    world: &mut World,
+    journal: &mut Journal,
+    source: &mut S,
+    unread: &mut Unread,
+    count: u64,
+) -> Result<Turn, Halt>
+    ensures { IfOk result (Turns world.old world.new (prepend_known unread.old (S.told source.old))
+        (prepend_known unread.new (S.told source.new))) }
+{
+    let piece = next(source, unread, LINE_LIMIT)?;
+    if let Piece::Ended = piece {
+        return Ok(Turn::Ended);
+    }
+    if count >= MOST_LINES {
+        return too_many_lines(alloc);
+    }
+    match piece {
+        Piece::Whole(line) => run_line(alloc, world, journal, line, count + 1),
+        Piece::Last(line) => run_line(alloc, world, journal, line, count + 1),
+        Piece::Long | Piece::Ended => bad_line(alloc, count + 1),
+    }
+}

@@ -1,0 +1,155 @@
+//! A run as text.
+
+ghost use Rattle.std.specs.Prelude.{◌≡◌, [], List, ℕ, Option, Some, IfOk, OnOk, string_bytes};
+ghost use Rattle.std.specs.Io.KnownBytes.{prepend_known};
+ghost use Rattle.lines.specs.Reading.{ReadsSchedule};
+ghost use Rattle.trace.specs.Told.{IsTold, IsStepText};
+ghost use Rattle.trace.specs.Tales.{EndsAs, IsSolid, Tells, TellsRest, WritesTold};
+
+use crate::closings::stripe_notes;
+use crate::notes::account_notes;
+use crate::pages::Page;
+use crate::schedules::{Opening, Turn, open, take_turn};
+use fab_base::{GroupId, NoMem, StripeNo};
+use fab_io::{Sink, Source};
+use lines::{Unread, content_of};
+use std::alloc::Global;
+use trace_runs::{Halt, Journal, Taken, Verdict, write};
+use world::World;
+
+/// Adds notes to a page.
+fn add_notes(page: &mut Page, notes: &[String]) -> Result<(), NoMem>
+    ensures { OnOk result ((told : List ℕ) → IsTold page.old told → IsTold page.new told) }
+{
+    for note in notes {
+        page.note(note.as_bytes())?;
+    }
+    Ok(())
+}
+
+/// A line that was run: its number and what stands on it, what `replay` prints for it, and what it did.
+fn line_page(
+    alloc: Global,
+    world: &World,
+    journal: &Journal,
+    number: u64,
+    content: &[u8],
+    taken: &Taken,
+) -> Result<Page, NoMem>
+    requires { IsStepText taken.now.printed }
+    ensures { IfOk result (λ page. IsTold page taken.now.printed) }
+{
+    let notes = account_notes(alloc, world, journal, &taken.account)?;
+    let number = format!(in alloc; "{number} ")?;
+    let mut title = Vec::from_slice(alloc, number.as_bytes())?;
+    title.extend_from_slice(content)?;
+    let mut page = Page::new(alloc);
+    page.head(title.as_slice())?;
+    page.tell(taken.printed.as_slice())?;
+    add_notes(&mut page, notes.as_slice())?;
+    Ok(page)
+}
+
+/// Writes a line that was run.
+fn tell_line<K: Sink>(
+    alloc: Global,
+    world: &World,
+    journal: &Journal,
+    sink: &mut K,
+    number: u64,
+    content: &[u8],
+    taken: &Taken,
+) -> Result<(), Halt>
+    requires { IsStepText taken.now.printed }
+    ensures { WritesTold result (K.told sink.old) (K.told sink.new) taken.now.printed }
+{
+    let page = line_page(alloc, world, journal, number, content, taken)?;
+    write(sink, page.as_slice())
+}
+
+/// What a run left of each stripe that an operation named.
+fn closing_page(alloc: Global, world: &World, journal: &Journal) -> Result<Page, NoMem>
+    ensures { IfOk result (λ page. IsTold page []) }
+{
+    let mut page = Page::new(alloc);
+    for (group, stripe) in journal.stripes() {
+        let notes = stripe_notes(alloc, world, journal, GroupId(*group), StripeNo(*stripe))?;
+        let title = format!(in alloc; "stripe {group} {stripe}")?;
+        page.head(title.as_bytes())?;
+        add_notes(&mut page, notes.as_slice())?;
+    }
+    Ok(page)
+}
+
+/// Writes what a run left.
+fn finish<K: Sink>(
+    alloc: Global,
+    world: &World,
+    journal: &Journal,
+    sink: &mut K,
+) -> Result<Verdict, Halt>
+    ensures writes { WritesTold result (K.told sink.old) (K.told sink.new) [] }
+    ensures ends { EndsAs Verdict.Whole result }
+{
+    let page = closing_page(alloc, world, journal)?;
+    write(sink, page.as_slice())?;
+    Ok(Verdict::Whole)
+}
+
+/// Writes why a run ends.
+fn refuse<K: Sink>(
+    alloc: Global,
+    sink: &mut K,
+    verdict: Verdict,
+    why: &str,
+) -> Result<Verdict, Halt>
+    requires { IsSolid why.now }
+    ensures writes { WritesTold result (K.told sink.old) (K.told sink.new) [] }
+    ensures ends { EndsAs verdict result }
+{
+    let mut page = Page::new(alloc);
+    page.head(why.as_bytes())?;
+    write(sink, page.as_slice())?;
+    Ok(verdict)
+}
+
+/// Runs the lines that are left of a schedule, and writes what each did and what all left.
+fn tell_lines<S: Source, K: Sink>(
+    alloc: Global,
+    world: &mut World,
+    source: &mut S,
+    unread: &mut Unread,
+    sink: &mut K,
+) -> Result<Verdict, Halt>
+    ensures { (input : Option (List ℕ)) (head : List ℕ) → ReadsSchedule input (prepend_known unread.old (S.told source.old)) head []
+        → TellsRest world.old input head (K.told sink.old) (K.told sink.new) result }
+{
+    let mut journal = Journal::new(alloc);
+    for count in 0..u64::MAX {
+        match take_turn(alloc, world, &mut journal, source, unread, count)? {
+            Turn::Ran(line, taken) => {
+                let content = content_of(line.as_slice());
+                tell_line(alloc, world, &journal, sink, count + 1, content, &taken)?;
+            }
+            Turn::Ended => return finish(alloc, world, &journal, sink),
+            Turn::Refused(verdict, why) => return refuse(alloc, sink, verdict, why.as_str()),
+        }
+    }
+    // No memory holds so many lines.
+    Err(Halt::Memory)
+}
+
+/// Runs a layout and a schedule from a source, and writes what each line did and what all left.
+pub(crate) fn tell<S: Source, K: Sink>(
+    alloc: Global,
+    source: &mut S,
+    sink: &mut K,
+) -> Result<Verdict, Halt>
+    ensures { Tells (S.told source.old) (K.told sink.old) (K.told sink.new) result }
+{
+    let mut unread = Unread::new(alloc);
+    match open(alloc, source, &mut unread)? {
+        Opening::Opened(mut world) => tell_lines(alloc, &mut world, source, &mut unread, sink),
+        Opening::Refused(why) => refuse(alloc, sink, Verdict::BadLayout, why.as_str()),
+    }
+}

@@ -1,0 +1,43 @@
+//! `trace`: shows a run of a layout and a schedule, the input of `replay run`, as text or as a picture.
+#![tactic(auto)]
+
+use clap::Command;
+use fab_io::{StdSink, StdSource};
+use std::alloc::{AllocError, Global};
+use std::process::ExitCode;
+use std::{env, io};
+use trace::trace;
+
+/// The command line.
+fn command(alloc: Global) -> Result<Command<'static>, AllocError> {
+    let text = Command::new(alloc, "text").about("Writes what each line did, and what all left");
+    let svg = Command::new(alloc, "svg").about("Draws the first 2,000 lines as SVG 1.1");
+    Command::new(alloc, "trace")
+        .version("1.0")
+        .about("Shows the run of a layout and a schedule, read from standard input")
+        .no_binary_name(true)
+        .subcommand_required(true)
+        .subcommand(text)?
+        .subcommand(svg)
+}
+
+/// Runs the program, and answers its exit status.
+fn run(rt: &HostRuntime) -> anyhow::Result<u8> {
+    let alloc = rt.alloc();
+    let words: Vec<String> = env::args(rt)?.skip(1).collect(alloc)?;
+    if let Err(error) = command(alloc)?.try_get_matches_from(words.as_slice()) {
+        error.print(rt)?;
+        return Ok(error.exit_code() as u8);
+    }
+    let mut source = StdSource::new(rt.reader());
+    let mut sink = StdSink::new(io::writer(rt));
+    let mut errors = StdSink::new(rt.stderr().lock());
+    Ok(trace(alloc, words.as_slice(), &mut source, &mut sink, &mut errors))
+}
+
+/// The status of a run that finds no memory.
+const NO_MEMORY: u8 = 7;
+
+fn main(rt: HostRuntime) -> ExitCode {
+    ExitCode::from(run(&rt).unwrap_or(NO_MEMORY))
+}
