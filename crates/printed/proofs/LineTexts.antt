@@ -1,5 +1,5 @@
 -- A text of lines without line feeds and carriage returns splits into these lines.
-use Rattle.std.proofs.Common.{◌≡◌, ℕ, zero, suc, ◌+◌, ◌-◌, ◌<◌, ◌≤◌, ◌==◌, not, Bool, true, false, cond, ◌&&◌, nat_lt, List, [], ◌∷◌, ◌++◌, length, take, map, Option, Some, None, refl, sym, ap, ◌∙◌, subst, arith, append_assoc, append-nil}
+use Rattle.std.proofs.Common.{◌≡◌, ℕ, zero, suc, ◌+◌, ◌-◌, ◌<◌, ◌≤◌, ◌==◌, not, Bool, true, false, cond, ◌&&◌, nat_lt, List, [], ◌∷◌, ◌++◌, length, take, map, Option, Some, None, refl, sym, ap, ◌∙◌, subst, arith, append_assoc, append-nil, length-append}
 use Rattle.std.specs.Prelude.{⊤, slice_index}
 use Rattle.std.specs.List.{list_all, position}
 use Rattle.std.specs.Str.Lines.{strip_carriage_return}
@@ -10,7 +10,7 @@ use Rattle.lines.specs.Lines.{is_line_feed, raw_lines, has_line_feed, content}
 use Rattle.lines.specs.Reading.{IsWhole}
 use Rattle.lines.proofs.WholeLines.{whole_has, whole_first}
 use Rattle.world.specs.Texts.{newline}
-use Rattle.printed.proofs.Tokens.{is_clear, all_then, found_at, length-both}
+use Rattle.printed.proofs.Tokens.{is_clear, all_then, found_at}
 
 -- the text of lines, each with its line feed
 abbrev pub text_of_lines : List (List ℕ) → List ℕ
@@ -43,7 +43,7 @@ no_return b clear = grind (arith, nat_tests)
 
 whole_line : (line : List ℕ) → list_all is_clear line ≡ true → IsWhole (line ++ newline)
 whole_line line clear =
-    let long : length line ≡ length (line ++ newline) - 1 = omega (arith, length-both line newline) in
+    let long : length line ≡ length (line ++ newline) - 1 = omega (arith, length-append line newline) in
     found_at 10 line [] (all_then is_clear (λ byte. not (byte == 10)) line no_feed clear) ∙ ap (λ (k : ℕ). Some k) long
 
 none_returns : (line : List ℕ) (i : ℕ) → list_all is_clear line ≡ true → (slice_index line i == 13) ≡ false
@@ -57,7 +57,7 @@ stripped_is line clear = ap (λ (b : Bool). cond b (take (length line - 1) line)
 content_is : (line : List ℕ) → list_all is_clear line ≡ true → content (line ++ newline) ≡ line
 content_is line clear =
     let all : List ℕ = line ++ newline in
-    let place : length line ≡ length (line ++ newline) - 1 = omega (arith, length-both line newline) in
+    let place : length line ≡ length (line ++ newline) - 1 = omega (arith, length-append line newline) in
     ap (λ (b : Bool). cond b (strip_carriage_return (take (length (line ++ newline) - 1) (line ++ newline))) (line ++ newline))
     (whole_has (line ++ newline) (whole_line line clear))
     ∙ ap strip_carriage_return (take_at line newline (length (line ++ newline) - 1) place) ∙ stripped_is line clear

@@ -1,5 +1,5 @@
 -- What printed lines say together: the marks of a run, then the happenings of its stripes, then its counts.
-use Rattle.std.proofs.Common.{◌≡◌, ℕ, zero, suc, ◌+◌, ◌-◌, ◌<◌, ◌≤◌, ◌⊎◌, inl, inr, Bool, true, false, cond, nat_lt, nat_eq, ◌&&◌, ◌||◌, List, [], ◌∷◌, ◌++◌, length, map, Option, Some, None, refl, sym, ap, ◌∙◌, subst, arith, append_assoc, append-nil, codes}
+use Rattle.std.proofs.Common.{◌≡◌, ℕ, zero, suc, ◌+◌, ◌-◌, ◌<◌, ◌≤◌, ◌⊎◌, inl, inr, Bool, true, false, cond, nat_lt, nat_eq, ◌&&◌, ◌||◌, List, [], ◌∷◌, ◌++◌, length, map, Option, Some, None, refl, sym, ap, ◌∙◌, subst, arith, append_assoc, append-nil, codes, length-append}
 use Rattle.std.specs.Prelude.{⊤, slice_get}
 use Rattle.std.proofs.lemmas.Bool.{eq-eqb}
 use Rattle.std.proofs.lemmas.Bool.Decides.{nat_tests}
@@ -19,7 +19,7 @@ use Rattle.transcript.specs.Forms.{entry_of}
 use Rattle.transcript.specs.Transcripts.{nothing_said, position_said, stripe_before, is_behind, is_next, after_entry, after_line, text_at_line, text_at_end, text_behind, text_of, most_lines}
 use Rattle.printed.specs.Printed.{Printed, OfMark, OfRefusal, OfNothing, printed_text, printed_texts, marks_in, printed_marks}
 use Rattle.world.specs.Texts.{newline, idle_text}
-use Rattle.printed.proofs.Tokens.{is_clear, length-both, piece_most, IsPiece}
+use Rattle.printed.proofs.Tokens.{is_clear, piece_most, IsPiece}
 use Rattle.printed.proofs.LineTexts.{text_of_lines, AreClear}
 use Rattle.printed.proofs.MarkLines.{IsSmall, claim_of, mark_line, mark_ends, mark_piece, mark_back, MarkReads, literal}
 use Rattle.printed.proofs.OtherLines.{refusal_line, refusal_ends, refusal_piece, refusal_back, idle_back, HappeningReads, AllRead, happened_line, happened_piece, happened_back, counts_line, counts_piece, counts_back, CountsRead}
@@ -109,7 +109,7 @@ printed_read (OfMark mark ∷ printed) n claims few reads placed more =
     reads_one n (of_marks claims) (of_marks (claims ++ claim_of mark ∷ [])) (mark_line mark) (entry.Mark (claim_of mark)) (omega (arith, few))
     (mark_back mark reads.0) (mark_after claims mark placed.0) (map printed_line printed ++ more)
     ∙ printed_read printed (n + 1) (claims ++ claim_of mark ∷ []) (omega (arith, few)) reads.1
-    (subst (λ (k : ℕ). EachPlaced k (printed_marks printed)) (sym (length-both claims (claim_of mark ∷ []))) placed.1) more
+    (subst (λ (k : ℕ). EachPlaced k (printed_marks printed)) (sym (length-append claims (claim_of mark ∷ []))) placed.1) more
     ∙ ap (λ (k : ℕ). text_behind k (of_marks ((claims ++ claim_of mark ∷ []) ++ map claim_of (printed_marks printed))) more)
     (let same : (n + 1) + length printed ≡ n + suc (length printed) = omega arith in same)
     ∙ ap (λ (l : List Claim). text_behind (n + suc (length printed)) (of_marks l) more)

@@ -1,5 +1,5 @@
 -- Numbers and bytes as they are printed: what their text is made of, and that it reads back.
-use Rattle.std.proofs.Common.{◌≡◌, ℕ, zero, suc, ◌+◌, ◌*◌, ◌/◌, ◌%◌, ◌<◌, ◌≤◌, ◌^◌, ◌==◌, ◌⊎◌, inl, inr, Bool, true, false, not, cond, nat_lt, nat_le, nat_eq, ◌&&◌, ◌||◌, List, [], ◌∷◌, ◌++◌, length, take, drop, get_or, Option, Some, None, Ok, refl, sym, ap, ◌∙◌, arith, rules, codes}
+use Rattle.std.proofs.Common.{◌≡◌, ℕ, zero, suc, ◌+◌, ◌*◌, ◌/◌, ◌%◌, ◌<◌, ◌≤◌, ◌^◌, ◌==◌, ◌⊎◌, inl, inr, Bool, true, false, not, cond, nat_lt, nat_le, nat_eq, ◌&&◌, ◌||◌, List, [], ◌∷◌, ◌++◌, length, take, drop, get_or, Option, Some, None, Ok, refl, sym, ap, ◌∙◌, arith, rules, codes, length-append}
 use Rattle.std.specs.Prelude.{slice_index, option_and_then}
 use Rattle.std.specs.List.{starts_with, list_all, list_any, position, position_or_len, slice_split, onto_first}
 use Rattle.std.specs.Char.{is_ascii_digit, is_ascii_uppercase}
@@ -62,14 +62,10 @@ pub record IsPiece (most : ℕ) (text : List ℕ) : Type 0 where
   pub clear : list_all is_clear text ≡ true
   pub short : length text ≤ most
 
-pub length-both : (xs ys : List ℕ) → length (xs ++ ys) ≡ length xs + length ys
-length-both [] ys = omega arith
-length-both (x ∷ xs) ys = let rest = length-both xs ys in omega (arith, rest)
-
 -- two pieces
 pub piece_both : (a b : ℕ) (xs ys : List ℕ) → IsPiece a xs → IsPiece b ys → IsPiece (a + b) (xs ++ ys)
 piece_both a b xs ys one other =
-    record { clear = all_both is_clear xs ys one.clear other.clear; short = omega (arith, length-both xs ys, one.short, other.short) }
+    record { clear = all_both is_clear xs ys one.clear other.clear; short = omega (arith, length-append xs ys, one.short, other.short) }
 
 pub piece_most : (a b : ℕ) (xs : List ℕ) → a ≤ b → IsPiece a xs → IsPiece b xs
 piece_most a b xs le one = record { clear = one.clear; short = omega (arith, one.short) }
@@ -171,7 +167,7 @@ pub found_at : (end : ℕ) (xs rest : List ℕ) → list_all (λ byte. not (byte
     → position (λ byte. byte == end) (xs ++ (end ∷ rest)) ≡ Some (length xs)
 found_at end xs rest lacks =
     let place = place_of end xs rest lacks in
-    let long = length-both xs (end ∷ rest) in
+    let long = length-append xs (end ∷ rest) in
     grind (arith, nat_tests)
 
 cut_at : (end : ℕ) (xs rest : List ℕ) → list_all (λ byte. not (byte == end)) xs ≡ true → cut end (xs ++ (end ∷ rest)) ≡ Some (xs, rest)
