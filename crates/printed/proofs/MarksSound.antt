@@ -83,10 +83,13 @@ module _ (layout : Layout) (is : IsLayout layout) where
   abbrev setting : Setting
   setting = coding layout
 
-  group_few : (g : ℕ) (group : Group) → group_of layout g ≡ Some group → IsSmall g
+  pub few_groups : length layout.groups ≤ 64
+  few_groups = is.few_groups
+
+  pub group_few : (g : ℕ) (group : Group) → group_of layout g ≡ Some group → IsSmall g
   group_few g group here = let within = group_within layout.groups g group here in let few = is.few_groups in omega arith
 
-  stripe_few : (g : ℕ) (group : Group) (s : ℕ) → group_of layout g ≡ Some group → s < group.stripes → IsSmall s
+  pub stripe_few : (g : ℕ) (group : Group) (s : ℕ) → group_of layout g ≡ Some group → s < group.stripes → IsSmall s
   stripe_few g group s here within = let few = (is.each g group here).few_stripes in omega arith
 
   op_fits : (m block : ℕ) (op : Op) → has_block m op ≡ true → has_length m block op ≡ true → OpFits m block op
@@ -228,7 +231,7 @@ module _ (layout : Layout) (is : IsLayout layout) where
         let shows = laws.aborts k p n cause at in cause_reads n shows.0 cause shows.2
 
     -- where there are so few marks and operations, each mark reads back
-    mark_reads : (length (run (coding layout) events (first_world layout)).marks ≤ 10000000) → ((n : ℕ) → (life : Life)
+    pub mark_reads : (length (run (coding layout) events (first_world layout)).marks ≤ 10000000) → ((n : ℕ) → (life : Life)
         → life_of (run (coding layout) events (first_world layout)).marks n ≡ Some life → IsSmall n)
         → ((k p n : ℕ) (b : BrickId) (ask : Ask) → slice_get (run (coding layout) events (first_world layout)).marks k ≡ Some (Begin p n b ask) → IsSmall n)
         → (k : ℕ) (mark : Mark) → slice_get (run (coding layout) events (first_world layout)).marks k ≡ Some mark → MarkReads mark

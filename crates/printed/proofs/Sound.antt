@@ -1,5 +1,5 @@
 -- What is printed for a whole schedule is a text that an audit finds sound.
-use Rattle.std.proofs.Common.{◌≡◌, ℕ, zero, suc, ◌+◌, ◌<◌, ◌≤◌, ◌⊎◌, inl, inr, ⊎_elim, List, [], ◌∷◌, ◌++◌, length, map, count_by, codes, Option, Some, None, Ok, refl, sym, ap, ◌∙◌, subst, arith, append_assoc, append-nil, map-id, add-one}
+use Rattle.std.proofs.Common.{◌≡◌, ℕ, zero, suc, ◌+◌, ◌<◌, ◌≤◌, ◌⊎◌, inl, inr, ⊎_elim, List, [], ◌∷◌, ◌++◌, length, map, count_by, codes, Option, Some, None, Ok, refl, sym, ap, ap₂, ◌∙◌, subst, arith, append_assoc, append-nil, map-id, add-one}
 use Rattle.std.specs.Prelude.{⊤, slice_get}
 use Rattle.std.specs.Fmt.{decimal}
 use Rattle.std.proofs.lemmas.Bool.{cases_lt}
@@ -17,7 +17,8 @@ use Rattle.lines.specs.Lines.{raw_lines, content}
 use Rattle.stripe_code.specs.Codes.{coding}
 use Rattle.reg_model.specs.declared.marks.Mark.{Mark}
 use Rattle.reg_model.specs.declared.marks.Mark.TheVariants.{Begin, End, Crash}
-use Rattle.reg_model.specs.Marks.{Life, life_of, begun_numbers, position_of}
+use Rattle.reg_model.specs.Marks.{Life, life_of, begun_numbers, position_of, stripe_marks}
+use Rattle.reg_model.specs.Strict.{IsStrict}
 use Rattle.protocol.specs.Worlds.{World, Event, first_world, run}
 use Rattle.protocol.specs.Happenings.{happenings_of}
 use Rattle.protocol_laws.specs.Laws.{Laws}
@@ -50,7 +51,7 @@ use Rattle.printed.proofs.MarksSound as marking
 use Rattle.printed.proofs.OtherLines.{counts_line, counts_piece, CountsRead}
 use Rattle.printed.proofs.PrintedMarks.{is_end, others, lines_are, begins_among, marks_among_lines, IsPrintedAs, steps_printed}
 use Rattle.printed.proofs.Reading.{Reads, reads_both, of_marks, of_stripes, printed_line, printed_lines, printed_clear, printed_read, EachReads, EachPlaced, counts_end}
-use Rattle.printed.proofs.Stripes.{Stage, first_stage, next_of, next_group_stage, AreOfLayout}
+use Rattle.printed.proofs.Stripes.{IsStory, count_less, is_before, all_begins, Stage, groups_stage, groups_text_of, stripes_text_of, AreOfLayout}
 
 -- the claims of marks are these marks
 pub marks_back : (marks : List Mark) → marks_of (map claim_of marks) ≡ marks
@@ -163,10 +164,144 @@ module _ (layout : Layout) (is : IsLayout layout) (schedule : List (List ℕ)) (
       (each_placed 0 (left_by layout steps).marks (λ k mark at. let place = laws.without_gaps.placed k mark at in omega (arith, place)))))
 
   -- the lines of stripes
-  stage : Stage layout (left_by layout steps).marks (happenings_of (left_by layout steps)) 2097153 _ _ _ _ _ _ _ (map claim_of (left_by layout steps).marks)
-      (0 + length printed.printed) 64 0 _
+  story : IsStory layout (left_by layout steps).marks (happenings_of (left_by layout steps))
+  story = record {
+    few_marks = omega (arith, marks_low, few);
+    placed = laws.without_gaps.placed;
+    numbers = λ n life at. let low = lives_low n life at in omega (arith, low, few);
+    strict = laws.strict;
+    group_small = marking.group_few layout is;
+    stripe_small = marking.stripe_few layout is;
+  }
+
+  stage : Stage layout (left_by layout steps).marks (happenings_of (left_by layout steps)) story (map claim_of (left_by layout steps).marks)
+      (0 + length printed.printed) 64 0
+      (groups_text_of layout (left_by layout steps).marks (happenings_of (left_by layout steps)) story (map claim_of (left_by layout steps).marks)
+      (0 + length printed.printed) 64)
   stage =
-      Rattle.printed.proofs.Stripes.groups_stage layout (left_by layout steps).marks (happenings_of (left_by layout steps)) 2097153 (omega arith)
-      (omega (arith, marks_low, few)) laws.without_gaps.placed (λ n life at. let low = lives_low n life at in omega (arith, low, few)) laws.strict
-      (marking.group_few layout is) (marking.stripe_few layout is) (map claim_of (left_by layout steps).marks) (0 + length printed.printed)
-      (omega (arith, lines_low, begins_few, few)) 64
+      groups_stage layout (left_by layout steps).marks (happenings_of (left_by layout steps)) story (map claim_of (left_by layout steps).marks)
+      (0 + length printed.printed) (omega (arith, lines_low, begins_few, few)) 64
+
+  groups_same : (g : ℕ) → groups_text layout (left_by layout steps) g
+      ≡ groups_text_of layout (left_by layout steps).marks (happenings_of (left_by layout steps)) story (map claim_of (left_by layout steps).marks)
+      (0 + length printed.printed) g
+  unfolding groups_text
+  groups_same zero = refl
+  groups_same (suc g) = ap₂ (λ (one other : List ℕ). one ++ other) (groups_same g) (stripes_same g (stripes_of (group_of layout g)))
+    where
+      stripes_same : (h s : ℕ) → stripes_text (left_by layout steps) h s
+          ≡ stripes_text_of layout (left_by layout steps).marks (happenings_of (left_by layout steps)) story (map claim_of (left_by layout steps).marks)
+          (0 + length printed.printed) h s
+      stripes_same h zero = refl
+      stripes_same h (suc s) = ap (λ (l : List ℕ). l ++ happened_text h s (happenings_of (left_by layout steps) h s)) (stripes_same h s)
+
+  -- the counts
+  counts : Counts
+  counts = record {
+    begun = count_by is_begin (left_by layout steps).marks;
+    answered = count_by is_answered (left_by layout steps).marks;
+    aborted = count_by is_aborted (left_by layout steps).marks;
+    crashes = count_by is_crash (left_by layout steps).marks;
+  }
+
+  counts_read : CountsRead counts
+  counts_read =
+      let all = marks_low in
+      let one = count_by-le-length is_begin (left_by layout steps).marks in
+      let two = count_by-le-length is_answered (left_by layout steps).marks in
+      let three = count_by-le-length is_aborted (left_by layout steps).marks in
+      let four = count_by-le-length is_crash (left_by layout steps).marks in
+      record {
+        begun = omega (arith, one, all, few);
+        answered = omega (arith, two, all, few);
+        aborted = omega (arith, three, all, few);
+        crashes = omega (arith, four, all, few);
+      }
+
+  steps_small : IsSmall (length steps)
+  steps_small = omega (arith, few)
+
+  -- the lines of the text
+  abbrev last_line : List ℕ
+  last_line = counts_line (length steps) counts
+
+  abbrev all_lines : List (List ℕ)
+  all_lines = map printed_line printed.printed ++ (stage.contents ++ (counts_line (length steps) counts ∷ []))
+
+  text_is : steps_text (coding layout) (first_world layout) steps ++ closing_text layout (left_by layout steps) (length steps) ≡ text_of_lines all_lines
+  text_is =
+      ap (λ (l : List ℕ). l ++ closing_text layout (left_by layout steps) (length steps)) (printed.text_is ∙ printed_lines printed.printed)
+      ∙ ap (λ (l : List ℕ). text_of_lines (map printed_line printed.printed) ++ (l ++ count_text (length steps) (left_by layout steps).marks))
+      (groups_same 64 ∙ stage.text_is)
+      ∙ ap (λ (l : List ℕ). text_of_lines (map printed_line printed.printed) ++ (text_of_lines stage.contents ++ l))
+      (counts_end_text (length steps) (left_by layout steps).marks ∙ sym (one_line_text (counts_line (length steps) counts)))
+      ∙ ap (λ (l : List ℕ). text_of_lines (map printed_line printed.printed) ++ l) (sym (lines_both stage.contents (counts_line (length steps) counts ∷ [])))
+      ∙ sym (lines_both (map printed_line printed.printed) (stage.contents ++ (counts_line (length steps) counts ∷ [])))
+
+  all_clear : AreClear all_lines
+  all_clear =
+      clear_all (map printed_line printed.printed) (stage.contents ++ (counts_line (length steps) counts ∷ []))
+      (printed_clear printed.printed (subst EachReads (sym marks_are) (each_read (left_by layout steps).marks reads)))
+      (clear_all stage.contents (counts_line (length steps) counts ∷ []) stage.clear
+      ((counts_piece (length steps) counts steps_small counts_read).clear, tt))
+
+  -- what the text says
+  says : text_of all_lines
+      ≡ Whole (record { claims = map claim_of (left_by layout steps).marks; stripes = stage.lines; counts = Some counts }) counts
+  says =
+      printed_reads (stage.contents ++ (counts_line (length steps) counts ∷ []))
+      ∙ stage.reads (counts_line (length steps) counts ∷ [])
+      ∙ counts_end ((0 + length printed.printed) + length stage.lines) (length steps) (map claim_of (left_by layout steps).marks) stage.lines counts
+      (let some = stage.few in
+      let all = count_less (is_before 64 0) is_begin (left_by layout steps).marks
+      (all_begins 64 0) in
+      omega (arith, some, all, lines_low, begins_few, few))
+      steps_small counts_read
+
+  -- the happenings that it says hold
+  holds_in : (g s : ℕ) (found : Option Group) → group_of layout g ≡ found → s < stripes_of found
+      → HoldsIn found layout.block g s (left_by layout steps).marks (happenings_said stage.lines g s)
+  holds_in g s None here within = absurd (omega arith)
+  holds_in g s (Some group) here within =
+      let within_groups = slice_get_within layout.groups g group here in
+      let few_groups = marking.few_groups layout is in
+      (within, subst (λ (l : List _). IsStrict group.m layout.block (stripe_marks g s (left_by layout steps).marks) l)
+      (sym (stage.said g s (inl ((let low = within_groups in omega (arith, low, few_groups)), subst (λ (o : Option Group). s < stripes_of o) (sym here) within))))
+      (laws.strict g s group here))
+
+  stripe_within : (g s : ℕ) (found : Option Group) → HasStripe found s → s < stripes_of found
+  stripe_within g s None has = absurd has
+  stripe_within g s (Some group) has = has
+
+  named_within : (lines : List StripeLine) → AreOfLayout layout (left_by layout steps).marks (happenings_of (left_by layout steps)) story
+      (map claim_of (left_by layout steps).marks) (0 + length printed.printed) lines
+      → (i : ℕ) (line : StripeLine) → slice_get lines i ≡ Some line → line.stripe < stripes_of (group_of layout line.group)
+  named_within [] all i line at = absurd (let never : None ≡ Some line = at in cc)
+  named_within (first ∷ lines) all zero line at =
+      subst (λ (l : StripeLine). l.stripe < stripes_of (group_of layout l.group)) (same_Some first line at) all.0
+  named_within (first ∷ lines) all (suc i) line at = named_within lines all.1 i line at
+
+  stripes_hold : StripesHold layout (left_by layout steps).marks stage.lines
+  stripes_hold g s (inl has) =
+      holds_in g s (group_of layout g) refl (stripe_within g s (group_of layout g) has)
+  stripes_hold g s (inr named) =
+      let within = named_within stage.lines stage.of_layout named.0 named.1 named.2 in
+      holds_in g s (group_of layout g) refl
+      (subst (λ (x : ℕ). x < stripes_of (group_of layout g)) named.4 (subst (λ (x : ℕ). named.1.stripe < stripes_of (group_of layout x)) named.3 within))
+
+  counts_hold : CountsHold counts (left_by layout steps).marks
+  counts_hold = record { begun = refl; answered = refl; aborted = refl; crashes = refl }
+
+  pub sound_text : IsSoundText layout (steps_text (coding layout) (first_world layout) steps ++ closing_text layout (left_by layout steps) (length steps))
+  sound_text =
+      subst (λ (text : Text). Examines layout text (Judged Sound))
+      (sym (ap (λ (l : List ℕ). text_of (map content (raw_lines l))) text_is ∙ ap text_of (lines_back all_lines all_clear) ∙ says))
+      (subst (λ (marks : List Mark). MarksHold layout marks × StripesHold layout marks stage.lines × CountsHold counts marks)
+      (sym (marks_back (left_by layout steps).marks))
+      (marking.marks_hold layout is (all_events steps) timely, stripes_hold, counts_hold))
+
+-- What is printed for the steps of a whole schedule, over the layout that a text says, is a text that an audit finds sound.
+pub what_is_printed_audits : (head : List ℕ) (layout : Layout) (schedule : List (List ℕ)) (steps : List Step) → layout_of head ≡ Ok layout
+    → AreStepsOf layout schedule steps → length steps ≤ out.most_lines
+    → IsSoundText layout (steps_text (coding layout) (first_world layout) steps ++ closing_text layout (left_by layout steps) (length steps))
+what_is_printed_audits head layout schedule steps says are few = sound_text layout (accepted_is head layout says) schedule steps are few

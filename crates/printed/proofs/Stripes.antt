@@ -97,7 +97,7 @@ is_before g s (Begin p n b ask) = nat_lt ask.group.0 g || (nat_eq ask.group.0 g 
 is_before g s (End p n answer) = false
 is_before g s (Crash p b) = false
 
-count_less : (p q : Mark → Bool) (marks : List Mark) → ((mark : Mark) → p mark ≡ true → q mark ≡ true) → count_by p marks ≤ count_by q marks
+pub count_less : (p q : Mark → Bool) (marks : List Mark) → ((mark : Mark) → p mark ≡ true → q mark ≡ true) → count_by p marks ≤ count_by q marks
 count_less p q [] then = omega arith
 count_less p q (mark ∷ marks) then = by (p mark) (q mark) refl refl (count_less p q marks then)
   where
@@ -137,7 +137,7 @@ next_group g s (Begin p n b ask) is = grind (arith, nat_tests)
 next_group g s (End p n answer) is = is
 next_group g s (Crash p b) is = is
 
-all_begins : (g s : ℕ) (mark : Mark) → is_before g s mark ≡ true → is_begin mark ≡ true
+pub all_begins : (g s : ℕ) (mark : Mark) → is_before g s mark ≡ true → is_begin mark ≡ true
 all_begins g s (Begin p n b ask) is = refl
 all_begins g s (End p n answer) is = is
 all_begins g s (Crash p b) is = is
@@ -184,19 +184,20 @@ stripe_before : (g s : ℕ) (happenings : List Happening) → AreBefore (stripe_
 stripe_before g s [] = tt
 stripe_before g s (h ∷ happenings) = (inr (refl, omega arith), tt)
 
--- Given marks, what happens of each stripe, strict for the marks of the stripe, and how many stripes each group has.
-module _ (layout : Layout) (marks : List Mark) (of : ℕ → ℕ → List Happening) (most : ℕ) (small : most ≤ 3000000)
-    (few_marks : length marks ≤ most)
-    (placed : (k : ℕ) (mark : Mark) → slice_get marks k ≡ Some mark → position_of mark ≡ k)
-    (numbers : (n : ℕ) (life : Life) → life_of marks n ≡ Some life → n ≤ 1500000)
-    (strict : (g s : ℕ) (group : Group) → group_of layout g ≡ Some group → IsStrict group.m layout.block (stripe_marks g s marks) (of g s))
-    (group_small : (g : ℕ) (group : Group) → group_of layout g ≡ Some group → IsSmall g)
-    (stripe_small : (g : ℕ) (group : Group) (s : ℕ) → group_of layout g ≡ Some group → s < group.stripes → IsSmall s)
-    (claims : List Claim) (start : ℕ) where
+-- Of marks, and of what happens of each stripe, what makes the lines of stripes sound.
+pub record IsStory (layout : Layout) (marks : List Mark) (of : ℕ → ℕ → List Happening) : Type 0 where
+  pub few_marks : length marks ≤ 3000000
+  pub placed : (k : ℕ) (mark : Mark) → slice_get marks k ≡ Some mark → position_of mark ≡ k
+  pub numbers : (n : ℕ) (life : Life) → life_of marks n ≡ Some life → n ≤ 1500000
+  pub strict : (g s : ℕ) (group : Group) → group_of layout g ≡ Some group → IsStrict group.m layout.block (stripe_marks g s marks) (of g s)
+  pub group_small : (g : ℕ) (group : Group) → group_of layout g ≡ Some group → IsSmall g
+  pub stripe_small : (g : ℕ) (group : Group) (s : ℕ) → group_of layout g ≡ Some group → s < group.stripes → IsSmall s
+
+module _ (layout : Layout) (marks : List Mark) (of : ℕ → ℕ → List Happening) (story : IsStory layout marks of) (claims : List Claim) (start : ℕ) where
   -- an operation that lives in the marks of a stripe has a small number
   lives : (g s n : ℕ) (o : Option Life) → life_of marks n ≡ o → (life : Life) → life_of (stripe_marks g s marks) n ≡ Some life → n ≤ 1500000
   lives g s n None none life is = absurd (let never : None ≡ Some life = sym (none_filtered (concerns g s marks) marks n none) ∙ is in cc)
-  lives g s n (Some own) at life is = numbers n own at
+  lives g s n (Some own) at life is = story.numbers n own at
 
   in_time_low : (g s : ℕ) (h : Happening) (o : Option Life) → life_of (stripe_marks g s marks) h.operation ≡ o → IsInTime o h.position
       → h.operation ≤ 1500000
@@ -209,13 +210,14 @@ module _ (layout : Layout) (marks : List Mark) (of : ℕ → ℕ → List Happen
       by : (o : Option Life) → life_of (stripe_marks g s marks) h.operation ≡ o → IsInTime o h.position → HappeningReads h
       by None is in' = absurd in'
       by (Some life) is in' =
-          let low : end_of life.ending ≤ most =
-          subst (LowLife most) is (life_low (stripe_marks g s marks) h.operation most
-          (below_filter most (concerns g s marks) marks (below_placed most 0 marks (λ k mark at. let place = placed k mark at in omega arith) (omega (arith, few_marks)))))
+          let low : end_of life.ending ≤ 3000000 =
+          subst (LowLife 3000000) is (life_low (stripe_marks g s marks) h.operation 3000000
+          (below_filter 3000000 (concerns g s marks) marks (below_placed 3000000 0 marks (λ k mark at. let place = story.placed k mark at in omega arith)
+          (let few = story.few_marks in omega arith))))
           in
           let number = lives g s h.operation (life_of marks h.operation) refl life is in
           let late = in'.1 in
-          record { operation = omega (arith, number); position = omega (arith, late, low, small) }
+          record { operation = omega (arith, number); position = omega (arith, late, low) }
 
   numbers_low : (g s : ℕ) (happenings : List Happening)
       → All (λ (h : Happening). IsInTime (life_of (stripe_marks g s marks) h.operation) h.position) happenings
@@ -237,12 +239,12 @@ module _ (layout : Layout) (marks : List Mark) (of : ℕ → ℕ → List Happen
   -- the happenings of a stripe read back
   reads_stripe : (g s : ℕ) (group : Group) → group_of layout g ≡ Some group → s < group.stripes → StripeReads g s (of g s)
   reads_stripe g s group is within =
-      let its = strict g s group is in
+      let its = story.strict g s group is in
       let long = length-le_from_distinct_below (map (λ (h : Happening). h.operation) (of g s)) 1500001 its.once (numbers_low g s (of g s) its.in_time) in
       let same = length-map (of g s) (λ (h : Happening). h.operation) in
       record {
-        group = group_small g group is;
-        stripe = stripe_small g group s is within;
+        group = story.group_small g group is;
+        stripe = story.stripe_small g group s is within;
         each = each_reads (of g s) (λ k d lt. in_time_reads g s _ (its.in_time k d lt));
         few = omega (arith, long, same);
       }
@@ -253,7 +255,7 @@ module _ (layout : Layout) (marks : List Mark) (of : ℕ → ℕ → List Happen
   own_begin g s group is h rest some =
       let first : IsInTime (life_of (stripe_marks g s marks) h.operation) h.position =
       All-head (λ (x : Happening). IsInTime (life_of (stripe_marks g s marks) x.operation) x.position) h rest
-      (subst (λ (l : List Happening). All (λ (x : Happening). IsInTime (life_of (stripe_marks g s marks) x.operation) x.position) l) some (strict g s group is).in_time)
+      (subst (λ (l : List Happening). All (λ (x : Happening). IsInTime (life_of (stripe_marks g s marks) x.operation) x.position) l) some (story.strict g s group is).in_time)
       in
       by (life_of (stripe_marks g s marks) h.operation) refl first
     where
