@@ -11,8 +11,8 @@ use Rattle.fab_disk.specs.declared.mem_disk.MemDisk.{MemDisk}
 use Rattle.lines.specs.declared.forms.Access.{Access}
 use Rattle.lines.specs.declared.forms.Line.{Line}
 use Rattle.lines.specs.declared.forms.Line.TheVariants.{Nothing, Invoke, Deliver, SetClock, Tick, Crash, Start, Calm}
-use Rattle.lines.specs.Grammar.{◌>>=◌, invoke, write_block, read_block, write_all, read_all, deliver, clock, one_brick, start, calm, form, line_of_tokens, line_of}
-use Rattle.lines.specs.Tokens.{tokens, number, is_number}
+use Rattle.lines.specs.Grammar.{◌>>=◌, invoke, write_block, read_block, write_all, read_all, deliver, clock, one_brick, start, fault, numbers, calm, form, line_of_tokens, line_of}
+use Rattle.lines.specs.Tokens.{tokens, number, is_number, bytes_of_hex}
 use Rattle.protocol.specs.Calms.{RunsAlone, Ended, Stuck, Next}
 use Rattle.protocol.specs.Settings.{Setting}
 use Rattle.protocol.specs.Worlds.{World, Event, Invokes, Delivers, Sets, Ticks, Stops, Starts}
@@ -51,7 +51,7 @@ write_block_fits (b ∷ []) = tt
 write_block_fits (b ∷ g ∷ []) = tt
 write_block_fits (b ∷ g ∷ s ∷ []) = tt
 write_block_fits (b ∷ g ∷ s ∷ j ∷ []) = tt
-write_block_fits (b ∷ g ∷ s ∷ j ∷ text ∷ []) = bind_fits (number j) _ (λ block at. bind_fits _ _ (λ bytes here. invoke_fits b g s _))
+write_block_fits (b ∷ g ∷ s ∷ j ∷ text ∷ []) = bind_fits (number j) _ (λ block at. bind_fits (bytes_of_hex text) _ (λ bytes here. invoke_fits b g s _))
 write_block_fits (b ∷ g ∷ s ∷ j ∷ text ∷ more ∷ tokens) = tt
 
 read_block_fits : (tokens : List (List ℕ)) → OnLine (read_block tokens)
@@ -69,7 +69,7 @@ write_all_fits [] = tt
 write_all_fits (b ∷ []) = tt
 write_all_fits (b ∷ g ∷ []) = tt
 write_all_fits (b ∷ g ∷ s ∷ []) = tt
-write_all_fits (b ∷ g ∷ s ∷ text ∷ []) = bind_fits _ _ (λ bytes at. invoke_fits b g s _)
+write_all_fits (b ∷ g ∷ s ∷ text ∷ []) = bind_fits (bytes_of_hex text) _ (λ bytes at. invoke_fits b g s _)
 write_all_fits (b ∷ g ∷ s ∷ text ∷ more ∷ tokens) = tt
 
 read_all_fits : (tokens : List (List ℕ)) → OnLine (read_all tokens)
@@ -83,12 +83,12 @@ read_all_fits (b ∷ g ∷ s ∷ more ∷ tokens) = tt
 deliver_fits : (tokens : List (List ℕ)) → OnLine (deliver tokens)
 unfolding deliver
 deliver_fits [] = tt
-deliver_fits (k ∷ tokens) = bind_fits (number k) _ (λ message at. bind_fits _ _ (λ befalls here. tt))
+deliver_fits (k ∷ tokens) = bind_fits (number k) _ (λ message at. bind_fits (fault tokens) _ (λ befalls here. tt))
 
 start_fits : (tokens : List (List ℕ)) → OnLine (start tokens)
 unfolding start
 start_fits [] = tt
-start_fits (b ∷ tokens) = bind_fits (number b) _ (λ brick at. bind_fits _ _ (λ befalls here. tt))
+start_fits (b ∷ tokens) = bind_fits (number b) _ (λ brick at. bind_fits (fault tokens) _ (λ befalls here. tt))
 
 clock_fits : (tokens : List (List ℕ)) → OnLine (clock tokens)
 unfolding clock
@@ -110,7 +110,7 @@ unfolding calm
 calm_fits [] = tt
 calm_fits (n ∷ tokens) =
     cond_both (nat_lt 0 (length tokens) && nat_le (length tokens) 64) _ None (λ (o : Option Line). OnLine o)
-    (λ some. bind_fits (number n) _ (λ operation at. bind_fits _ _ (λ bricks here. tt))) (λ none. tt)
+    (λ some. bind_fits (number n) _ (λ operation at. bind_fits (numbers tokens) _ (λ bricks here. tt))) (λ none. tt)
 
 -- one reading or the other
 either : (b : Bool) (x y : Option Line) → OnLine x → OnLine y → OnLine (cond b x y)

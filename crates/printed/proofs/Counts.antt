@@ -19,14 +19,14 @@ use Rattle.protocol_laws.proofs.Lives.{ended_not_open}
 use Rattle.protocol_laws.proofs.MarkLists.{positions_rise}
 use Rattle.protocol_laws.proofs.RisingMarks.{NumbersRise, NumbersRise-increasing, increasing_numbers}
 use Rattle.protocol_laws.proofs.StripeLives.{numbers_from_one}
-use Rattle.printed.proofs.PrintedMarks.{is_end}
+use Rattle.printed.proofs.PrintedMarks.{is_end, count_yes, count_no}
 
 -- as many operations begin as there are Begins
 pub begins_are : (marks : List Mark) → length (begun_numbers marks) ≡ count_by is_begin marks
 begins_are [] = refl
-begins_are (Begin p n b ask ∷ marks) = let rest = begins_are marks in omega (arith, rest)
-begins_are (End p n answer ∷ marks) = let rest = begins_are marks in omega (arith, rest)
-begins_are (Crash p b ∷ marks) = let rest = begins_are marks in omega (arith, rest)
+begins_are (Begin p n b ask ∷ marks) = let rest = begins_are marks in omega (arith, rest, count_yes is_begin (Begin p n b ask) marks refl)
+begins_are (End p n answer ∷ marks) = let rest = begins_are marks in omega (arith, rest, count_no is_begin (End p n answer) marks refl)
+begins_are (Crash p b ∷ marks) = let rest = begins_are marks in omega (arith, rest, count_no is_begin (Crash p b) marks refl)
 
 -- each number that begins has a place among those that began
 pub begun_place : (marks : List Mark) (k p n : ℕ) (b : BrickId) (ask : Ask) → slice_get marks k ≡ Some (Begin p n b ask)
@@ -51,9 +51,9 @@ end_numbers (Crash p b ∷ marks) = end_numbers marks
 
 ends_are : (marks : List Mark) → length (end_numbers marks) ≡ count_by is_end marks
 ends_are [] = refl
-ends_are (Begin p n b ask ∷ marks) = let rest = ends_are marks in omega (arith, rest)
-ends_are (End p n answer ∷ marks) = let rest = ends_are marks in omega (arith, rest)
-ends_are (Crash p b ∷ marks) = let rest = ends_are marks in omega (arith, rest)
+ends_are (Begin p n b ask ∷ marks) = let rest = ends_are marks in omega (arith, rest, count_no is_end (Begin p n b ask) marks refl)
+ends_are (End p n answer ∷ marks) = let rest = ends_are marks in omega (arith, rest, count_yes is_end (End p n answer) marks refl)
+ends_are (Crash p b ∷ marks) = let rest = ends_are marks in omega (arith, rest, count_no is_end (Crash p b) marks refl)
 
 ends_both : (marks more : List Mark) → end_numbers (marks ++ more) ≡ end_numbers marks ++ end_numbers more
 ends_both [] more = refl
@@ -62,20 +62,22 @@ ends_both (End p n answer ∷ marks) more = ap (λ (l : List ℕ). n ∷ l) (end
 ends_both (Crash p b ∷ marks) more = ends_both marks more
 
 -- one of them has its End
-HasEnd : List Mark → ℕ → Type 0
+abbrev HasEnd : List Mark → ℕ → Type 0
 HasEnd marks n = (k : ℕ) × (p : ℕ) × (answer : Answer) × (slice_get marks k ≡ Some (End p n answer))
 
 later_end : (mark : Mark) (marks : List Mark) (n : ℕ) → HasEnd marks n → HasEnd (mark ∷ marks) n
 later_end mark marks n has = (suc has.0, has.1, has.2, has.3)
 
+end_here : (marks : List Mark) (p k n : ℕ) (answer : Answer) (more : Bool) → (more ≡ true → HasEnd marks n) → (b : Bool) → eqb n k ≡ b
+    → b || more ≡ true → HasEnd (End p k answer ∷ marks) n
+end_here marks p k n answer more then true same any = (0, p, answer, ap (λ (i : ℕ). Some (End p i answer)) (sym (eqb-true n k same)))
+end_here marks p k n answer more then false other any = later_end (End p k answer) marks n (then any)
+
 end_of_number : (marks : List Mark) (n : ℕ) → list_any (eqb n) (end_numbers marks) ≡ true → HasEnd marks n
 end_of_number [] n any = absurd (let never : false ≡ true = any in cc)
 end_of_number (Begin p k b ask ∷ marks) n any = later_end (Begin p k b ask) marks n (end_of_number marks n any)
-end_of_number (End p k answer ∷ marks) n any = by (eqb n k) refl any
-  where
-    by : (b : Bool) → eqb n k ≡ b → b || list_any (eqb n) (end_numbers marks) ≡ true → HasEnd (End p k answer ∷ marks) n
-    by true same any = (0, p, answer, ap (λ (i : ℕ). Some (End p i answer)) (sym (eqb-true n k same)))
-    by false other any = later_end (End p k answer) marks n (end_of_number marks n any)
+end_of_number (End p k answer ∷ marks) n any =
+    end_here marks p k n answer (list_any (eqb n) (end_numbers marks)) (end_of_number marks n) (eqb n k) refl any
 end_of_number (Crash p b ∷ marks) n any = later_end (Crash p b) marks n (end_of_number marks n any)
 
 -- the first marks
@@ -109,6 +111,10 @@ take_whole : (marks : List Mark) → take (length marks) marks ≡ marks
 take_whole [] = refl
 take_whole (m ∷ marks) = ap (λ (l : List Mark). m ∷ l) (take_whole marks)
 
+distinct_none : IsDistinct eqb []
+unfolding IsDistinct
+distinct_none = tt
+
 module _ (marks : List Mark) (well : IsWellFormed marks) (placed : (k : ℕ) (mark : Mark) → slice_get marks k ≡ Some mark → position_of mark ≡ k)
     (from_one : (n : ℕ) (life : Life) → life_of marks n ≡ Some life → 1 ≤ n) where
   well_taken : (k : ℕ) → IsWellFormed (take k marks)
@@ -124,10 +130,6 @@ module _ (marks : List Mark) (well : IsWellFormed marks) (placed : (k : ℕ) (ma
   -- no operation ends twice
   distinct_to : (k : ℕ) → k ≤ length marks → IsDistinct eqb (end_numbers (take k marks))
   distinct_to zero within = distinct_none
-    where
-      distinct_none : IsDistinct eqb []
-      unfolding IsDistinct
-      distinct_none = tt
   distinct_to (suc k) within =
       let at = there marks k (omega arith) in
       subst (λ (l : List Mark). IsDistinct eqb (end_numbers l)) (sym (take_next k marks at.0 at.1))

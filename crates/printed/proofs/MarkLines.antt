@@ -150,33 +150,31 @@ mark_line (Begin p n brick ask) =
 mark_line (End p n answer) = decimal p ++ (codes " end " ++ (decimal n ++ (codes " " ++ answer_line answer)))
 mark_line (Crash p brick) = decimal p ++ (codes " crash " ++ decimal brick.0)
 
--- a front before a line
-pub onto : (front text line end : List ℕ) → text ≡ line ++ end → front ++ text ≡ (front ++ line) ++ end
-onto front text line end is = ap (λ (l : List ℕ). front ++ l) is ∙ sym (append_assoc front line end)
-
 op_ends : (ask : Ask) (op : Op) → op_text ask op ≡ op_line ask op ++ newline
-op_ends ask (ReadBlock j) = onto _ _ _ _ (onto _ _ _ _ (onto _ _ _ _ (onto _ _ _ _ (onto _ _ _ _ refl))))
-op_ends ask (WriteBlock j bytes) = onto _ _ _ _ (onto _ _ _ _ (onto _ _ _ _ (onto _ _ _ _ (onto _ _ _ _ (onto _ _ _ _ (onto _ _ _ _ refl))))))
-op_ends ask ReadStripe = onto _ _ _ _ (onto _ _ _ _ (onto _ _ _ _ refl))
-op_ends ask (WriteStripe bytes) = onto _ _ _ _ (onto _ _ _ _ (onto _ _ _ _ (onto _ _ _ _ (onto _ _ _ _ refl))))
+op_ends ask (ReadBlock j) = simp append_assoc refl
+op_ends ask (WriteBlock j bytes) = simp append_assoc refl
+op_ends ask ReadStripe = simp append_assoc refl
+op_ends ask (WriteStripe bytes) = simp append_assoc refl
 
 cause_ends : (cause : Cause) → cause_text cause ≡ cause_line cause ++ newline
-cause_ends (Later brick stamp) = onto _ _ _ _ (onto _ _ _ _ (onto _ _ _ _ refl))
-cause_ends (Gone brick) = onto _ _ _ _ refl
-cause_ends (Full brick live) = onto _ _ _ _ (onto _ _ _ _ (onto _ _ _ _ refl))
-cause_ends (Moved brick view) = onto _ _ _ _ (onto _ _ _ _ (onto _ _ _ _ refl))
+cause_ends (Later brick stamp) = simp append_assoc refl
+cause_ends (Gone brick) = simp append_assoc refl
+cause_ends (Full brick live) = simp append_assoc refl
+cause_ends (Moved brick view) = simp append_assoc refl
 
 answer_ends : (answer : Answer) → answer_text answer ≡ answer_line answer ++ newline
-answer_ends (Data bytes) = onto _ _ _ _ refl
+answer_ends (Data bytes) = simp append_assoc refl
 answer_ends Done = refl
-answer_ends (Aborted cause) = onto _ _ _ _ (cause_ends cause)
+answer_ends (Aborted cause) = ap (λ (l : List ℕ). codes "aborted " ++ l) (cause_ends cause) ∙ simp append_assoc refl
 
 -- the printed text is the line and its line feed
 pub mark_ends : (mark : Mark) → mark_text mark ≡ mark_line mark ++ newline
 mark_ends (Begin p n brick ask) =
-    onto _ _ _ _ (onto _ _ _ _ (onto _ _ _ _ (onto _ _ _ _ (onto _ _ _ _ (onto _ _ _ _ (op_ends ask ask.op))))))
-mark_ends (End p n answer) = onto _ _ _ _ (onto _ _ _ _ (onto _ _ _ _ (onto _ _ _ _ (answer_ends answer))))
-mark_ends (Crash p brick) = onto _ _ _ _ (onto _ _ _ _ refl)
+    ap (λ (l : List ℕ). decimal p ++ (codes " begin " ++ (decimal n ++ (codes " " ++ (decimal brick.0 ++ (codes " " ++ l)))))) (op_ends ask ask.op)
+    ∙ simp append_assoc refl
+mark_ends (End p n answer) =
+    ap (λ (l : List ℕ). decimal p ++ (codes " end " ++ (decimal n ++ (codes " " ++ l)))) (answer_ends answer) ∙ simp append_assoc refl
+mark_ends (Crash p brick) = simp append_assoc refl
 
 -- it is one line, and no longer than a line may be
 

@@ -1,5 +1,5 @@
 -- The other printed lines read back: refusals, `idle`, the happenings of a stripe and the counts.
-use Rattle.std.proofs.Common.{◌≡◌, ℕ, suc, ◌+◌, ◌*◌, ◌<◌, ◌≤◌, ◌^◌, ◌==◌, not, Bool, true, false, cond, List, [], ◌∷◌, ◌++◌, length, map, Option, Some, None, refl, sym, ap, ◌∙◌, arith, codes, append-nil}
+use Rattle.std.proofs.Common.{◌≡◌, ℕ, suc, ◌+◌, ◌*◌, ◌<◌, ◌≤◌, ◌^◌, ◌==◌, not, Bool, true, false, cond, List, [], ◌∷◌, ◌++◌, length, map, Option, Some, None, refl, sym, ap, ◌∙◌, arith, codes, append-nil, append_assoc}
 use Rattle.std.specs.Prelude.{⊤}
 use Rattle.std.specs.List.{list_all, slice_split}
 use Rattle.std.specs.Fmt.{decimal}
@@ -16,7 +16,7 @@ use Rattle.transcript.specs.Words.{or_else, is_refusal, is_view, is_sync, is_scr
 use Rattle.world.specs.Texts.{newline, refusal_text, idle_text}
 use Rattle.printed.specs.Outputs.{happening_text, happenings_text, happened_text}
 use Rattle.printed.proofs.Tokens.{is_clear, bind_some, or_some, or_none, IsPiece, piece_both, piece_most, all_both, digits_piece, digits_few, digits_no_space, plain_back, before_back, behind_front, split_first, split_alone}
-use Rattle.printed.proofs.MarkLines.{IsSmall, onto, literal, entry_short}
+use Rattle.printed.proofs.MarkLines.{IsSmall, literal, entry_short}
 
 -- why an operation was not begun, on a line without its line feed
 abbrev pub refusal_line : Refusal → List ℕ
@@ -88,15 +88,12 @@ happened_line g s h happenings =
 
 more_end : (happenings : List Happening) → happenings_text happenings ≡ more_tokens happenings ++ newline
 more_end [] = refl
-more_end (h ∷ happenings) = one (happenings_text happenings) (more_tokens happenings) (more_end happenings)
-  where
-    one : (text line : List ℕ) → text ≡ line ++ newline → happening_text h ++ text ≡ (codes " " ++ (happening_token h ++ line)) ++ newline
-    one text line is = onto (happening_text h) text line newline is
+more_end (h ∷ happenings) = ap (λ (l : List ℕ). happening_text h ++ l) (more_end happenings) ∙ simp append_assoc refl
 
 pub happened_ends : (g s : ℕ) (h : Happening) (happenings : List Happening)
     → happened_text g s (h ∷ happenings) ≡ happened_line g s h happenings ++ newline
 happened_ends g s h happenings =
-    onto (codes "happened ") _ _ _ (onto (decimal g) _ _ _ (onto (codes " ") _ _ _ (onto (decimal s) _ _ _ (more_end (h ∷ happenings)))))
+    ap (λ (l : List ℕ). codes "happened " ++ (decimal g ++ (codes " " ++ (decimal s ++ l)))) (more_end (h ∷ happenings)) ∙ simp append_assoc refl
 
 small_number : (n : ℕ) → n < 10 ^ 7 → IsSmall n
 small_number n few = omega arith
@@ -174,7 +171,11 @@ happened_word rest = refl
 
 happened_form : (rest : List ℕ) → form (codes "happened " ++ rest) ≡ happened_of rest
 unfolding form
-happened_form rest = ap (λ (b : Bool). cond b (Some Other) _) (happened_word rest) ∙ or_some _ _ _ _ (behind_front (codes "happened ") rest)
+happened_form rest =
+    let text : List ℕ = codes "happened " ++ rest in
+    let later : Option Entry = or_else (behind (codes "count ") (codes "happened " ++ rest)) counts_of (mark_of_line (codes "happened " ++ rest)) in
+    ap (λ (b : Bool). cond b (Some Other) (or_else (behind (codes "happened ") text) happened_of later)) (happened_word rest)
+    ∙ or_some (behind (codes "happened ") text) rest happened_of later (behind_front (codes "happened ") rest)
 
 -- The line of a stripe's happenings says these.
 pub happened_back : (g s : ℕ) (h : Happening) (happenings : List Happening) → IsSmall g → IsSmall s → HappeningReads h → AllRead happenings
@@ -232,8 +233,11 @@ count_not_happened rest = refl
 count_form : (rest : List ℕ) → form (codes "count " ++ rest) ≡ counts_of rest
 unfolding form
 count_form rest =
-    ap (λ (b : Bool). cond b (Some Other) _) (count_word rest) ∙ or_none _ _ _ (count_not_happened rest)
-    ∙ or_some _ _ _ _ (behind_front (codes "count ") rest)
+    let text : List ℕ = codes "count " ++ rest in
+    let later : Option Entry = or_else (behind (codes "count ") (codes "count " ++ rest)) counts_of (mark_of_line (codes "count " ++ rest)) in
+    ap (λ (b : Bool). cond b (Some Other) (or_else (behind (codes "happened ") text) happened_of later)) (count_word rest)
+    ∙ or_none (behind (codes "happened ") text) happened_of later (count_not_happened rest)
+    ∙ or_some (behind (codes "count ") text) rest counts_of (mark_of_line text) (behind_front (codes "count ") rest)
 
 -- The line of the counts says these.
 pub counts_back : (lines : ℕ) (counts : Counts) → IsSmall lines → CountsRead counts → entry_of (counts_line lines counts) ≡ Some (Counted counts)

@@ -1,5 +1,6 @@
 -- The marks among the printed lines are those of the world that the lines of the schedule leave, and how many lines there are.
 use Rattle.std.proofs.Common.{◌≡◌, ℕ, suc, ◌+◌, ◌≤◌, inl, inr, Bool, true, false, cond, not, ◌&&◌, if◌then◌else◌, List, [], ◌∷◌, ◌++◌, length, drop, map, count_by, Option, Some, None, is_some, refl, sym, ap, subst, ◌∙◌, append_assoc, append-nil, arith}
+use Rattle.std.proofs.lemmas.List.Sums.{sum_by-cons}
 use Rattle.std.proofs.lemmas.Option.{same_Some}
 use Rattle.fab_base.specs.declared.identities.BrickId.{BrickId}
 use Rattle.fab_base.specs.declared.answers.Refusal.{Refusal}
@@ -64,21 +65,36 @@ others_both : (one other : List Printed) → others (one ++ other) ≡ others on
 others_both [] other = omega arith
 others_both (line ∷ one) other = let rest = others_both one other in omega (arith, rest)
 
+-- a mark more is counted, or is not
+pub count_yes : (p : Mark → Bool) (one : Mark) (marks : List Mark) → p one ≡ true → count_by p (one ∷ marks) ≡ 1 + count_by p marks
+count_yes p one marks is = sum_by-cons (λ (x : Mark). cond (p x) 1 0) one marks ∙ ap (λ (b : Bool). cond b 1 0 + count_by p marks) is
+
+pub count_no : (p : Mark → Bool) (one : Mark) (marks : List Mark) → p one ≡ false → count_by p (one ∷ marks) ≡ count_by p marks
+count_no p one marks isnt =
+    sum_by-cons (λ (x : Mark). cond (p x) 1 0) one marks ∙ ap (λ (b : Bool). cond b 1 0 + count_by p marks) isnt
+    ∙ (let none : 0 + count_by p marks ≡ count_by p marks = omega arith in none)
+
 -- a line is an End or another line
 pub lines_are : (printed : List Printed) → length printed ≡ others printed + count_by is_end (printed_marks printed)
 lines_are [] = refl
-lines_are (OfMark (mark.Begin p n b ask) ∷ printed) = let rest = lines_are printed in omega (arith, rest)
-lines_are (OfMark (mark.End p n answer) ∷ printed) = let rest = lines_are printed in omega (arith, rest)
-lines_are (OfMark (mark.Crash p b) ∷ printed) = let rest = lines_are printed in omega (arith, rest)
+lines_are (OfMark (mark.Begin p n b ask) ∷ printed) =
+    let rest = lines_are printed in omega (arith, rest, count_no is_end (mark.Begin p n b ask) (printed_marks printed) refl)
+lines_are (OfMark (mark.End p n answer) ∷ printed) =
+    let rest = lines_are printed in omega (arith, rest, count_yes is_end (mark.End p n answer) (printed_marks printed) refl)
+lines_are (OfMark (mark.Crash p b) ∷ printed) =
+    let rest = lines_are printed in omega (arith, rest, count_no is_end (mark.Crash p b) (printed_marks printed) refl)
 lines_are (OfRefusal refusal ∷ printed) = let rest = lines_are printed in omega (arith, rest)
 lines_are (OfNothing ∷ printed) = let rest = lines_are printed in omega (arith, rest)
 
 -- no Begin is an End
 pub begins_among : (printed : List Printed) → count_by is_begin (printed_marks printed) ≤ others printed
 begins_among [] = omega arith
-begins_among (OfMark (mark.Begin p n b ask) ∷ printed) = let rest = begins_among printed in omega (arith, rest)
-begins_among (OfMark (mark.End p n answer) ∷ printed) = let rest = begins_among printed in omega (arith, rest)
-begins_among (OfMark (mark.Crash p b) ∷ printed) = let rest = begins_among printed in omega (arith, rest)
+begins_among (OfMark (mark.Begin p n b ask) ∷ printed) =
+    let rest = begins_among printed in omega (arith, rest, count_yes is_begin (mark.Begin p n b ask) (printed_marks printed) refl)
+begins_among (OfMark (mark.End p n answer) ∷ printed) =
+    let rest = begins_among printed in omega (arith, rest, count_no is_begin (mark.End p n answer) (printed_marks printed) refl)
+begins_among (OfMark (mark.Crash p b) ∷ printed) =
+    let rest = begins_among printed in omega (arith, rest, count_no is_begin (mark.Crash p b) (printed_marks printed) refl)
 begins_among (OfRefusal refusal ∷ printed) = let rest = begins_among printed in omega (arith, rest)
 begins_among (OfNothing ∷ printed) = let rest = begins_among printed in omega (arith, rest)
 

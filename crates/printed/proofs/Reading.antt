@@ -203,11 +203,11 @@ pub stripe_read : (g s : ℕ) (happenings : List Happening) (n : ℕ) (claims : 
 stripe_read g s [] n claims lines few reads before more =
     ap (λ (k : ℕ). text_behind k (of_stripes claims lines) more) (let same : n ≡ n + 0 = omega arith in same)
     ∙ ap (λ (l : List StripeLine). text_behind (n + 0) (of_stripes claims l) more) (sym (append-nil lines))
-stripe_read g s (h ∷ happenings) n claims lines few reads before =
+stripe_read g s (h ∷ happenings) n claims lines few reads before more =
     reads_one n (of_stripes claims lines) (of_stripes claims (lines ++ record { group = g; stripe = s; happenings = h ∷ happenings } ∷ []))
     (happened_line g s h happenings) (entry.Happened (record { group = g; stripe = s; happenings = h ∷ happenings })) (omega (arith, few))
     (happened_back g s h happenings reads.group reads.stripe reads.each.0 reads.each.1 (let short = reads.few in omega arith))
-    (stripe_after claims lines (record { group = g; stripe = s; happenings = h ∷ happenings }) before)
+    (stripe_after claims lines (record { group = g; stripe = s; happenings = h ∷ happenings }) before) more
 
 -- counts
 

@@ -19,6 +19,7 @@ use Rattle.reg_model.specs.declared.marks.Mark.{Mark}
 use Rattle.reg_model.specs.declared.marks.Mark.TheVariants.{Begin, End, Crash}
 use Rattle.reg_model.specs.Marks.{Life, life_of, begun_numbers, position_of, stripe_marks}
 use Rattle.reg_model.specs.Strict.{IsStrict}
+use Rattle.protocol.specs.Views.{layout_views}
 use Rattle.protocol.specs.Worlds.{World, Event, first_world, run}
 use Rattle.protocol.specs.Happenings.{happenings_of}
 use Rattle.protocol_laws.specs.Laws.{Laws}
@@ -46,7 +47,7 @@ use Rattle.printed.specs.Sound.{IsSoundText}
 use Rattle.printed.proofs.Clocks.{EventsFit, steps_fit}
 use Rattle.printed.proofs.Counts.{begins_are, begun_place, ends_few}
 use Rattle.printed.proofs.LineTexts.{text_of_lines, lines_both, one_line_text, AreClear, clear_all, lines_back}
-use Rattle.printed.proofs.MarkLines.{IsSmall, claim_of, claimed, MarkReads, onto}
+use Rattle.printed.proofs.MarkLines.{IsSmall, claim_of, claimed, MarkReads}
 use Rattle.printed.proofs.MarksSound as marking
 use Rattle.printed.proofs.OtherLines.{counts_line, counts_piece, CountsRead}
 use Rattle.printed.proofs.PrintedMarks.{is_end, others, lines_are, begins_among, marks_among_lines, IsPrintedAs, steps_printed}
@@ -73,9 +74,7 @@ counts_end_text : (lines : ℕ) (marks : List Mark)
     ≡ counts_line lines (record { begun = count_by is_begin marks; answered = count_by is_answered marks; aborted = count_by is_aborted marks; crashes = count_by is_crash marks })
     ++ newline
 counts_end_text lines marks =
-    onto (codes "count lines ") _ _ _ (onto (decimal lines) _ _ _ (onto (codes " begun ") _ _ _ (onto (decimal (count_by is_begin marks)) _ _ _
-    (onto (codes " answered ") _ _ _ (onto (decimal (count_by is_answered marks)) _ _ _ (onto (codes " aborted ") _ _ _
-    (onto (decimal (count_by is_aborted marks)) _ _ _ (onto (codes " crashes ") _ _ _ refl))))))))
+    simp append_assoc refl
 
 module _ (layout : Layout) (is : IsLayout layout) (schedule : List (List ℕ)) (steps : List Step) (are : AreStepsOf layout schedule steps)
     (few : length steps ≤ out.most_lines) where
@@ -102,7 +101,7 @@ module _ (layout : Layout) (is : IsLayout layout) (schedule : List (List ℕ)) (
       (subst (λ (l : Layout). IsPrintedAs (world_of are.first) (run (coding l) (all_events steps) (world_of are.first))
       (steps_text (coding l) (world_of are.first) steps) (length steps)) first_layout (steps_printed are.first are.last steps are.leads))
 
-  laws : Laws (coding layout) _ (left_by layout steps)
+  laws : Laws (coding layout) (layout_views layout) (left_by layout steps)
   laws = marking.laws layout is (all_events steps) timely
 
   marks_are : printed_marks printed.printed ≡ (left_by layout steps).marks
@@ -196,7 +195,7 @@ module _ (layout : Layout) (is : IsLayout layout) (schedule : List (List ℕ)) (
       stripes_same h (suc s) = ap (λ (l : List ℕ). l ++ happened_text h s (happenings_of (left_by layout steps) h s)) (stripes_same h s)
 
   -- the counts
-  counts : Counts
+  abbrev counts : Counts
   counts = record {
     begun = count_by is_begin (left_by layout steps).marks;
     answered = count_by is_answered (left_by layout steps).marks;

@@ -1,5 +1,5 @@
 -- Each stamp that a run makes, keeps or sends has a spelling, and each message is of a brick of the layout.
-use Rattle.std.proofs.Common.{◌≡◌, ◌≢◌, ℕ, zero, suc, ◌+◌, ◌-◌, ◌<◌, ◌≤◌, ◌^◌, ◌⊎◌, inl, inr, ⊎_elim, Bool, true, false, not, cond, nat_lt, nat_eq, ◌&&◌, List, [], ◌∷◌, ◌++◌, length, max, Option, Some, None, is_some, refl, sym, ap, ◌∙◌, subst, arith}
+use Rattle.std.proofs.Common.{◌≡◌, ◌≢◌, ℕ, zero, suc, ◌+◌, ◌-◌, ◌<◌, ◌≤◌, ◌^◌, ◌⊎◌, inl, inr, ⊎_elim, Bool, true, false, not, cond, nat_lt, nat_eq, ◌&&◌, ◌||◌, List, [], ◌∷◌, ◌++◌, length, max, Option, Some, None, is_some, refl, sym, ap, ◌∙◌, subst, arith}
 use Rattle.std.specs.Prelude.{⊤, slice_get}
 use Rattle.std.proofs.lemmas.Bool.{and_parts, cond_both, cases_eq, ltb-true}
 use Rattle.std.proofs.lemmas.Bool.Decides.{nat_tests}
@@ -577,7 +577,7 @@ delivered_fits setting w number (Some packet) few fits is =
 
 -- a brick that stops
 
-LeftFits : Node → Node → Type 0
+abbrev LeftFits : Node → Node → Type 0
 LeftFits node after = NodeFits after × (after.boot ≡ node.boot)
 
 left_fits : (setting : Setting) (w : World) (brick : BrickId) (packet : Option Packet) → WorldFits setting w → brick.0 < setting.layout.bricks

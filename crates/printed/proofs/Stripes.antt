@@ -27,6 +27,7 @@ use Rattle.printed.specs.Outputs.{happened_text, stripes_of}
 use Rattle.printed.proofs.LineTexts.{text_of_lines, lines_both, one_line_text, AreClear, clear_all}
 use Rattle.printed.proofs.MarkLines.{IsSmall}
 use Rattle.printed.proofs.OtherLines.{HappeningReads, AllRead, happened_line, happened_ends}
+use Rattle.printed.proofs.PrintedMarks.{count_yes, count_no}
 use Rattle.printed.proofs.Reading.{Reads, reads_both, of_stripes, AreBefore, before_both, before_stripe, before_group, stripe_lines, stripe_contents, StripeReads, stripe_clear, stripe_read}
 use Rattle.world.specs.Texts.{newline}
 
@@ -60,7 +61,7 @@ ending_low (Crash p b ∷ marks) n brick past most le below =
     cond_both (nat_eq b.0 brick) (Interrupted p) (ending_of marks n brick (p + 1)) (λ (e : Ending). end_of e ≤ most)
     (λ its. let low = below.0 in omega arith) (λ other. ending_low marks n brick (p + 1) most (let low = below.0 in omega arith) below.1)
 
-LowLife : ℕ → Option Life → Type 0
+abbrev LowLife : ℕ → Option Life → Type 0
 LowLife most None = ⊤
 LowLife most (Some life) = end_of life.ending ≤ most
 
@@ -74,7 +75,7 @@ life_low (End p k answer ∷ marks) n most below = life_low marks n most below.1
 life_low (Crash p b ∷ marks) n most below = life_low marks n most below.1
 
 -- an operation that lives has its Begin
-HasBegin : List Mark → ℕ → Type 0
+abbrev HasBegin : List Mark → ℕ → Type 0
 HasBegin marks n = (k : ℕ) × (p : ℕ) × (b : BrickId) × (ask : Ask) × (slice_get marks k ≡ Some (Begin p n b ask))
 
 later_begin : (mark : Mark) (marks : List Mark) (n : ℕ) → HasBegin marks n → HasBegin (mark ∷ marks) n
@@ -97,35 +98,30 @@ is_before g s (Begin p n b ask) = nat_lt ask.group.0 g || (nat_eq ask.group.0 g 
 is_before g s (End p n answer) = false
 is_before g s (Crash p b) = false
 
-pub count_less : (p q : Mark → Bool) (marks : List Mark) → ((mark : Mark) → p mark ≡ true → q mark ≡ true) → count_by p marks ≤ count_by q marks
+-- one mark more
+less_step : (p q : Mark → Bool) (mark : Mark) (marks : List Mark) (k : ℕ) (a b : Bool) → p mark ≡ a → q mark ≡ b → (a ≡ true → b ≡ true)
+    → count_by p marks + k ≤ count_by q marks → count_by p (mark ∷ marks) + k ≤ count_by q (mark ∷ marks)
+less_step p q mark marks k true true first second then rest =
+    omega (arith, rest, count_yes p mark marks first, count_yes q mark marks second)
+less_step p q mark marks k true false first second then rest = absurd (let never : false ≡ true = then refl in cc)
+less_step p q mark marks k false true first second then rest =
+    omega (arith, rest, count_no p mark marks first, count_yes q mark marks second)
+less_step p q mark marks k false false first second then rest =
+    omega (arith, rest, count_no p mark marks first, count_no q mark marks second)
+
+pub count_less : (p q : Mark → Bool) (marks : List Mark) → ((mark : Mark) → p mark ≡ true → q mark ≡ true) → count_by p marks + 0 ≤ count_by q marks
 count_less p q [] then = omega arith
-count_less p q (mark ∷ marks) then = by (p mark) (q mark) refl refl (count_less p q marks then)
-  where
-    by : (a b : Bool) → p mark ≡ a → q mark ≡ b → count_by p marks ≤ count_by q marks
-        → count_by p (mark ∷ marks) ≤ count_by q (mark ∷ marks)
-    by true true first second rest = rw (first, second) (omega (arith, rest))
-    by true false first second rest = absurd (let never : false ≡ true = sym second ∙ then mark first in cc)
-    by false true first second rest = rw (first, second) (omega (arith, rest))
-    by false false first second rest = rw (first, second) rest
+count_less p q (mark ∷ marks) then = less_step p q mark marks 0 (p mark) (q mark) refl refl (then mark) (count_less p q marks then)
 
 count_more : (p q : Mark → Bool) (marks : List Mark) → ((mark : Mark) → p mark ≡ true → q mark ≡ true) → (k : ℕ) (one : Mark)
     → slice_get marks k ≡ Some one → p one ≡ false → q one ≡ true → count_by p marks + 1 ≤ count_by q marks
 count_more p q [] then k one at first second = absurd (let never : None ≡ Some one = at in cc)
 count_more p q (mark ∷ marks) then zero one at first second =
     let same : mark ≡ one = same_Some mark one at in
-    let low : p mark ≡ false = ap p same ∙ first in
-    let high : q mark ≡ true = ap q same ∙ second in
     let rest = count_less p q marks then in
-    rw (low, high) (omega (arith, rest))
+    omega (arith, rest, count_no p mark marks (ap p same ∙ first), count_yes q mark marks (ap q same ∙ second))
 count_more p q (mark ∷ marks) then (suc k) one at first second =
-    by (p mark) (q mark) refl refl (count_more p q marks then k one at first second)
-  where
-    by : (a b : Bool) → p mark ≡ a → q mark ≡ b → count_by p marks + 1 ≤ count_by q marks
-        → count_by p (mark ∷ marks) + 1 ≤ count_by q (mark ∷ marks)
-    by true true one' two rest = rw (one', two) (omega (arith, rest))
-    by true false one' two rest = absurd (let never : false ≡ true = sym two ∙ then mark one' in cc)
-    by false true one' two rest = rw (one', two) (omega (arith, rest))
-    by false false one' two rest = rw (one', two) rest
+    less_step p q mark marks 1 (p mark) (q mark) refl refl (then mark) (count_more p q marks then k one at first second)
 
 next_stripe : (g s : ℕ) (mark : Mark) → is_before g s mark ≡ true → is_before g (s + 1) mark ≡ true
 next_stripe g s (Begin p n b ask) is = grind (arith, nat_tests)
@@ -219,22 +215,21 @@ module _ (layout : Layout) (marks : List Mark) (of : ℕ → ℕ → List Happen
           let late = in'.1 in
           record { operation = omega (arith, number); position = omega (arith, late, low) }
 
+  numbers_step : (q n : ℕ) (more : Bool) → n ≤ 1500000 → (more ≡ true → q < 1500001) → (b : Bool) → eqb q n ≡ b → b || more ≡ true → q < 1500001
+  numbers_step q n more low then true same any = let number = eqb-true q n same in omega (arith, number, low)
+  numbers_step q n more low then false other any = then any
+
   numbers_low : (g s : ℕ) (happenings : List Happening)
       → All (λ (h : Happening). IsInTime (life_of (stripe_marks g s marks) h.operation) h.position) happenings
       → (q : ℕ) → list_any (eqb q) (map (λ (h : Happening). h.operation) happenings) ≡ true → q < 1500001
   numbers_low g s [] all q any = absurd (let never : false ≡ true = any in cc)
-  numbers_low g s (h ∷ happenings) all q any = by (eqb q h.operation) refl any
-    where
-      first : h.operation ≤ 1500000
-      first =
-          in_time_low g s h (life_of (stripe_marks g s marks) h.operation) refl
-          (All-head (λ (x : Happening). IsInTime (life_of (stripe_marks g s marks) x.operation) x.position) h happenings all)
-
-      by : (b : Bool) → eqb q h.operation ≡ b → b || list_any (eqb q) (map (λ (x : Happening). x.operation) happenings) ≡ true → q < 1500001
-      by true same any = let number = eqb-true q h.operation same in omega (arith, number, first)
-      by false other any =
-          numbers_low g s happenings
-          (All-tail (λ (x : Happening). IsInTime (life_of (stripe_marks g s marks) x.operation) x.position) h happenings all) q any
+  numbers_low g s (h ∷ happenings) all q any =
+      numbers_step q h.operation (list_any (eqb q) (map (λ (x : Happening). x.operation) happenings))
+      (in_time_low g s h (life_of (stripe_marks g s marks) h.operation) refl
+      (All-head (λ (x : Happening). IsInTime (life_of (stripe_marks g s marks) x.operation) x.position) h happenings all))
+      (numbers_low g s happenings
+      (All-tail (λ (x : Happening). IsInTime (life_of (stripe_marks g s marks) x.operation) x.position) h happenings all) q)
+      (eqb q h.operation) refl any
 
   -- the happenings of a stripe read back
   reads_stripe : (g s : ℕ) (group : Group) → group_of layout g ≡ Some group → s < group.stripes → StripeReads g s (of g s)
