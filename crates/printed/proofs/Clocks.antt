@@ -1,5 +1,5 @@
 -- The times that a schedule sets clocks to have a spelling.
-use Rattle.std.proofs.Common.{◌≡◌, ℕ, ◌<◌, ◌≤◌, ◌^◌, Bool, true, false, cond, nat_lt, nat_le, nat_eq, ◌&&◌, List, [], ◌∷◌, ◌++◌, length, map, Option, Some, None, inl, inr, refl, sym, ap, ◌∙◌, subst, arith, codes}
+use Rattle.std.proofs.Common.{◌≡◌, ℕ, Bool, true, false, cond, nat_lt, nat_le, nat_eq, ◌&&◌, List, [], ◌∷◌, ◌++◌, length, map, Option, Some, None, inl, inr, refl, sym, subst, arith, codes}
 use Rattle.std.specs.Prelude.{⊤}
 use Rattle.std.specs.List.{starts_with}
 use Rattle.std.specs.Option.{option_map}
@@ -12,10 +12,10 @@ use Rattle.lines.specs.declared.forms.Access.{Access}
 use Rattle.lines.specs.declared.forms.Line.{Line}
 use Rattle.lines.specs.declared.forms.Line.TheVariants.{Nothing, Invoke, Deliver, SetClock, Tick, Crash, Start, Calm}
 use Rattle.lines.specs.Grammar.{◌>>=◌, invoke, write_block, read_block, write_all, read_all, deliver, clock, one_brick, start, fault, numbers, calm, form, line_of_tokens, line_of}
-use Rattle.lines.specs.Tokens.{tokens, number, is_number, bytes_of_hex}
+use Rattle.lines.specs.Tokens.{tokens, number, bytes_of_hex}
 use Rattle.protocol.specs.Calms.{RunsAlone, Ended, Stuck, Next}
 use Rattle.protocol.specs.Settings.{Setting}
-use Rattle.protocol.specs.Worlds.{World, Event, Invokes, Delivers, Sets, Ticks, Stops, Starts}
+use Rattle.protocol.specs.Worlds.{World, Event, Sets}
 use Rattle.fab_base.specs.declared.identities.BrickId.{BrickId}
 use Rattle.world.specs.Faults.{IsEventsOf}
 use Rattle.world.specs.Runs.{Run, Step, all_events}

@@ -1,5 +1,5 @@
 -- The printed line of a mark reads back as that mark.
-use Rattle.std.proofs.Common.{◌≡◌, ℕ, ◌+◌, ◌*◌, ◌<◌, ◌≤◌, ◌^◌, Bool, true, false, cond, nat_lt, nat_le, nat_eq, List, [], ◌∷◌, ◌++◌, length, Option, Some, None, refl, sym, ap, ◌∙◌, subst, arith, codes, append_assoc}
+use Rattle.std.proofs.Common.{◌≡◌, ℕ, ◌*◌, ◌<◌, ◌≤◌, ◌^◌, Bool, true, false, cond, nat_le, nat_eq, List, ◌∷◌, ◌++◌, length, Some, None, refl, sym, ap, ◌∙◌, arith, codes, append_assoc}
 use Rattle.std.specs.Prelude.{⊤}
 use Rattle.std.specs.List.{list_all}
 use Rattle.std.specs.Str.{bytes_eq}
@@ -21,17 +21,15 @@ use Rattle.reg_model.specs.declared.marks.Mark.{Mark}
 use Rattle.reg_model.specs.declared.marks.Mark.TheVariants.{Begin, End, Crash}
 use Rattle.transcript.specs.declared.claims.Claim.{Claim}
 use Rattle.transcript.specs.declared.claims.Claim.TheVariants as claim
-use Rattle.transcript.specs.declared.claims.ClaimedStamp.{ClaimedStamp}
 use Rattle.transcript.specs.declared.claims.Outcome.{Outcome}
 use Rattle.transcript.specs.declared.claims.Outcome.TheVariants as outcome
 use Rattle.transcript.specs.declared.claims.Reason.{Reason}
 use Rattle.transcript.specs.declared.claims.Reason.TheVariants as reason
-use Rattle.transcript.specs.declared.claims.Entry.{Entry}
 use Rattle.transcript.specs.declared.claims.Entry.TheVariants as entry
 use Rattle.transcript.specs.Forms.{begins, ends, read_of, write_of, read_all_of, write_all_of, ask_of, begin_of, data_of, aborted_of, answer_of, end_of, crash_of, mark_at, mark_of_line, happened_of, counts_of, form, entry_of, most_line_bytes}
 use Rattle.transcript.specs.Marks.{op_of, mark_of}
-use Rattle.transcript.specs.Tokens.{behind, plain_number, lower_hex, number_before}
-use Rattle.transcript.specs.Words.{or_else, stamp_of, later_of, gone_of, full_of, moved_of, cause_of, is_refusal, is_view, is_sync, is_scrub, is_word}
+use Rattle.transcript.specs.Tokens.{behind}
+use Rattle.transcript.specs.Words.{or_else, stamp_of, later_of, gone_of, full_of, moved_of, cause_of, is_word}
 use Rattle.world.specs.Texts.{newline, place_text, op_text, cause_text, answer_text, mark_text}
 use Rattle.printed.proofs.Tokens.{is_clear, bind_some, or_some, or_none, IsPiece, piece_both, piece_most, digits_piece, BeginsDigit, begins_digit, plain_back, before_back, behind_front, behind_other, hex_piece, hex_back}
 

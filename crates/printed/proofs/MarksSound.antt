@@ -1,8 +1,7 @@
 -- The marks of a run hold under its layout, and each has a spelling.
-use Rattle.std.proofs.Common.{◌≡◌, ℕ, zero, suc, ◌+◌, ◌*◌, ◌<◌, ◌≤◌, ◌^◌, Bool, true, false, cond, nat_lt, nat_eq, ◌&&◌, List, [], ◌∷◌, ◌++◌, length, take, drop, replicate, Option, Some, None, refl, sym, ap, ◌∙◌, subst, arith, take-append-drop, inl, inr, ◌⊎◌}
-use Rattle.std.specs.Prelude.{⊤, slice_get, slice_index}
-use Rattle.std.specs.List.{list_all}
-use Rattle.std.proofs.lemmas.Bool.{and_parts, ltb-true, eqb-true, false≢true}
+use Rattle.std.proofs.Common.{◌≡◌, ℕ, zero, suc, ◌*◌, ◌<◌, ◌≤◌, Bool, true, nat_lt, nat_eq, ◌&&◌, List, [], ◌∷◌, length, take, drop, replicate, Option, Some, None, refl, sym, ap, ◌∙◌, subst, arith, take-append-drop, inl, inr}
+use Rattle.std.specs.Prelude.{slice_get, slice_index}
+use Rattle.std.proofs.lemmas.Bool.{and_parts, ltb-true, eqb-true}
 use Rattle.std.proofs.lemmas.Option.{same_Some, slice_get_within}
 use Rattle.fab_base.specs.declared.identities.BrickId.{BrickId}
 use Rattle.fab_base.specs.declared.stamps.Stamp.{Stamp}
@@ -14,32 +13,29 @@ use Rattle.fab_base.specs.declared.answers.Answer.TheVariants.{Data, Done, Abort
 use Rattle.fab_base.specs.declared.answers.Cause.{Cause}
 use Rattle.fab_base.specs.declared.answers.Cause.TheVariants.{Later, Gone, Full, Moved}
 use Rattle.fab_base.specs.Layouts.{Layout, Group, group_of}
-use Rattle.hex.specs.Hex.{IsBytes}
 use Rattle.layout.specs.Limits.{IsGroup, IsLayout}
 use Rattle.stripe_code.specs.Codes.{coding}
 use Rattle.stripe_code.proofs.Soundness.{coding_is_sound}
 use Rattle.reg_model.specs.declared.marks.Mark.{Mark}
 use Rattle.reg_model.specs.declared.marks.Mark.TheVariants.{Begin, End, Crash}
-use Rattle.reg_model.specs.Marks.{Life, life_of, IsOpen, position_of, IsWellFormed}
-use Rattle.reg_model.specs.Registers.{zero_registers, block_of, read_of}
+use Rattle.reg_model.specs.Marks.{Life, life_of, IsOpen}
+use Rattle.reg_model.specs.Registers.{block_of, read_of}
 use Rattle.reg_model.specs.Strict.{OpFits}
 use Rattle.protocol.specs.Settings.{Setting, are_bytes}
 use Rattle.protocol.specs.Nodes.{has_block, has_length}
 use Rattle.protocol.specs.Views.{layout_views}
 use Rattle.protocol.specs.Worlds.{World, Operation, Event, zero_content, first_world, run}
-use Rattle.protocol_laws.specs.Laws.{Laws, Evidence, WasSent}
+use Rattle.protocol_laws.specs.Laws.{Laws, Evidence}
 use Rattle.protocol_laws.specs.Marked as law
-use Rattle.protocol_laws.proofs.Books.{Books, IsOperation}
 use Rattle.protocol_laws.proofs.BooksEvents as books
 use Rattle.protocol_laws.proofs.EveryRun.{every_layout_run}
 use Rattle.protocol_laws.proofs.Lives.{life_of-append, life_onward}
-use Rattle.protocol_laws.proofs.Said.{Stamping, Said, IsMadeOrFirst, EndShows}
+use Rattle.protocol_laws.proofs.Said.{Stamping, Said, IsMadeOrFirst}
 use Rattle.protocol_laws.proofs.SaidAlways.{always_said}
 use Rattle.audit.specs.Checks.{GroupFits, BeginFits, WordFits, AnswerFits, MarksHold}
 use Rattle.printed.proofs.Clocks.{EventsFit}
 use Rattle.printed.proofs.MarkLines.{IsSmall, IsTold, OpReads, AskReads, CauseReads, AnswerReads, MarkReads, most_told}
-use Rattle.printed.proofs.Reading.{EachReads, EachPlaced}
-use Rattle.printed.proofs.Stamped.{WorldFits, PacketFits, run_fits, first_world_fits}
+use Rattle.printed.proofs.Stamped.{WorldFits, run_fits, first_world_fits}
 use Rattle.printed.proofs.Standing.{MarkStands, AllStand, run_stands}
 
 -- bytes, by a test
@@ -125,9 +121,11 @@ module _ (layout : Layout) (is : IsLayout layout) where
   group_fits found group s op here within fits = subst (λ (z : Option Group). GroupFits z layout.block s op) (sym here) (within, fits)
 
   begin_fits : (mark : Mark) → MarkStands (coding layout) mark → BeginFits layout mark
-  begin_fits (Begin p n b ask) stands =
-      (stands.0, group_fits (group_of layout ask.group.0) stands.1.group ask.stripe.0 ask.op stands.1.group_is stands.1.stripe
-      (op_fits stands.1.group.m layout.block ask.op stands.1.block_fits stands.1.length_fits))
+  begin_fits (Begin p n b ask) stands = (
+    stands.0,
+    group_fits (group_of layout ask.group.0) stands.1.group ask.stripe.0 ask.op stands.1.group_is stands.1.stripe
+        (op_fits stands.1.group.m layout.block ask.op stands.1.block_fits stands.1.length_fits),
+  )
   begin_fits (End p n answer) stands = tt
   begin_fits (Crash p b) stands = tt
 
@@ -163,7 +161,7 @@ module _ (layout : Layout) (is : IsLayout layout) where
     content_bytes stamps said g s t group here (inr made) =
         let p : Operation = made.1 in
         let content : (run (coding layout) events (first_world layout)).contents made.1.ask.group.0 made.1.ask.stripe.0 t
-            ≡ (run (coding layout) events (first_world layout)).contents g s t =
+        ≡ (run (coding layout) events (first_world layout)).contents g s t =
         ap (λ (x : ℕ). (run (coding layout) events (first_world layout)).contents x made.1.ask.stripe.0 t) made.3
         ∙ ap (λ (x : ℕ). (run (coding layout) events (first_world layout)).contents g x t) made.4
         in

@@ -1,21 +1,20 @@
 -- The other printed lines read back: refusals, `idle`, the happenings of a stripe and the counts.
-use Rattle.std.proofs.Common.{◌≡◌, ℕ, suc, ◌+◌, ◌*◌, ◌<◌, ◌≤◌, ◌^◌, ◌==◌, not, Bool, true, false, cond, List, [], ◌∷◌, ◌++◌, length, map, Option, Some, None, refl, sym, ap, ◌∙◌, arith, codes, append-nil, append_assoc}
+use Rattle.std.proofs.Common.{◌≡◌, ℕ, suc, ◌+◌, ◌*◌, ◌<◌, ◌^◌, ◌==◌, not, Bool, true, false, cond, List, [], ◌∷◌, ◌++◌, length, map, Option, Some, None, refl, ap, ◌∙◌, arith, codes, append-nil, append_assoc}
 use Rattle.std.specs.Prelude.{⊤}
 use Rattle.std.specs.List.{list_all, slice_split}
 use Rattle.std.specs.Fmt.{decimal}
 use Rattle.fab_base.specs.declared.answers.Refusal.{Refusal}
 use Rattle.fab_base.specs.declared.answers.Refusal.TheVariants.{Down, NoStripe, NoBlock, Length, Busy, Spent}
-use Rattle.lines.specs.Grammar.{◌>>=◌}
 use Rattle.reg_model.specs.declared.marks.Happening.{Happening}
 use Rattle.transcript.specs.declared.claims.Counts.{Counts}
 use Rattle.transcript.specs.declared.claims.Entry.{Entry}
 use Rattle.transcript.specs.declared.claims.Entry.TheVariants.{Other, Happened, Counted}
 use Rattle.transcript.specs.Forms.{happening_of, happenings_of_tokens, happenings_of, happened_of, count_behind, counts_of, mark_of_line, form, entry_of, most_line_bytes}
-use Rattle.transcript.specs.Tokens.{behind, plain_number}
-use Rattle.transcript.specs.Words.{or_else, is_refusal, is_view, is_sync, is_scrub, is_word}
-use Rattle.world.specs.Texts.{newline, refusal_text, idle_text}
+use Rattle.transcript.specs.Tokens.{behind}
+use Rattle.transcript.specs.Words.{or_else, is_refusal, is_word}
+use Rattle.world.specs.Texts.{newline, refusal_text}
 use Rattle.printed.specs.Outputs.{happening_text, happenings_text, happened_text}
-use Rattle.printed.proofs.Tokens.{is_clear, bind_some, or_some, or_none, IsPiece, piece_both, piece_most, all_both, digits_piece, digits_few, digits_no_space, plain_back, before_back, behind_front, split_first, split_alone}
+use Rattle.printed.proofs.Tokens.{bind_some, or_some, or_none, IsPiece, piece_both, piece_most, all_both, digits_piece, digits_few, digits_no_space, plain_back, before_back, behind_front, split_first, split_alone}
 use Rattle.printed.proofs.MarkLines.{IsSmall, literal, entry_short}
 
 -- why an operation was not begun, on a line without its line feed

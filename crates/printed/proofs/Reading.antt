@@ -1,5 +1,5 @@
 -- What printed lines say together: the marks of a run, then the happenings of its stripes, then its counts.
-use Rattle.std.proofs.Common.{◌≡◌, ℕ, zero, suc, ◌+◌, ◌-◌, ◌<◌, ◌≤◌, ◌⊎◌, inl, inr, Bool, true, false, cond, nat_lt, nat_eq, ◌&&◌, ◌||◌, List, [], ◌∷◌, ◌++◌, length, map, Option, Some, None, refl, sym, ap, ◌∙◌, subst, arith, append_assoc, append-nil, codes, length-append}
+use Rattle.std.proofs.Common.{◌≡◌, ℕ, zero, suc, ◌+◌, ◌-◌, ◌<◌, ◌≤◌, ◌⊎◌, inl, inr, Bool, true, cond, nat_lt, List, [], ◌∷◌, ◌++◌, length, map, Option, Some, None, refl, sym, ap, ◌∙◌, subst, arith, append_assoc, append-nil, codes, length-append}
 use Rattle.std.specs.Prelude.{⊤, slice_get}
 use Rattle.std.proofs.lemmas.Bool.{eq-eqb}
 use Rattle.std.proofs.lemmas.Bool.Decides.{nat_tests}
@@ -12,17 +12,15 @@ use Rattle.transcript.specs.declared.claims.Counts.{Counts}
 use Rattle.transcript.specs.declared.claims.StripeLine.{StripeLine}
 use Rattle.transcript.specs.declared.claims.Entry.{Entry}
 use Rattle.transcript.specs.declared.claims.Entry.TheVariants as entry
-use Rattle.transcript.specs.declared.readings.Text.{Text}
 use Rattle.transcript.specs.declared.readings.Text.TheVariants.{Whole}
 use Rattle.transcript.specs.Said.{Transcribed}
 use Rattle.transcript.specs.Forms.{entry_of}
-use Rattle.transcript.specs.Transcripts.{nothing_said, position_said, stripe_before, is_behind, is_next, after_entry, after_line, text_at_line, text_at_end, text_behind, text_of, most_lines}
-use Rattle.printed.specs.Printed.{Printed, OfMark, OfRefusal, OfNothing, printed_text, printed_texts, marks_in, printed_marks}
-use Rattle.world.specs.Texts.{newline, idle_text}
-use Rattle.printed.proofs.Tokens.{is_clear, piece_most, IsPiece}
+use Rattle.transcript.specs.Transcripts.{position_said, stripe_before, is_behind, after_entry, after_line, text_at_line, text_behind, most_lines}
+use Rattle.printed.specs.Printed.{Printed, OfMark, OfRefusal, OfNothing, printed_text, printed_texts, printed_marks}
+use Rattle.world.specs.Texts.{newline}
 use Rattle.printed.proofs.LineTexts.{text_of_lines, AreClear}
-use Rattle.printed.proofs.MarkLines.{IsSmall, claim_of, mark_line, mark_ends, mark_piece, mark_back, MarkReads, literal}
-use Rattle.printed.proofs.OtherLines.{refusal_line, refusal_ends, refusal_piece, refusal_back, idle_back, HappeningReads, AllRead, happened_line, happened_piece, happened_back, counts_line, counts_piece, counts_back, CountsRead}
+use Rattle.printed.proofs.MarkLines.{IsSmall, claim_of, mark_line, mark_ends, mark_piece, mark_back, MarkReads}
+use Rattle.printed.proofs.OtherLines.{refusal_line, refusal_ends, refusal_piece, refusal_back, idle_back, AllRead, happened_line, happened_piece, happened_back, counts_line, counts_back, CountsRead}
 
 -- these lines lead from the first n lines, which say so much, to the first m, which say that
 abbrev pub Reads : ℕ → Transcribed → List (List ℕ) → ℕ → Transcribed → Type 0

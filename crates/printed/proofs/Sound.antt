@@ -1,14 +1,8 @@
 -- What is printed for a whole schedule is a text that an audit finds sound.
-use Rattle.std.proofs.Common.{◌≡◌, ℕ, zero, suc, ◌+◌, ◌<◌, ◌≤◌, ◌⊎◌, inl, inr, ⊎_elim, List, [], ◌∷◌, ◌++◌, length, map, count_by, codes, Option, Some, None, Ok, refl, sym, ap, ap₂, ◌∙◌, subst, arith, append_assoc, append-nil, map-id, add-one}
-use Rattle.std.specs.Prelude.{⊤, slice_get}
-use Rattle.std.specs.Fmt.{decimal}
-use Rattle.std.proofs.lemmas.Bool.{cases_lt}
-use Rattle.std.proofs.lemmas.List.{length-map}
+use Rattle.std.proofs.Common.{◌≡◌, ℕ, zero, suc, ◌+◌, ◌<◌, ◌≤◌, inl, inr, List, [], ◌∷◌, ◌++◌, length, map, count_by, Option, Some, None, Ok, refl, sym, ap, ap₂, ◌∙◌, subst, arith, append_assoc}
+use Rattle.std.specs.Prelude.{slice_get}
 use Rattle.std.proofs.lemmas.List.Sums.{count_by-le-length}
 use Rattle.std.proofs.lemmas.Option.{same_Some, slice_get_within}
-use Rattle.fab_base.specs.declared.answers.Answer.{Answer}
-use Rattle.fab_base.specs.declared.asks.Ask.{Ask}
-use Rattle.fab_base.specs.declared.identities.BrickId.{BrickId}
 use Rattle.fab_base.specs.Layouts.{Layout, Group, group_of}
 use Rattle.layout.specs.Limits.{IsLayout}
 use Rattle.layout.specs.Texts.{layout_of}
@@ -16,7 +10,6 @@ use Rattle.layout.proofs.Accepted.{accepted_is}
 use Rattle.lines.specs.Lines.{raw_lines, content}
 use Rattle.stripe_code.specs.Codes.{coding}
 use Rattle.reg_model.specs.declared.marks.Mark.{Mark}
-use Rattle.reg_model.specs.declared.marks.Mark.TheVariants.{Begin, End, Crash}
 use Rattle.reg_model.specs.Marks.{Life, life_of, begun_numbers, position_of, stripe_marks}
 use Rattle.reg_model.specs.Strict.{IsStrict}
 use Rattle.protocol.specs.Views.{layout_views}
@@ -24,16 +17,16 @@ use Rattle.protocol.specs.Worlds.{World, Event, first_world, run}
 use Rattle.protocol.specs.Happenings.{happenings_of}
 use Rattle.protocol_laws.specs.Laws.{Laws}
 use Rattle.protocol_laws.proofs.BooksEvents.{books}
-use Rattle.protocol_laws.proofs.Numbers.{IsNumbered, numbered_run}
+use Rattle.protocol_laws.proofs.Numbers.{numbered_run}
 use Rattle.transcript.specs.declared.claims.Claim.{Claim}
 use Rattle.transcript.specs.declared.claims.Counts.{Counts}
 use Rattle.transcript.specs.declared.claims.StripeLine.{StripeLine}
 use Rattle.transcript.specs.declared.readings.Text.{Text}
 use Rattle.transcript.specs.declared.readings.Text.TheVariants.{Whole}
 use Rattle.transcript.specs.Kinds.{is_begin, is_answered, is_aborted, is_crash}
-use Rattle.transcript.specs.Marks.{marks_of, mark_of}
-use Rattle.transcript.specs.Transcripts.{text_of, text_behind, most_lines}
-use Rattle.audit.specs.Checks.{HasStripe, IsNamed, HoldsIn, StripeHolds, StripesHold, CountsHold, MarksHold, happenings_said, Finds}
+use Rattle.transcript.specs.Marks.{marks_of}
+use Rattle.transcript.specs.Transcripts.{text_of}
+use Rattle.audit.specs.Checks.{HasStripe, HoldsIn, StripesHold, CountsHold, MarksHold, happenings_said}
 use Rattle.audit.specs.declared.findings.Finding.TheVariants.{Sound}
 use Rattle.audit.specs.declared.examining.Verdict.TheVariants.{Judged}
 use Rattle.audit.specs.Examining.{Examines}
@@ -41,7 +34,7 @@ use Rattle.world.specs.Runs.{Run, Step, world_of, all_events}
 use Rattle.world.specs.Texts.{newline}
 use Rattle.printed.specs.Outputs as out
 use Rattle.printed.specs.Outputs.{happened_text, stripes_text, stripes_of, groups_text, most_groups, count_text, closing_text, left_by, steps_text}
-use Rattle.printed.specs.Printed.{Printed, printed_texts, printed_marks}
+use Rattle.printed.specs.Printed.{printed_marks}
 use Rattle.printed.specs.LineSteps.{AreStepsOf}
 use Rattle.printed.specs.Sound.{IsSoundText}
 use Rattle.printed.proofs.Clocks.{EventsFit, steps_fit}
@@ -51,7 +44,7 @@ use Rattle.printed.proofs.MarkLines.{IsSmall, claim_of, claimed, MarkReads}
 use Rattle.printed.proofs.MarksSound as marking
 use Rattle.printed.proofs.OtherLines.{counts_line, counts_piece, CountsRead}
 use Rattle.printed.proofs.PrintedMarks.{is_end, others, lines_are, begins_among, marks_among_lines, IsPrintedAs, steps_printed}
-use Rattle.printed.proofs.Reading.{Reads, reads_both, of_marks, of_stripes, printed_line, printed_lines, printed_clear, printed_read, EachReads, EachPlaced, counts_end}
+use Rattle.printed.proofs.Reading.{Reads, of_marks, printed_line, printed_lines, printed_clear, printed_read, EachReads, EachPlaced, counts_end}
 use Rattle.printed.proofs.Stripes.{IsStory, count_less, is_before, all_begins, Stage, groups_stage, groups_text_of, stripes_text_of, AreOfLayout}
 
 -- the claims of marks are these marks
@@ -61,9 +54,10 @@ marks_back (mark ∷ marks) = ap (λ (m : Mark). m ∷ marks_of (map claim_of ma
 
 each_placed : (from : ℕ) (marks : List Mark) → ((k : ℕ) (mark : Mark) → slice_get marks k ≡ Some mark → position_of mark ≡ from + k) → EachPlaced from marks
 each_placed from [] placed = tt
-each_placed from (mark ∷ marks) placed =
-    (let here = placed 0 mark refl in omega (arith, here),
-    each_placed (from + 1) marks (λ k one at. let there = placed (suc k) one at in omega (arith, there)))
+each_placed from (mark ∷ marks) placed = (
+  let here = placed 0 mark refl in omega (arith, here),
+  each_placed (from + 1) marks (λ k one at. let there = placed (suc k) one at in omega (arith, there)),
+)
 
 each_read : (marks : List Mark) → ((k : ℕ) (mark : Mark) → slice_get marks k ≡ Some mark → MarkReads mark) → EachReads marks
 each_read [] reads = tt
@@ -133,8 +127,12 @@ module _ (layout : Layout) (is : IsLayout layout) (schedule : List (List ℕ)) (
   lines_low : length printed.printed ≤ length steps + (length steps + 1)
   lines_low =
       let most = printed.few in
-      omega (arith, lines_are printed.printed, most,
-      subst (λ (l : List Mark). count_by is_end l ≤ length steps + 1) (sym marks_are) ends_low)
+      omega (
+        arith,
+        lines_are printed.printed,
+        most,
+        subst (λ (l : List Mark). count_by is_end l ≤ length steps + 1) (sym marks_are) ends_low,
+      )
 
   marks_low : length (left_by layout steps).marks ≤ length steps + (length steps + 1)
   marks_low =
@@ -263,10 +261,12 @@ module _ (layout : Layout) (is : IsLayout layout) (schedule : List (List ℕ)) (
   holds_in g s None here within = absurd (omega arith)
   holds_in g s (Some group) here within =
       let within_groups = slice_get_within layout.groups g group here in
-      let few_groups = marking.few_groups layout is in
-      (within, subst (λ (l : List _). IsStrict group.m layout.block (stripe_marks g s (left_by layout steps).marks) l)
-      (sym (stage.said g s (inl ((let low = within_groups in omega (arith, low, few_groups)), subst (λ (o : Option Group). s < stripes_of o) (sym here) within))))
-      (laws.strict g s group here))
+      let few_groups = marking.few_groups layout is in (
+        within,
+        subst (λ (l : List _). IsStrict group.m layout.block (stripe_marks g s (left_by layout steps).marks) l)
+            (sym (stage.said g s (inl ((let low = within_groups in omega (arith, low, few_groups)), subst (λ (o : Option Group). s < stripes_of o) (sym here) within))))
+            (laws.strict g s group here),
+      )
 
   stripe_within : (g s : ℕ) (found : Option Group) → HasStripe found s → s < stripes_of found
   stripe_within g s None has = absurd has

@@ -1,15 +1,13 @@
 -- Each stamp that a run makes, keeps or sends has a spelling, and each message is of a brick of the layout.
-use Rattle.std.proofs.Common.{◌≡◌, ◌≢◌, ℕ, zero, suc, ◌+◌, ◌-◌, ◌<◌, ◌≤◌, ◌^◌, ◌⊎◌, inl, inr, ⊎_elim, Bool, true, false, not, cond, nat_lt, nat_eq, ◌&&◌, ◌||◌, List, [], ◌∷◌, ◌++◌, length, max, Option, Some, None, is_some, refl, sym, ap, ◌∙◌, subst, arith}
+use Rattle.std.proofs.Common.{◌≡◌, ◌≢◌, ℕ, zero, suc, ◌+◌, ◌-◌, ◌<◌, ◌≤◌, ◌^◌, ◌⊎◌, ⊎_elim, Bool, true, false, not, cond, nat_lt, nat_eq, ◌&&◌, ◌||◌, List, [], ◌∷◌, ◌++◌, length, max, Option, Some, None, is_some, refl, sym, ap, ◌∙◌, subst, arith}
 use Rattle.std.specs.Prelude.{⊤, slice_get}
 use Rattle.std.proofs.lemmas.Bool.{and_parts, cond_both, cases_eq, ltb-true}
-use Rattle.std.proofs.lemmas.Bool.Decides.{nat_tests}
 use Rattle.std.proofs.lemmas.Option.{same_Some}
 use Rattle.fab_base.specs.declared.identities.BrickId.{BrickId}
 use Rattle.fab_base.specs.declared.identities.ViewNo.{ViewNo}
 use Rattle.fab_base.specs.declared.stamps.Stamp.{Stamp}
 use Rattle.fab_base.specs.declared.asks.Ask.{Ask}
 use Rattle.fab_base.specs.declared.answers.Refusal.{Refusal}
-use Rattle.fab_base.specs.declared.answers.Refusal.TheVariants as Refusal
 use Rattle.fab_base.specs.Layouts.{Layout, Group, group_of}
 use Rattle.fab_base.specs.Stamps.{stamp_below, first_stamp}
 use Rattle.messages.specs.declared.calls.Call.{Call}
@@ -19,12 +17,12 @@ use Rattle.messages.specs.declared.requests.Request.{Request}
 use Rattle.messages.specs.declared.requests.Version.{Version}
 use Rattle.messages.specs.declared.replies.Reply.{Reply}
 use Rattle.protocol.specs.Settings.{Setting, Code}
-use Rattle.protocol.specs.Replicas.{Replica, Reaction, newest_of, is_held, stamp_max, top_of, is_wanted, told_version, stays, unless_full, promised, stored, looked_up, handle, not_below, ignored, first_replica, fresh_replica}
+use Rattle.protocol.specs.Replicas.{Replica, Reaction, newest_of, is_held, stamp_max, top_of, is_wanted, told_version, stays, unless_full, promised, stored, looked_up, handle, ignored, first_replica, fresh_replica}
 use Rattle.protocol.specs.declared.phases.Counted.{Counted}
 use Rattle.protocol.specs.declared.phases.Phase.{Phase}
 use Rattle.protocol.specs.declared.phases.Phase.TheVariants.{Looks, LooksAt, Orders, OrdersAt, Recovers, Descends, Modifies, Bases, Stores}
-use Rattle.protocol.specs.Coordinators.{Coordinator, Next, Ignores, Waits, Sends, Makes, Ends, has_seat, request_of, counts_at, with_reply, counted_at, once_full, on_reply, next_phase}
-use Rattle.protocol.specs.Nodes.{Node, NodeStep, put, first_node, view_at, no_step, sending, to_members, phase_packets, collect_packets, has_later_time, is_spent, refusal_in, refusal_of, next_time, new_stamp, fresh_stamp, new_coordinator, coordinator_in, opened, began_in, began, group_at, invoked, replica_at, with_replica, full_at, reply_packets, reacted, requested, known_after, with_call, with_known, carried_out, replied_at, replied, received, absorbed, resent_to, resent, resent_up_to, ticked, no_calls, stopped, restarted, may_open}
+use Rattle.protocol.specs.Coordinators.{Coordinator, Next, Ignores, Waits, Sends, Makes, Ends, has_seat, request_of, counts_at, with_reply, counted_at, once_full, on_reply}
+use Rattle.protocol.specs.Nodes.{Node, NodeStep, put, first_node, view_at, no_step, to_members, phase_packets, collect_packets, has_later_time, is_spent, refusal_in, refusal_of, next_time, new_stamp, fresh_stamp, new_coordinator, opened, began, group_at, invoked, replica_at, full_at, reply_packets, reacted, requested, known_after, with_call, carried_out, replied_at, replied, received, absorbed, resent_to, resent, resent_up_to, ticked, stopped, restarted, may_open}
 use Rattle.protocol.specs.declared.tellings.Told.{Told}
 use Rattle.protocol.specs.declared.tellings.Told.TheVariants.{Made, Seen}
 use Rattle.protocol.specs.declared.tellings.Answered.{Answered}
@@ -629,10 +627,11 @@ starts_fits : (setting : Setting) (w : World) (brick : BrickId) (openings : ℕ)
 starts_fits setting w brick openings node fits new above low next clocks after packets others here =
     let each : (j : ℕ) → NodeFits (next.nodes j) × ((w.after j).boot ≤ (next.nodes j).boot) = λ j. ⊎_elim
     (λ (is : j ≡ brick.0).
-    let same : next.nodes j ≡ restarted openings node = ap next.nodes is ∙ here in
-    (subst (λ (n : Node). NodeFits n) (sym same) (restarted_fits openings node new low),
-    (let boot : (next.nodes j).boot ≡ node.boot + openings = ap (λ (n : Node). n.boot) same ∙ restarted_boot openings node in
-    let old : (w.after j).boot ≡ (w.after brick.0).boot = ap (λ (k : ℕ). (w.after k).boot) is in omega (arith, boot, old, above))))
+    let same : next.nodes j ≡ restarted openings node = ap next.nodes is ∙ here in (
+      subst (λ (n : Node). NodeFits n) (sym same) (restarted_fits openings node new low),
+      (let boot : (next.nodes j).boot ≡ node.boot + openings = ap (λ (n : Node). n.boot) same ∙ restarted_boot openings node in
+          let old : (w.after j).boot ≡ (w.after brick.0).boot = ap (λ (k : ℕ). (w.after k).boot) is in omega (arith, boot, old, above)),
+    ))
     (λ (other : j ≡ brick.0 → ⊥).
     let same : next.nodes j ≡ w.nodes j = others j other in
     (subst (λ (n : Node). NodeFits n) (sym same) (fits.nodes j), subst (λ (n : Node). (w.after j).boot ≤ n.boot) (sym same) (fits.boots j)))

@@ -1,8 +1,8 @@
 -- The printed happenings of stripes: they read back, rise by group and stripe, are few, and are those of the world.
-use Rattle.std.proofs.Common.{◌≡◌, ◌≢◌, ℕ, zero, suc, ◌+◌, ◌<◌, ◌≤◌, ◌^◌, ◌⊎◌, inl, inr, ⊎_elim, Bool, true, false, cond, not, nat_lt, nat_eq, ◌&&◌, ◌||◌, eqb, max, List, [], ◌∷◌, ◌++◌, length, map, count_by, filter, Option, Some, None, refl, sym, ap, ◌∙◌, subst, arith, append-nil, append_assoc, length-append}
+use Rattle.std.proofs.Common.{◌≡◌, ◌≢◌, ℕ, zero, suc, ◌+◌, ◌<◌, ◌≤◌, ◌⊎◌, inl, inr, ⊎_elim, Bool, true, false, cond, nat_lt, nat_eq, ◌&&◌, ◌||◌, eqb, List, [], ◌∷◌, ◌++◌, length, map, count_by, filter, Option, Some, None, refl, sym, ap, ◌∙◌, subst, arith, append-nil, append_assoc, length-append}
 use Rattle.std.specs.Prelude.{⊤, slice_get}
-use Rattle.std.specs.List.{IsDistinct, list_any, All}
-use Rattle.std.proofs.lemmas.Bool.{and_parts, cond_both, eqb-true, eq-eqb, cases_lt, cases_eq, ltb-true}
+use Rattle.std.specs.List.{list_any, All}
+use Rattle.std.proofs.lemmas.Bool.{and_parts, cond_both, eqb-true, cases_lt, cases_eq}
 use Rattle.std.proofs.lemmas.Bool.Decides.{nat_tests}
 use Rattle.std.proofs.lemmas.List.{length-map}
 use Rattle.std.proofs.lemmas.List.Elements.{All-head, All-tail}
@@ -10,26 +10,24 @@ use Rattle.std.proofs.lemmas.Map.Steps.{length-le_from_distinct_below}
 use Rattle.std.proofs.lemmas.Option.{same_Some}
 use Rattle.fab_base.specs.declared.identities.BrickId.{BrickId}
 use Rattle.fab_base.specs.declared.asks.Ask.{Ask}
-use Rattle.fab_base.specs.declared.answers.Answer.{Answer}
 use Rattle.fab_base.specs.Layouts.{Layout, Group, group_of}
 use Rattle.reg_model.specs.declared.marks.Mark.{Mark}
 use Rattle.reg_model.specs.declared.marks.Mark.TheVariants.{Begin, End, Crash}
 use Rattle.reg_model.specs.declared.marks.Happening.{Happening}
-use Rattle.reg_model.specs.Marks.{Life, life_of, Ending, Answered, Interrupted, Unended, ending_of, end_of, position_of, concerns, stripe_marks}
+use Rattle.reg_model.specs.Marks.{Life, life_of, Ending, Answered, Interrupted, ending_of, end_of, position_of, concerns, stripe_marks}
 use Rattle.reg_model.specs.Strict.{IsInTime, IsStrict}
 use Rattle.transcript.specs.declared.claims.Claim.{Claim}
 use Rattle.transcript.specs.declared.claims.StripeLine.{StripeLine}
 use Rattle.transcript.specs.Kinds.{is_begin}
 use Rattle.transcript.specs.Transcripts.{text_behind, most_lines}
 use Rattle.protocol_laws.proofs.StripeLives.{filter_place, none_filtered}
-use Rattle.audit.specs.Checks.{happenings_said, HasStripe, IsNamed, HoldsIn, StripeHolds, StripesHold}
+use Rattle.audit.specs.Checks.{happenings_said}
 use Rattle.printed.specs.Outputs.{happened_text, stripes_of}
 use Rattle.printed.proofs.LineTexts.{text_of_lines, lines_both, one_line_text, AreClear, clear_all}
 use Rattle.printed.proofs.MarkLines.{IsSmall}
 use Rattle.printed.proofs.OtherLines.{HappeningReads, AllRead, happened_line, happened_ends}
 use Rattle.printed.proofs.PrintedMarks.{count_yes, count_no}
 use Rattle.printed.proofs.Reading.{Reads, reads_both, of_stripes, AreBefore, before_both, before_stripe, before_group, stripe_lines, stripe_contents, StripeReads, stripe_clear, stripe_read}
-use Rattle.world.specs.Texts.{newline}
 
 -- where lives end
 
@@ -40,9 +38,10 @@ AreBelow most (mark ∷ marks) = (position_of mark < most) × AreBelow most mark
 pub below_placed : (most from : ℕ) (marks : List Mark) → ((k : ℕ) (mark : Mark) → slice_get marks k ≡ Some mark → position_of mark ≡ from + k)
     → from + length marks ≤ most → AreBelow most marks
 below_placed most from [] placed few = tt
-below_placed most from (mark ∷ marks) placed few =
-    (let here = placed 0 mark refl in omega (arith, here, few),
-    below_placed most (from + 1) marks (λ k one at. let there = placed (suc k) one at in omega (arith, there)) (omega (arith, few)))
+below_placed most from (mark ∷ marks) placed few = (
+  let here = placed 0 mark refl in omega (arith, here, few),
+  below_placed most (from + 1) marks (λ k one at. let there = placed (suc k) one at in omega (arith, there)) (omega (arith, few)),
+)
 
 below_filter : (most : ℕ) (test : Mark → Bool) (marks : List Mark) → AreBelow most marks → AreBelow most (filter test marks)
 below_filter most test [] below = tt
