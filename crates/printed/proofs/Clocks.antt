@@ -51,7 +51,8 @@ write_block_fits (b ∷ []) = tt
 write_block_fits (b ∷ g ∷ []) = tt
 write_block_fits (b ∷ g ∷ s ∷ []) = tt
 write_block_fits (b ∷ g ∷ s ∷ j ∷ []) = tt
-write_block_fits (b ∷ g ∷ s ∷ j ∷ text ∷ []) = bind_fits (number j) _ (λ block at. bind_fits (bytes_of_hex text) _ (λ bytes here. invoke_fits b g s _))
+write_block_fits (b ∷ g ∷ s ∷ j ∷ text ∷ []) = bind_fits (number j) _
+    (λ block at. bind_fits (bytes_of_hex text) _ (λ bytes here. invoke_fits b g s _))
 write_block_fits (b ∷ g ∷ s ∷ j ∷ text ∷ more ∷ tokens) = tt
 
 read_block_fits : (tokens : List (List ℕ)) → OnLine (read_block tokens)

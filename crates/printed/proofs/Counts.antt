@@ -31,8 +31,11 @@ begins_are (Crash p b ∷ marks) = let rest = begins_are marks in omega (arith, 
 pub begun_place : (marks : List Mark) (k p n : ℕ) (b : BrickId) (ask : Ask) → slice_get marks k ≡ Some (Begin p n b ask)
     → (j : ℕ) × (slice_get (begun_numbers marks) j ≡ Some n)
 begun_place [] k p n b ask at = absurd (let never : None ≡ Some (Begin p n b ask) = at in cc)
-begun_place (Begin q m c other ∷ marks) zero p n b ask at =
-    (0, (let same : Begin q m c other ≡ Begin p n b ask = same_Some (Begin q m c other) (Begin p n b ask) at in let number : m ≡ n = cc in ap (λ (i : ℕ). Some i) number))
+begun_place (Begin q m c other ∷ marks) zero p n b ask at = (
+  0,
+  (let same : Begin q m c other ≡ Begin p n b ask = same_Some (Begin q m c other) (Begin p n b ask) at in let number : m ≡ n = cc in ap
+      (λ (i : ℕ). Some i) number),
+)
 begun_place (Begin q m c other ∷ marks) (suc k) p n b ask at = let rest = begun_place marks k p n b ask at in (suc rest.0, rest.1)
 begun_place (End q m answer ∷ marks) zero p n b ask at =
     absurd (let never : End q m answer ≡ Begin p n b ask = same_Some (End q m answer) (Begin p n b ask) at in cc)
@@ -149,7 +152,8 @@ module _ (marks : List Mark) (well : IsWellFormed marks) (placed : (k : ℕ) (ma
               absurd (ended_not_open (take k marks) old.0 old.1 n old.2 (well_taken k) old.3 (well.ends_are_of_open k p n answer at))
 
   -- at most one more operation ends than the greatest number
-  pub ends_few : (most : ℕ) → ((k p n : ℕ) (answer : Answer) → slice_get marks k ≡ Some (End p n answer) → n ≤ most) → count_by is_end marks ≤ most + 1
+  pub ends_few : (most : ℕ) → ((k p n : ℕ) (answer : Answer) → slice_get marks k ≡ Some (End p n answer) → n ≤ most)
+      → count_by is_end marks ≤ most + 1
   ends_few most below =
       let distinct : IsDistinct eqb (end_numbers marks) =
       subst (λ (l : List Mark). IsDistinct eqb (end_numbers l)) (take_whole marks) (distinct_to (length marks) (omega arith))

@@ -184,17 +184,22 @@ space = literal 1 (codes " ") refl (omega arith)
 
 op_piece : (ask : Ask) (op : Op) → IsSmall ask.group.0 → IsSmall ask.stripe.0 → OpReads op → IsPiece 65700 (op_line ask op)
 op_piece ask (ReadBlock j) g s reads =
-    piece_most _ 65700 _ (omega arith) (piece_both 5 _ _ _ (literal 5 (codes "read ") refl (omega arith)) (piece_both 20 _ _ _ (digits_piece ask.group.0 g)
+    piece_most _ 65700 _ (omega arith) (piece_both 5 _ _ _ (literal 5 (codes "read ") refl (omega arith)) (piece_both 20 _ _ _
+    (digits_piece ask.group.0 g)
     (piece_both 1 _ _ _ space (piece_both 20 _ _ _ (digits_piece ask.stripe.0 s) (piece_both 1 20 _ _ space (digits_piece j reads))))))
 op_piece ask (WriteBlock j bytes) g s reads =
-    piece_most _ 65700 _ (omega arith) (piece_both 6 _ _ _ (literal 6 (codes "write ") refl (omega arith)) (piece_both 20 _ _ _ (digits_piece ask.group.0 g)
-    (piece_both 1 _ _ _ space (piece_both 20 _ _ _ (digits_piece ask.stripe.0 s) (piece_both 1 _ _ _ space (piece_both 20 _ _ _ (digits_piece j reads.0)
+    piece_most _ 65700 _ (omega arith) (piece_both 6 _ _ _ (literal 6 (codes "write ") refl (omega arith)) (piece_both 20 _ _ _
+    (digits_piece ask.group.0 g)
+    (piece_both 1 _ _ _ space (piece_both 20 _ _ _ (digits_piece ask.stripe.0 s) (piece_both 1 _ _ _ space (piece_both 20 _ _ _
+    (digits_piece j reads.0)
     (piece_both 1 (2 * most_told) _ _ space (hex_piece most_told bytes reads.1.are reads.1.few))))))))
 op_piece ask ReadStripe g s reads =
-    piece_most _ 65700 _ (omega arith) (piece_both 8 _ _ _ (literal 8 (codes "readall ") refl (omega arith)) (piece_both 20 _ _ _ (digits_piece ask.group.0 g)
+    piece_most _ 65700 _ (omega arith) (piece_both 8 _ _ _ (literal 8 (codes "readall ") refl (omega arith)) (piece_both 20 _ _ _
+    (digits_piece ask.group.0 g)
     (piece_both 1 20 _ _ space (digits_piece ask.stripe.0 s))))
 op_piece ask (WriteStripe bytes) g s reads =
-    piece_most _ 65700 _ (omega arith) (piece_both 9 _ _ _ (literal 9 (codes "writeall ") refl (omega arith)) (piece_both 20 _ _ _ (digits_piece ask.group.0 g)
+    piece_most _ 65700 _ (omega arith) (piece_both 9 _ _ _ (literal 9 (codes "writeall ") refl (omega arith)) (piece_both 20 _ _ _
+    (digits_piece ask.group.0 g)
     (piece_both 1 _ _ _ space (piece_both 20 _ _ _ (digits_piece ask.stripe.0 s)
     (piece_both 1 (2 * most_told) _ _ space (hex_piece most_told bytes reads.are reads.few))))))
 
@@ -209,20 +214,24 @@ stamp_piece stamp reads =
 
 cause_piece : (cause : Cause) → CauseReads cause → IsPiece 200 (cause_line cause)
 cause_piece (Later brick stamp) reads =
-    piece_most _ 200 _ (omega arith) (piece_both 6 _ _ _ (literal 6 (codes "later ") refl (omega arith)) (piece_both 20 _ _ _ (digits_piece brick.0 reads.0)
+    piece_most _ 200 _ (omega arith) (piece_both 6 _ _ _ (literal 6 (codes "later ") refl (omega arith)) (piece_both 20 _ _ _
+    (digits_piece brick.0 reads.0)
     (piece_both 1 100 _ _ space (stamp_piece stamp reads.1))))
 cause_piece (Gone brick) reads =
     piece_most _ 200 _ (omega arith) (piece_both 5 20 _ _ (literal 5 (codes "gone ") refl (omega arith)) (digits_piece brick.0 reads))
 cause_piece (Full brick live) reads =
-    piece_most _ 200 _ (omega arith) (piece_both 5 _ _ _ (literal 5 (codes "full ") refl (omega arith)) (piece_both 20 _ _ _ (digits_piece brick.0 reads.0)
+    piece_most _ 200 _ (omega arith) (piece_both 5 _ _ _ (literal 5 (codes "full ") refl (omega arith)) (piece_both 20 _ _ _
+    (digits_piece brick.0 reads.0)
     (piece_both 1 20 _ _ space (digits_piece live reads.1))))
 cause_piece (Moved brick view) reads =
-    piece_most _ 200 _ (omega arith) (piece_both 6 _ _ _ (literal 6 (codes "moved ") refl (omega arith)) (piece_both 20 _ _ _ (digits_piece brick.0 reads.0)
+    piece_most _ 200 _ (omega arith) (piece_both 6 _ _ _ (literal 6 (codes "moved ") refl (omega arith)) (piece_both 20 _ _ _
+    (digits_piece brick.0 reads.0)
     (piece_both 1 20 _ _ space (digits_piece view.0 reads.1))))
 
 answer_piece : (answer : Answer) → AnswerReads answer → IsPiece 65700 (answer_line answer)
 answer_piece (Data bytes) reads =
-    piece_most _ 65700 _ (omega arith) (piece_both 5 (2 * most_told) _ _ (literal 5 (codes "data ") refl (omega arith)) (hex_piece most_told bytes reads.are reads.few))
+    piece_most _ 65700 _ (omega arith) (piece_both 5 (2 * most_told) _ _ (literal 5 (codes "data ") refl (omega arith))
+    (hex_piece most_told bytes reads.are reads.few))
 answer_piece Done reads = literal 65700 (codes "done") refl (omega arith)
 answer_piece (Aborted cause) reads =
     piece_most _ 65700 _ (omega arith) (piece_both 8 200 _ _ (literal 8 (codes "aborted ") refl (omega arith)) (cause_piece cause reads))
@@ -231,7 +240,8 @@ pub mark_piece : (mark : Mark) → MarkReads mark → IsPiece most_line_bytes (m
 mark_piece (Begin p n brick ask) reads =
     piece_most _ most_line_bytes _ (omega arith) (piece_both 20 _ _ _ (digits_piece p reads.0)
     (piece_both 7 _ _ _ (literal 7 (codes " begin ") refl (omega arith)) (piece_both 20 _ _ _ (digits_piece n reads.1) (piece_both 1 _ _ _ space
-    (piece_both 20 _ _ _ (digits_piece brick.0 reads.2) (piece_both 1 65700 _ _ space (op_piece ask ask.op reads.3.group reads.3.stripe reads.3.op)))))))
+    (piece_both 20 _ _ _ (digits_piece brick.0 reads.2) (piece_both 1 65700 _ _ space
+    (op_piece ask ask.op reads.3.group reads.3.stripe reads.3.op)))))))
 mark_piece (End p n answer) reads =
     piece_most _ most_line_bytes _ (omega arith) (piece_both 20 _ _ _ (digits_piece p reads.0)
     (piece_both 5 _ _ _ (literal 5 (codes " end ") refl (omega arith)) (piece_both 20 _ _ _ (digits_piece n reads.1)
@@ -255,7 +265,8 @@ ask_back : (p n b : ℕ) (ask : Ask) (op : Op) → IsSmall ask.group.0 → IsSma
 unfolding ask_of read_of write_of read_all_of write_all_of
 ask_back p n b ask (ReadBlock j) g s reads =
     or_some _ _ _ _ (behind_front (codes "read ") _)
-    ∙ bind_some _ _ _ (before_back 32 ask.group.0 _ refl g) ∙ bind_some _ _ _ (before_back 32 ask.stripe.0 _ refl s) ∙ bind_some _ _ _ (plain_back j reads)
+    ∙ bind_some _ _ _ (before_back 32 ask.group.0 _ refl g) ∙ bind_some _ _ _ (before_back 32 ask.stripe.0 _ refl s)
+    ∙ bind_some _ _ _ (plain_back j reads)
 ask_back p n b ask (WriteBlock j bytes) g s reads =
     or_none _ _ _ (behind_other 114 119 _ _ refl) ∙ or_some _ _ _ _ (behind_front (codes "write ") _)
     ∙ bind_some _ _ _ (before_back 32 ask.group.0 _ refl g) ∙ bind_some _ _ _ (before_back 32 ask.stripe.0 _ refl s)

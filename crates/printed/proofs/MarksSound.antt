@@ -76,9 +76,6 @@ block_few : (m block : ℕ) → 1 ≤ m → m * block ≤ 32768 → block ≤ 32
 block_few m block some few = grind arith
 
 module _ (layout : Layout) (is : IsLayout layout) where
-  abbrev setting : Setting
-  setting = coding layout
-
   pub few_groups : length layout.groups ≤ 64
   few_groups = is.few_groups
 
@@ -141,29 +138,29 @@ module _ (layout : Layout) (is : IsLayout layout) where
     abbrev w : World
     w = run (coding layout) events (first_world layout)
 
-    pub laws : Laws (coding layout) (layout_views layout) (run (coding layout) events (first_world layout))
+    pub laws : Laws (coding layout) (layout_views layout) w
     laws = every_layout_run (coding layout) events (coding_is_sound layout is)
 
-    stands : AllStand (coding layout) (run (coding layout) events (first_world layout)).marks
+    stands : AllStand (coding layout) w.marks
     stands = run_stands (coding layout) events (first_world layout) (λ k mark at. absurd (let never : None ≡ Some mark = at in cc))
 
-    fits : WorldFits (coding layout) (run (coding layout) events (first_world layout))
+    fits : WorldFits (coding layout) w
     fits = run_fits (coding layout) events (first_world layout) (let few = is.few_bricks in omega arith) (first_world_fits (coding layout)) timely
 
     -- data that was answered is bytes
 
-    content_bytes : (stamps : Stamping) (said : Said (coding layout) (run (coding layout) events (first_world layout)) stamps) (g s : ℕ) (t : Stamp) (group : Group)
-        → group_of layout g ≡ Some group → IsMadeOrFirst (run (coding layout) events (first_world layout)) g s t
-        → are_bytes ((run (coding layout) events (first_world layout)).contents g s t) ≡ true
+    content_bytes : (stamps : Stamping) (said : Said (coding layout) w stamps) (g s : ℕ) (t : Stamp) (group : Group)
+        → group_of layout g ≡ Some group → IsMadeOrFirst w g s t
+        → are_bytes (w.contents g s t) ≡ true
     content_bytes stamps said g s t group here (inl first) =
-        ap (λ (u : Stamp). are_bytes ((run (coding layout) events (first_world layout)).contents g s u)) first
+        ap (λ (u : Stamp). are_bytes (w.contents g s u)) first
         ∙ ap are_bytes (said.first g s ∙ ap (λ (z : Option Group). zero_content layout.block z) here) ∙ zeros (group.m * layout.block)
     content_bytes stamps said g s t group here (inr made) =
         let p : Operation = made.1 in
-        let content : (run (coding layout) events (first_world layout)).contents made.1.ask.group.0 made.1.ask.stripe.0 t
-        ≡ (run (coding layout) events (first_world layout)).contents g s t =
-        ap (λ (x : ℕ). (run (coding layout) events (first_world layout)).contents x made.1.ask.stripe.0 t) made.3
-        ∙ ap (λ (x : ℕ). (run (coding layout) events (first_world layout)).contents g x t) made.4
+        let content : w.contents made.1.ask.group.0 made.1.ask.stripe.0 t
+        ≡ w.contents g s t =
+        ap (λ (x : ℕ). w.contents x made.1.ask.stripe.0 t) made.3
+        ∙ ap (λ (x : ℕ). w.contents g x t) made.4
         in
         ap are_bytes (sym content)
         ∙ ((said.operations made.0 made.1 made.2).content t made.5 made.6 group (ap (group_of layout) made.3 ∙ here)).1
@@ -176,19 +173,20 @@ module _ (layout : Layout) (is : IsLayout layout) where
     read_bytes (WriteBlock j given) bytes content read are = absurd (let never : None ≡ Some bytes = read in cc)
     read_bytes (WriteStripe given) bytes content read are = absurd (let never : None ≡ Some bytes = read in cc)
 
-    data_bytes : (k p n : ℕ) (bytes : List ℕ) → slice_get (run (coding layout) events (first_world layout)).marks k ≡ Some (End p n (Data bytes))
+    data_bytes : (k p n : ℕ) (bytes : List ℕ) → slice_get w.marks k ≡ Some (End p n (Data bytes))
         → are_bytes bytes ≡ true
     data_bytes k p n bytes at =
         let said = always_said (coding layout) events (coding_is_sound layout is) in
         let shown = said.1.ends k p n (Data bytes) at in
         let own = (books.books (coding layout) events).operations n shown.operation shown.is in
         read_bytes shown.operation.ask.op bytes
-        ((run (coding layout) events (first_world layout)).contents shown.operation.ask.group.0 shown.operation.ask.stripe.0 shown.version) shown.bytes_are
+        (w.contents shown.operation.ask.group.0 shown.operation.ask.stripe.0 shown.version) shown.bytes_are
         (content_bytes said.0 said.1 shown.operation.ask.group.0 shown.operation.ask.stripe.0 shown.version own.group own.group_is
         ((said.1.operations n shown.operation shown.is).version shown.version shown.version_is).made)
 
     -- the lengths of answers
-    word_long : (group : Group) (op : Op) (bytes : List ℕ) → IsGroup layout.block layout.bricks group → law.WordFits group.m layout.block op (Data bytes)
+    word_long : (group : Group) (op : Op) (bytes : List ℕ) → IsGroup layout.block layout.bricks group
+        → law.WordFits group.m layout.block op (Data bytes)
         → (1 ≤ length bytes) × (length bytes ≤ most_told)
     word_long group (ReadBlock j) bytes of word =
         let same : length bytes ≡ layout.block = word in
@@ -202,7 +200,7 @@ module _ (layout : Layout) (is : IsLayout layout) where
     word_long group (WriteStripe given) bytes of word = absurd word
 
     -- why an operation was aborted
-    cause_reads : (n : ℕ) (o : Operation) (cause : Cause) → Evidence (run (coding layout) events (first_world layout)) n o cause → CauseReads cause
+    cause_reads : (n : ℕ) (o : Operation) (cause : Cause) → Evidence w n o cause → CauseReads cause
     cause_reads n o (Later brick x) shows =
         let packet = fits.packets shows.told.0 _ shows.told.1 in
         let few = is.few_bricks in
@@ -218,7 +216,7 @@ module _ (layout : Layout) (is : IsLayout layout) where
     cause_reads n o (Gone brick) shows = absurd shows
     cause_reads n o (Moved brick view) shows = absurd shows
 
-    answer_reads : (k p n : ℕ) (answer : Answer) → slice_get (run (coding layout) events (first_world layout)).marks k ≡ Some (End p n answer)
+    answer_reads : (k p n : ℕ) (answer : Answer) → slice_get w.marks k ≡ Some (End p n answer)
         → AnswerReads answer
     answer_reads k p n (Data bytes) at =
         let word = laws.words k p n (Data bytes) at in
@@ -229,25 +227,25 @@ module _ (layout : Layout) (is : IsLayout layout) where
         let shows = laws.aborts k p n cause at in cause_reads n shows.0 cause shows.2
 
     -- where there are so few marks and operations, each mark reads back
-    pub mark_reads : (length (run (coding layout) events (first_world layout)).marks ≤ 10000000) → ((n : ℕ) → (life : Life)
-        → life_of (run (coding layout) events (first_world layout)).marks n ≡ Some life → IsSmall n)
-        → ((k p n : ℕ) (b : BrickId) (ask : Ask) → slice_get (run (coding layout) events (first_world layout)).marks k ≡ Some (Begin p n b ask) → IsSmall n)
-        → (k : ℕ) (mark : Mark) → slice_get (run (coding layout) events (first_world layout)).marks k ≡ Some mark → MarkReads mark
+    pub mark_reads : (length w.marks ≤ 10000000) → ((n : ℕ) → (life : Life)
+        → life_of w.marks n ≡ Some life → IsSmall n)
+        → ((k p n : ℕ) (b : BrickId) (ask : Ask) → slice_get w.marks k ≡ Some (Begin p n b ask) → IsSmall n)
+        → (k : ℕ) (mark : Mark) → slice_get w.marks k ≡ Some mark → MarkReads mark
     mark_reads few lives begins k (Begin p n b ask) at =
         let place = laws.without_gaps.placed k (Begin p n b ask) at in
-        let within = slice_get_within (run (coding layout) events (first_world layout)).marks k (Begin p n b ask) at in
+        let within = slice_get_within w.marks k (Begin p n b ask) at in
         let its = stands k (Begin p n b ask) at in
         let bricks = is.few_bricks in
         let there = its.0 in
         (omega (arith, place, within, few), begins k p n b ask at, omega (arith, bricks, there), ask_reads ask its.1)
     mark_reads few lives begins k (End p n answer) at =
         let place = laws.without_gaps.placed k (End p n answer) at in
-        let within = slice_get_within (run (coding layout) events (first_world layout)).marks k (End p n answer) at in
+        let within = slice_get_within w.marks k (End p n answer) at in
         let word = laws.words k p n answer at in
         (omega (arith, place, within, few), lives n word.0 word.2, answer_reads k p n answer at)
     mark_reads few lives begins k (Crash p b) at =
         let place = laws.without_gaps.placed k (Crash p b) at in
-        let within = slice_get_within (run (coding layout) events (first_world layout)).marks k (Crash p b) at in
+        let within = slice_get_within w.marks k (Crash p b) at in
         let bricks = is.few_bricks in
         let there = stands k (Crash p b) at in
         (omega (arith, place, within, few), omega (arith, bricks, there))
@@ -273,20 +271,20 @@ module _ (layout : Layout) (is : IsLayout layout) where
     ask_stays (Some life) more n later open' onward answer m word =
         word_fits m life.ask.op answer (subst (λ (l : Life). law.WordFits m layout.block l.ask.op answer) (sym (same_Some _ later onward)) word)
 
-    answers_fit : (i p n : ℕ) (answer : Answer) → slice_get (run (coding layout) events (first_world layout)).marks i ≡ Some (End p n answer)
-        → AnswerFits (life_of (take i (run (coding layout) events (first_world layout)).marks) n) answer
+    answers_fit : (i p n : ℕ) (answer : Answer) → slice_get w.marks i ≡ Some (End p n answer)
+        → AnswerFits (life_of (take i w.marks) n) answer
     answers_fit i p n answer at =
-        let marks : List Mark = (run (coding layout) events (first_world layout)).marks in
+        let marks : List Mark = w.marks in
         let word = laws.words i p n answer at in
-        ask_stays (life_of (take i (run (coding layout) events (first_world layout)).marks) n)
-        (drop i (run (coding layout) events (first_world layout)).marks) n word.0
+        ask_stays (life_of (take i w.marks) n)
+        (drop i w.marks) n word.0
         (laws.well_formed.ends_are_of_open i p n answer at)
-        (sym (life_of-append (take i (run (coding layout) events (first_world layout)).marks) (drop i (run (coding layout) events (first_world layout)).marks) n)
-        ∙ ap (λ (l : List Mark). life_of l n) (take-append-drop i (run (coding layout) events (first_world layout)).marks) ∙ word.2)
+        (sym (life_of-append (take i w.marks) (drop i w.marks) n)
+        ∙ ap (λ (l : List Mark). life_of l n) (take-append-drop i w.marks) ∙ word.2)
         answer word.1.m word.4
 
     -- The marks hold.
-    pub marks_hold : MarksHold layout (run (coding layout) events (first_world layout)).marks
+    pub marks_hold : MarksHold layout w.marks
     marks_hold = record {
       placed = laws.without_gaps.placed;
       numbered = laws.without_gaps.numbered;

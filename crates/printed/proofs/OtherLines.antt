@@ -200,7 +200,8 @@ pub record CountsRead (counts : Counts) : Type 0 where
 
 pub counts_piece : (lines : ℕ) (counts : Counts) → IsSmall lines → CountsRead counts → IsPiece 200 (counts_line lines counts)
 counts_piece lines counts small reads =
-    piece_most _ 200 _ (omega arith) (piece_both 12 _ _ _ (literal 12 (codes "count lines ") refl (omega arith)) (piece_both 20 _ _ _ (digits_piece lines small)
+    piece_most _ 200 _ (omega arith) (piece_both 12 _ _ _ (literal 12 (codes "count lines ") refl (omega arith)) (piece_both 20 _ _ _
+    (digits_piece lines small)
     (piece_both 7 _ _ _ (literal 7 (codes " begun ") refl (omega arith)) (piece_both 20 _ _ _ (digits_piece counts.begun reads.begun)
     (piece_both 10 _ _ _ (literal 10 (codes " answered ") refl (omega arith)) (piece_both 20 _ _ _ (digits_piece counts.answered reads.answered)
     (piece_both 9 _ _ _ (literal 9 (codes " aborted ") refl (omega arith)) (piece_both 20 _ _ _ (digits_piece counts.aborted reads.aborted)

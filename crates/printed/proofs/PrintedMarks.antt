@@ -13,7 +13,7 @@ use Rattle.protocol.specs.declared.tellings.Answered.{Answered}
 use Rattle.protocol.specs.declared.tellings.Told.{Told}
 use Rattle.protocol.specs.declared.tellings.Told.TheVariants as told
 use Rattle.protocol.specs.Nodes.{NodeStep, put, refusal_of, invoked, received}
-use Rattle.protocol.specs.Worlds.{World, Event, Found, Invokes, Delivers, Sets, Ticks, Stops, Starts, Before, After, number_of, is_brick, is_up, may_start, world_began, world_told, world_tells, world_answered, world_answers, world_stepped, world_ticked, world_stopped, world_found, world_started, replies_with, delivered, packet_of, happens, run}
+use Rattle.protocol.specs.Worlds.{World, Event, first_world, Found, Invokes, Delivers, Sets, Ticks, Stops, Starts, Before, After, number_of, is_brick, is_up, may_start, world_began, world_told, world_tells, world_answered, world_answers, world_stepped, world_ticked, world_stopped, world_found, world_started, replies_with, delivered, packet_of, happens, run}
 use Rattle.lines.specs.declared.forms.Line.{Line}
 use Rattle.lines.specs.declared.forms.Line.TheVariants.{Nothing, Invoke, Deliver, SetClock, Tick, Crash, Start, Calm}
 use Rattle.fab_base.specs.Layouts.{Layout}
@@ -31,8 +31,8 @@ use Rattle.world.specs.Texts.{mark_text, marks_text, new_marks, is_deliverable, 
 use Rattle.world.specs.declared.simulations.Outcome.{Outcome}
 use Rattle.world.specs.declared.simulations.Outcome.TheVariants.{Marks, Refused, Idle}
 use Rattle.printed.specs.Printed.{Printed, OfMark, OfRefusal, OfNothing, printed_text, printed_texts, marks_in, printed_marks}
-use Rattle.printed.specs.Outputs.{steps_text}
-use Rattle.printed.specs.LineSteps.{LeadsTo}
+use Rattle.printed.specs.Outputs.{left_by, steps_text}
+use Rattle.printed.specs.LineSteps.{LeadsTo, AreStepsOf}
 
 -- the lines that an outcome prints, with the marks that were made
 abbrev lines_of : Outcome → List Mark → List Printed
@@ -122,12 +122,14 @@ outcome_printed Idle marks = sym (append-nil (printed_text OfNothing))
 texts_both : (one other : List Printed) → printed_texts (one ++ other) ≡ printed_texts one ++ printed_texts other
 texts_both [] other = refl
 texts_both (line ∷ one) other =
-    ap (λ (text : List ℕ). printed_text line ++ text) (texts_both one other) ∙ sym (append_assoc (printed_text line) (printed_texts one) (printed_texts other))
+    ap (λ (text : List ℕ). printed_text line ++ text) (texts_both one other)
+    ∙ sym (append_assoc (printed_text line) (printed_texts one) (printed_texts other))
 
 marks_both : (one other : List Printed) → printed_marks (one ++ other) ≡ printed_marks one ++ printed_marks other
 marks_both [] other = refl
 marks_both (line ∷ one) other =
-    ap (λ (marks : List Mark). marks_in line ++ marks) (marks_both one other) ∙ sym (append_assoc (marks_in line) (printed_marks one) (printed_marks other))
+    ap (λ (marks : List Mark). marks_in line ++ marks) (marks_both one other)
+    ∙ sym (append_assoc (marks_in line) (printed_marks one) (printed_marks other))
 
 -- what stands behind the first marks
 behind : (marks more : List Mark) → drop (length marks) (marks ++ more) ≡ more
@@ -139,7 +141,8 @@ record IsPrinted (w next : World) (outcome : Outcome) (most : ℕ) : Type 0 wher
   marks : next.marks ≡ w.marks ++ printed_marks (lines_of outcome (new_marks w next))
   few : others (lines_of outcome (new_marks w next)) ≤ most
 
-printed_more : (w next : World) (more : List Mark) (most : ℕ) → next.marks ≡ w.marks ++ more → others (map OfMark more) ≤ most → IsPrinted w next Marks most
+printed_more : (w next : World) (more : List Mark) (most : ℕ) → next.marks ≡ w.marks ++ more → others (map OfMark more) ≤ most
+    → IsPrinted w next Marks most
 printed_more w next more most is few =
     let new : new_marks w next ≡ more = ap (λ (l : List Mark). drop (length w.marks) l) is ∙ behind w.marks more in
     record {
@@ -212,7 +215,8 @@ invoked_printed w next false refusal printed = printed_refused w Down
 invoked_printed w next true None printed = printed
 invoked_printed w next true (Some refusal) printed = printed_refused w refusal
 
-started_printed : (w : World) (brick : BrickId) (openings : ℕ) (found : Found) → IsPrinted w (world_started (world_found w brick found) brick openings) Marks 1
+started_printed : (w : World) (brick : BrickId) (openings : ℕ) (found : Found)
+    → IsPrinted w (world_started (world_found w brick found) brick openings) Marks 1
 started_printed w brick openings Before = printed_none w (world_started w brick openings) 1 refl
 started_printed w brick openings After = printed_none w (world_started (world_found w brick After) brick openings) 1 refl
 
@@ -295,10 +299,12 @@ idle_stays : (setting : Setting) (w : World) (number : ℕ) (packet : Option Pac
     → delivered setting w number packet ≡ w
 idle_stays setting w number None idle = refl
 idle_stays setting w number (Some packet) idle =
-    ap (λ (b : Bool). cond b (world_stepped setting (record w { replies = replies_with setting w packet; reached = put w.reached number true }) packet.to
+    ap (λ (b : Bool). cond b (world_stepped setting
+    (record w { replies = replies_with setting w packet; reached = put w.reached number true }) packet.to
     (received setting packet.to (w.clocks packet.to.0) (w.nodes packet.to.0) packet)) w) idle
 
-delivers_is : (setting : Setting) (w : World) (number : ℕ) → happens setting w (Delivers number) ≡ delivered setting w number (packet_of w.packets number)
+delivers_is : (setting : Setting) (w : World) (number : ℕ)
+    → happens setting w (Delivers number) ≡ delivered setting w number (packet_of w.packets number)
 unfolding happens
 delivers_is setting w number = refl
 
@@ -307,7 +313,8 @@ module _ (setting : Setting) (n : ℕ) (bricks : List BrickId) (w : World) (numb
     (next_is : next_delivery w n bricks ≡ Some number) (idle : is_deliverable setting w (packet_of w.packets number) ≡ false) where
   no_end : (v last : World) (events : List Event) → RunsAlone setting n bricks v events last → v ≡ w → ⊥
   no_end _ _ _ (Ended v ended) same =
-      let never : is_some (open_call w n) ≡ false = ap (λ (x : World). is_some (open_call x n)) (sym same) ∙ ap (λ (o : Option Coordinator). is_some o) ended in
+      let never : is_some (open_call w n) ≡ false = ap (λ (x : World). is_some (open_call x n)) (sym same)
+      ∙ ap (λ (o : Option Coordinator). is_some o) ended in
       (let bad : true ≡ false = sym open_is ∙ never in cc)
   no_end _ _ _ (Stuck v opens none) same =
       (let bad : None ≡ Some number = sym none ∙ ap (λ (x : World). next_delivery x n bricks) same ∙ next_is in cc)
@@ -384,7 +391,7 @@ calm_printed setting n numbers w last (event ∷ events) runs =
     (alone_printed setting n (map brick_of numbers) w last (event ∷ events) runs)
 
 -- What the events of a line print.
-pub line_printed : (layout : Layout) (w : World) (old new : List MemDisk) (line : Line) (events : List Event) → IsEventsOf layout w old new line events
+line_printed : (layout : Layout) (w : World) (old new : List MemDisk) (line : Line) (events : List Event) → IsEventsOf layout w old new line events
     → IsPrintedAs w (run (coding layout) events w) (line_text (coding layout) w line events) 1
 line_printed layout w old new Nothing events are = of_none (coding layout) w Nothing events are (nothing_printed w 1)
 line_printed layout w old new (Invoke b g s access) events are = of_one (coding layout) w (Invoke b g s access) _ events are
@@ -402,13 +409,14 @@ line_printed layout w old new (Calm n numbers) events (inr none) =
     of_none (coding layout) w (Calm n numbers) events none.1 (idle_printed (coding layout) n numbers w)
 
 -- the world that a step leaves
-after_step : (before after : Run) (line : Line) (step : Step) → Runs before after line step
+pub after_step : (before after : Run) (line : Line) (step : Step) → Runs before after line step
     → world_of after ≡ run (coding before.layout) step.events (world_of before)
 after_step before after line step runs = ap world_of runs.run ∙ world_of-with_step before step after.disks
 
 -- What steps print that were taken one after another.
-pub steps_printed : (r last : Run) (steps : List Step) → LeadsTo r steps last
-    → IsPrintedAs (world_of r) (run (coding r.layout) (all_events steps) (world_of r)) (steps_text (coding r.layout) (world_of r) steps) (length steps)
+steps_printed : (r last : Run) (steps : List Step) → LeadsTo r steps last
+    → IsPrintedAs (world_of r) (run (coding r.layout) (all_events steps) (world_of r)) (steps_text (coding r.layout) (world_of r) steps)
+    (length steps)
 steps_printed r last [] leads = nothing_printed (world_of r) 0
 steps_printed r last (step ∷ steps) leads =
     let setting : Setting = coding r.layout in
@@ -426,3 +434,13 @@ steps_printed r last (step ∷ steps) leads =
     (most_printed w (run setting (all_events steps) next) (steps_text setting w (step ∷ steps)) (1 + length steps) (suc (length steps)) (omega arith)
     (both_printed w next (run setting (all_events steps) next) (step_text setting w step) (steps_text setting next steps) 1 (length steps)
     (line_printed r.layout w r.disks leads.0.disks step.line step.events leads.1.events_are) rest))
+
+-- What the steps of a whole schedule print, from fresh bricks on.
+pub schedule_printed : (layout : Layout) (schedule : List (List ℕ)) (steps : List Step) → AreStepsOf layout schedule steps
+    → IsPrintedAs (first_world layout) (left_by layout steps) (steps_text (coding layout) (first_world layout) steps) (length steps)
+schedule_printed layout schedule steps are =
+    subst (λ (v : World). IsPrintedAs v (run (coding layout) (all_events steps) v) (steps_text (coding layout) v steps) (length steps))
+    (ap world_of are.first_is)
+    (subst (λ (l : Layout). IsPrintedAs (world_of are.first) (run (coding l) (all_events steps) (world_of are.first))
+    (steps_text (coding l) (world_of are.first) steps) (length steps)) (ap (λ (r : Run). r.layout) are.first_is)
+    (steps_printed are.first are.last steps are.leads))

@@ -26,7 +26,8 @@ use Rattle.printed.proofs.OtherLines.{refusal_line, refusal_ends, refusal_piece,
 abbrev pub Reads : ℕ → Transcribed → List (List ℕ) → ℕ → Transcribed → Type 0
 Reads n t lines m u = (more : List (List ℕ)) → text_behind n t (lines ++ more) ≡ text_behind m u more
 
-pub reads_both : (n m k : ℕ) (t u v : Transcribed) (one other : List (List ℕ)) → Reads n t one m u → Reads m u other k v → Reads n t (one ++ other) k v
+pub reads_both : (n m k : ℕ) (t u v : Transcribed) (one other : List (List ℕ)) → Reads n t one m u → Reads m u other k v
+    → Reads n t (one ++ other) k v
 reads_both n m k t u v one other first second more =
     ap (text_behind n t) (append_assoc one other more) ∙ first (other ++ more) ∙ second more
 
@@ -221,7 +222,8 @@ unfolding text_behind
 text_ends n claims lines counts = refl
 
 -- The line of the counts ends a whole text.
-pub counts_end : (n lines : ℕ) (claims : List Claim) (stripes : List StripeLine) (counts : Counts) → n < most_lines → IsSmall lines → CountsRead counts
+pub counts_end : (n lines : ℕ) (claims : List Claim) (stripes : List StripeLine) (counts : Counts) → n < most_lines → IsSmall lines
+    → CountsRead counts
     → text_behind n (of_stripes claims stripes) (counts_line lines counts ∷ [])
     ≡ Whole (record { claims = claims; stripes = stripes; counts = Some counts }) counts
 counts_end n lines claims stripes counts few small reads =

@@ -226,7 +226,8 @@ handle_fits code m full seat replica (Request.OrderRead t look want) fits reads 
     let reply : Reply = Reply.OrderedRead (told_version (is_wanted want seat) (looked_up look replica.log)) in
     cond_both (stamp_below t (top_of replica)) (stays replica (Reply.Later (top_of replica))) _ (λ (z : Reaction). ReactionFits z)
     (λ below. refuses_fits replica fits)
-    (λ at. unless_full_fits full replica (promised replica t reply) fits (record { part = promised_part replica t reply fits (reads t refl); reply = tt }))
+    (λ at. unless_full_fits full replica (promised replica t reply) fits
+    (record { part = promised_part replica t reply fits (reads t refl); reply = tt }))
 handle_fits code m full seat replica (Request.Modify t base j delta) fits reads =
     modified_each code m seat (λ (z : Reaction). ReactionFits z) full replica t base j delta
     (record { part = fits; reply = tt }) (λ below. refuses_fits replica fits) (λ newest. record { part = fits; reply = tt })
@@ -260,9 +261,11 @@ replies_fit : (bricks : ℕ) (me to : BrickId) (call : Call) (reply : Option Rep
     → AreFit bricks (reply_packets me to call reply)
 replies_fit bricks me to call None there fits = no_packets bricks
 replies_fit bricks me to call (Some reply) there fits =
-    one_packet bricks (record { from = me; to = to; message = Message.Reply call reply }) [] (record { from = there; message = fits }) (no_packets bricks)
+    one_packet bricks (record { from = me; to = to; message = Message.Reply call reply }) [] (record { from = there; message = fits })
+    (no_packets bricks)
 
-reacted_fits : (bricks : ℕ) (me from : BrickId) (node : Node) (call : Call) (reaction : Reaction) → me.0 < bricks → NodeFits node → ReactionFits reaction
+reacted_fits : (bricks : ℕ) (me from : BrickId) (node : Node) (call : Call) (reaction : Reaction) → me.0 < bricks → NodeFits node
+    → ReactionFits reaction
     → StepFits bricks node.boot (reacted me from node call reaction)
 reacted_fits bricks me from node call reaction there fits goes = record {
   node = record {
@@ -275,10 +278,12 @@ reacted_fits bricks me from node call reaction there fits goes = record {
   packets = replies_fit bricks me from call reaction.reply there goes.reply;
 }
 
-requested_fits : (setting : Setting) (me from : BrickId) (node : Node) (call : Call) (request : Request) → me.0 < setting.layout.bricks → NodeFits node
+requested_fits : (setting : Setting) (me from : BrickId) (node : Node) (call : Call) (request : Request) → me.0 < setting.layout.bricks
+    → NodeFits node
     → RequestFits request → StepFits setting.layout.bricks node.boot (requested setting me from node call request)
 requested_fits setting me from node call request there fits reads =
-    request_each (λ step. StepFits setting.layout.bricks node.boot step) setting me from node call request (quiet_fits setting.layout.bricks node fits)
+    request_each (λ step. StepFits setting.layout.bricks node.boot step) setting me from node call request
+    (quiet_fits setting.layout.bricks node fits)
     (λ group seat here at view.
     reacted_fits setting.layout.bricks me from node call
     (handle setting.code group.m (full_at setting.layout.records node.live) seat (replica_at node call) request) there fits
@@ -291,12 +296,14 @@ time_fits now known clock later =
     let left : known < 2 ^ 64 - 1 = ltb-true known (2 ^ 64 - 1) later in
     omega arith
 
-stamp_fits : (layout : Layout) (me : BrickId) (view : ViewNo) (now boot known : ℕ) → layout.bricks ≤ 64 → me.0 < layout.bricks → IsSmall view.0 → IsSmall now
+stamp_fits : (layout : Layout) (me : BrickId) (view : ViewNo) (now boot known : ℕ) → layout.bricks ≤ 64 → me.0 < layout.bricks → IsSmall view.0
+    → IsSmall now
     → IsSmall boot → has_later_time known ≡ true → StampReads (new_stamp me view now boot known)
 stamp_fits layout me view now boot known few there seen clock opened later =
     record { view = seen; time = time_fits now known clock later; brick = omega arith; boot = opened }
 
-fresh_fits : (layout : Layout) (me : BrickId) (view : ViewNo) (now boot known : ℕ) (t : Stamp) → layout.bricks ≤ 64 → me.0 < layout.bricks → IsSmall view.0
+fresh_fits : (layout : Layout) (me : BrickId) (view : ViewNo) (now boot known : ℕ) (t : Stamp) → layout.bricks ≤ 64 → me.0 < layout.bricks
+    → IsSmall view.0
     → IsSmall now → IsSmall boot → fresh_stamp me view now boot known ≡ Some t → StampReads t
 fresh_fits layout me view now boot known t few there seen clock opened is =
     cond_both (has_later_time known) (Some (new_stamp me view now boot known)) None (λ (o : Option Stamp). o ≡ Some t → StampReads t)
@@ -382,14 +389,17 @@ counted_reads block code fresh c from reply (Some seat) fits reads =
 reply_reads : (block : ℕ) (code : Code) (fresh : Option Stamp) (c : Coordinator) (from : BrickId) (call : Call) (reply : Reply) → CallFits c
     → ((t : Stamp) → fresh ≡ Some t → StampReads t) → NextReads (on_reply block code fresh c from call reply)
 unfolding on_reply
-reply_reads block code fresh c from call reply fits reads = counted_reads block code fresh c from reply (counts_at block c from.0 call reply) fits reads
+reply_reads block code fresh c from call reply fits reads = counted_reads block code fresh c from reply
+    (counts_at block c from.0 call reply) fits reads
 
 replied_fits : (setting : Setting) (me : BrickId) (now : ℕ) (from : BrickId) (node : Node) (call : Call) (reply : Reply) → setting.layout.bricks ≤ 64
-    → me.0 < setting.layout.bricks → IsSmall now → NodeFits node → StepFits setting.layout.bricks node.boot (replied setting me now from node call reply)
+    → me.0 < setting.layout.bricks → IsSmall now → NodeFits node
+    → StepFits setting.layout.bricks node.boot (replied setting me now from node call reply)
 unfolding replied
 replied_fits setting me now from node call reply few there clock fits = at_call (node.calls call.seq) refl
   where
-    at_call : (z : Option Coordinator) → node.calls call.seq ≡ z → StepFits setting.layout.bricks node.boot (replied_at setting me now from node call reply z)
+    at_call : (z : Option Coordinator) → node.calls call.seq ≡ z
+        → StepFits setting.layout.bricks node.boot (replied_at setting me now from node call reply z)
     at_call None is = record {
       node = record { boot = fits.boot; views = fits.views; parts = fits.parts; calls = fits.calls };
       opened_as = refl;
@@ -398,10 +408,12 @@ replied_fits setting me now from node call reply few there clock fits = at_call 
     at_call (Some c) is =
         let known : ℕ = known_after node.known reply in
         carried_fits setting me node (known_after node.known reply) c
-        (on_reply setting.layout.block setting.code (fresh_stamp me c.call.view now node.boot (known_after node.known reply)) c from call reply) there fits
+        (on_reply setting.layout.block setting.code (fresh_stamp me c.call.view now node.boot
+        (known_after node.known reply)) c from call reply) there fits
         (reply_reads setting.layout.block setting.code (fresh_stamp me c.call.view now node.boot (known_after node.known reply)) c from call reply
         (fits.calls call.seq c is)
-        (λ t made. fresh_fits setting.layout me c.call.view now node.boot (known_after node.known reply) t few there (fits.calls call.seq c is).view clock
+        (λ t made. fresh_fits setting.layout me c.call.view now node.boot (known_after node.known reply) t few there
+        (fits.calls call.seq c is).view clock
         fits.boot made))
 
 received_fits : (setting : Setting) (now : ℕ) (from to : BrickId) (message : Message) (node : Node) → setting.layout.bricks ≤ 64
@@ -432,7 +444,8 @@ later_time : (a b : Bool) → not a || b ≡ false → a ≡ true
 later_time true b is = refl
 later_time false b is = absurd (let never : true ≡ false = is in cc)
 
-refusal_time : (block : ℕ) (node : Node) (ask : Ask) (found : Option Group) → refusal_in block node ask found ≡ None → has_later_time node.known ≡ true
+refusal_time : (block : ℕ) (node : Node) (ask : Ask) (found : Option Group) → refusal_in block node ask found ≡ None
+    → has_later_time node.known ≡ true
 refusal_time block node ask None none = absurd (let never : Some Refusal.NoStripe ≡ None = none in cc)
 refusal_time block node ask (Some group) none =
     let first = spent_not _ _ Refusal.NoStripe none in
@@ -467,7 +480,8 @@ invoked_fits setting me now node ask few there clock fits later = in_group (grou
     in_group (Some group) =
         let c : Coordinator = new_coordinator group me now node ask in
         let call : CallFits (new_coordinator group me now node ask) = record {
-          stamp = stamp_fits setting.layout me (node.learnt ask.group.0).view.number now node.boot node.known few there (fits.views ask.group.0) clock fits.boot
+          stamp = stamp_fits setting.layout me (node.learnt ask.group.0).view.number now node.boot node.known few there
+              (fits.views ask.group.0) clock fits.boot
               later;
           view = fits.views ask.group.0;
         } in
@@ -476,7 +490,8 @@ invoked_fits setting me now node ask few there clock fits later = in_group (grou
             boot = fits.boot;
             views = fits.views;
             parts = fits.parts;
-            calls = put_each (λ k z. (d : Coordinator) → z ≡ Some d → CallFits d) node.calls (node.seq + 1) (Some (new_coordinator group me now node ask))
+            calls = put_each (λ k z. (d : Coordinator) → z ≡ Some d
+                → CallFits d) node.calls (node.seq + 1) (Some (new_coordinator group me now node ask))
                 (λ d is. some_call (new_coordinator group me now node ask) d call is) (λ k other. fits.calls k);
           };
           opened_as = refl;
@@ -541,8 +556,10 @@ node_changes setting w next me node more fits clocks after nodes packets new sam
   after = subst (λ (f : ℕ → Node). (i : ℕ) → NodeFits (f i)) (sym after) fits.after;
   boots = subst (λ (f : ℕ → Node). (i : ℕ) → (next.after i).boot ≤ (f i).boot) (sym nodes)
       (subst (λ (f : ℕ → Node). (i : ℕ) → (f i).boot ≤ (put w.nodes me.0 node i).boot) (sym after)
-      (put_each (λ j n. (w.after j).boot ≤ n.boot) w.nodes me.0 node (let old = fits.boots me.0 in omega (arith, old, same)) (λ j other. fits.boots j)));
-  packets = subst (λ (l : List Packet). AreFit setting.layout.bricks l) (sym packets) (packets_both setting.layout.bricks w.packets more fits.packets sent);
+      (put_each (λ j n. (w.after j).boot ≤ n.boot) w.nodes me.0 node (let old = fits.boots me.0 in omega (arith, old, same))
+      (λ j other. fits.boots j)));
+  packets = subst (λ (l : List Packet). AreFit setting.layout.bricks l) (sym packets)
+      (packets_both setting.layout.bricks w.packets more fits.packets sent);
 }
 
 stepped_fits : (setting : Setting) (w : World) (number : ℕ) (packet : Packet) → setting.layout.bricks ≤ 64 → WorldFits setting w
@@ -560,7 +577,8 @@ stepped_fits setting w number packet few fits up reads =
     in
     let told = tells_keep setting counted packet.to step.told in
     let answered = answers_keep (world_tells setting counted packet.to step.told) packet.to step.answers in
-    node_changes setting w (world_stepped setting counted packet.to step) packet.to step.node step.packets fits (answered.0 ∙ told.0) (answered.1 ∙ told.1)
+    node_changes setting w (world_stepped setting counted packet.to step) packet.to step.node step.packets fits (answered.0 ∙ told.0) (answered.1
+    ∙ told.1)
     refl refl steps.node steps.opened_as steps.packets
 
 delivered_fits : (setting : Setting) (w : World) (number : ℕ) (packet : Option Packet) → setting.layout.bricks ≤ 64 → WorldFits setting w
@@ -587,11 +605,13 @@ left_fits setting w brick (Some packet) fits there reads =
     cond_both (nat_eq packet.to.0 brick.0) (stopped (absorbed setting brick (w.nodes brick.0) packet)) (stopped (w.nodes brick.0))
     (λ (n : Node). LeftFits (w.nodes brick.0) n)
     (λ its.
-    let kept = absorbed_fits setting packet.from packet.to brick packet.message (w.nodes brick.0) there (fits.nodes brick.0) (reads packet refl).message in
+    let kept = absorbed_fits setting packet.from packet.to brick packet.message (w.nodes brick.0) there (fits.nodes brick.0)
+    (reads packet refl).message in
     (stopped_fits (absorbed setting brick (w.nodes brick.0) packet) kept.0, stopped_boot (absorbed setting brick (w.nodes brick.0) packet) ∙ kept.1))
     (λ other. (stopped_fits (w.nodes brick.0) (fits.nodes brick.0), stopped_boot (w.nodes brick.0)))
 
-during_fits : (setting : Setting) (w : World) (during : Option ℕ) (packet : Packet) → WorldFits setting w → packet_during w.packets during ≡ Some packet
+during_fits : (setting : Setting) (w : World) (during : Option ℕ) (packet : Packet) → WorldFits setting w
+    → packet_during w.packets during ≡ Some packet
     → PacketFits setting.layout.bricks packet
 during_fits setting w None packet fits is = absurd (let never : None ≡ Some packet = is in cc)
 during_fits setting w (Some number) packet fits is = let at = packet_at w.packets number packet is in fits.packets at.0 packet at.1
@@ -684,7 +704,8 @@ happens_fits setting w (Invokes brick ask) few fits event =
     let up = (and_parts (is_up setting.layout w brick) (not (is_some (refusal_of setting.layout (w.nodes brick.0) ask))) may).0 in
     let steps = invoked_fits setting brick (w.clocks brick.0) (w.nodes brick.0) ask few (up_brick setting.layout w brick up) (fits.clocks brick.0)
     (fits.nodes brick.0) (begins_time setting w brick ask may) in
-    node_changes setting w (world_began w brick ask step) brick step.node step.packets fits refl refl refl refl steps.node steps.opened_as steps.packets)
+    node_changes setting w
+    (world_began w brick ask step) brick step.node step.packets fits refl refl refl refl steps.node steps.opened_as steps.packets)
     (λ isnt. fits)
 happens_fits setting w (Delivers number) few fits event = delivered_fits setting w number (packet_of w.packets number) few fits refl
 happens_fits setting w (Sets brick time) few fits event =
@@ -720,7 +741,8 @@ happens_fits setting w (Starts brick openings found) few fits event =
 pub run_fits : (setting : Setting) (events : List Event) (w : World) → setting.layout.bricks ≤ 64 → WorldFits setting w → EventsFit events
     → WorldFits setting (run setting events w)
 run_fits setting [] w few fits all = fits
-run_fits setting (event ∷ events) w few fits all = run_fits setting events (happens setting w event) few (happens_fits setting w event few fits all.0) all.1
+run_fits setting (event ∷ events) w few fits all = run_fits setting events (happens setting w event) few
+    (happens_fits setting w event few fits all.0) all.1
 
 first_reads : StampReads first_stamp
 first_reads = record { view = omega arith; time = omega arith; brick = omega arith; boot = omega arith }

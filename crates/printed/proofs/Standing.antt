@@ -25,7 +25,8 @@ MarkStands setting (Crash p b) = b.0 < setting.layout.bricks
 abbrev pub AllStand : Setting → List Mark → Type 0
 AllStand setting marks = (k : ℕ) (mark : Mark) → slice_get marks k ≡ Some mark → MarkStands setting mark
 
-one_more : (setting : Setting) (marks : List Mark) (mark : Mark) → AllStand setting marks → MarkStands setting mark → AllStand setting (marks ++ (mark ∷ []))
+one_more : (setting : Setting) (marks : List Mark) (mark : Mark) → AllStand setting marks → MarkStands setting mark
+    → AllStand setting (marks ++ (mark ∷ []))
 one_more setting marks mark all new k one at = ⊎_elim
     (λ (old : slice_get marks k ≡ Some one). all k one old)
     (λ (last : (k ≡ length marks) × (mark ≡ one)). subst (λ (m : Mark). MarkStands setting m) last.1 new)
@@ -77,7 +78,8 @@ happens_stand setting w (Delivers number) all = delivered_stand setting w number
 happens_stand setting w (Sets brick time) all =
     cond_both (is_brick setting.layout brick) _ w (λ (next : World). AllStand setting next.marks) (λ is. all) (λ isnt. all)
 happens_stand setting w (Ticks brick) all =
-    cond_both (is_up setting.layout w brick) (world_ticked setting w brick) w (λ (next : World). AllStand setting next.marks) (λ up. all) (λ down. all)
+    cond_both (is_up setting.layout w brick) (world_ticked setting w brick) w (λ (next : World). AllStand setting next.marks) (λ up. all)
+    (λ down. all)
 happens_stand setting w (Stops brick during) all =
     cond_both (is_up setting.layout w brick) (world_stopped setting w brick during) w (λ (next : World). AllStand setting next.marks)
     (λ up. one_more setting w.marks (Crash (length w.marks) brick) all (up_brick setting.layout w brick up)) (λ down. all)

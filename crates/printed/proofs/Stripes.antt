@@ -168,8 +168,11 @@ said_elsewhere g s h t (first ∷ happenings) other = ap (λ (b : Bool). cond b 
 
 each_reads : (happenings : List Happening) → All (λ (h : Happening). HappeningReads h) happenings → AllRead happenings
 each_reads [] all = tt
-each_reads (h ∷ happenings) all =
-    (All-head (λ (x : Happening). HappeningReads x) h happenings all, each_reads happenings (All-tail (λ (x : Happening). HappeningReads x) h happenings all))
+each_reads (h ∷ happenings) all = (
+  All-head (λ (x : Happening). HappeningReads x) h happenings all,
+  each_reads happenings
+      (All-tail (λ (x : Happening). HappeningReads x) h happenings all),
+)
 
 stripe_text : (g s : ℕ) (happenings : List Happening) → happened_text g s happenings ≡ text_of_lines (stripe_contents g s happenings)
 stripe_text g s [] = refl
@@ -207,7 +210,8 @@ module _ (layout : Layout) (marks : List Mark) (of : ℕ → ℕ → List Happen
       by (Some life) is in' =
           let low : end_of life.ending ≤ 3000000 =
           subst (LowLife 3000000) is (life_low (stripe_marks g s marks) h.operation 3000000
-          (below_filter 3000000 (concerns g s marks) marks (below_placed 3000000 0 marks (λ k mark at. let place = story.placed k mark at in omega arith)
+          (below_filter 3000000 (concerns g s marks) marks (below_placed 3000000 0 marks
+          (λ k mark at. let place = story.placed k mark at in omega arith)
           (let few = story.few_marks in omega arith))))
           in
           let number = lives g s h.operation (life_of marks h.operation) refl life is in
@@ -234,7 +238,8 @@ module _ (layout : Layout) (marks : List Mark) (of : ℕ → ℕ → List Happen
   reads_stripe : (g s : ℕ) (group : Group) → group_of layout g ≡ Some group → s < group.stripes → StripeReads g s (of g s)
   reads_stripe g s group is within =
       let its = story.strict g s group is in
-      let long = length-le_from_distinct_below (map (λ (h : Happening). h.operation) (of g s)) 1500001 its.once (numbers_low g s (of g s) its.in_time) in
+      let long = length-le_from_distinct_below (map (λ (h : Happening). h.operation) (of g s)) 1500001 its.once
+      (numbers_low g s (of g s) its.in_time) in
       let same = length-map (of g s) (λ (h : Happening). h.operation) in
       record {
         group = story.group_small g group is;
@@ -245,16 +250,19 @@ module _ (layout : Layout) (marks : List Mark) (of : ℕ → ℕ → List Happen
 
   -- a stripe with happenings has a Begin of its own
   own_begin : (g s : ℕ) (group : Group) → group_of layout g ≡ Some group → (h : Happening) (rest : List Happening) → of g s ≡ h ∷ rest
-      → (k : ℕ) × (p : ℕ) × (n : ℕ) × (b : BrickId) × (ask : Ask) × (slice_get marks k ≡ Some (Begin p n b ask)) × (ask.group.0 ≡ g) × (ask.stripe.0 ≡ s)
+      → (k : ℕ) × (p : ℕ) × (n : ℕ) × (b : BrickId) × (ask : Ask) × (slice_get marks k ≡ Some (Begin p n b ask)) × (ask.group.0 ≡ g) ×
+      (ask.stripe.0 ≡ s)
   own_begin g s group is h rest some =
       let first : IsInTime (life_of (stripe_marks g s marks) h.operation) h.position =
       All-head (λ (x : Happening). IsInTime (life_of (stripe_marks g s marks) x.operation) x.position) h rest
-      (subst (λ (l : List Happening). All (λ (x : Happening). IsInTime (life_of (stripe_marks g s marks) x.operation) x.position) l) some (story.strict g s group is).in_time)
+      (subst (λ (l : List Happening). All (λ (x : Happening). IsInTime (life_of (stripe_marks g s marks) x.operation) x.position) l) some
+      (story.strict g s group is).in_time)
       in
       by (life_of (stripe_marks g s marks) h.operation) refl first
     where
       by : (o : Option Life) → life_of (stripe_marks g s marks) h.operation ≡ o → IsInTime o h.position
-          → (k : ℕ) × (p : ℕ) × (n : ℕ) × (b : BrickId) × (ask : Ask) × (slice_get marks k ≡ Some (Begin p n b ask)) × (ask.group.0 ≡ g) × (ask.stripe.0 ≡ s)
+          → (k : ℕ) × (p : ℕ) × (n : ℕ) × (b : BrickId) × (ask : Ask) × (slice_get marks k ≡ Some (Begin p n b ask)) × (ask.group.0 ≡ g) ×
+          (ask.stripe.0 ≡ s)
       by None at in' = absurd in'
       by (Some life) at in' =
           let has = life_begins (stripe_marks g s marks) h.operation life at in
@@ -334,7 +342,8 @@ module _ (layout : Layout) (marks : List Mark) (of : ℕ → ℕ → List Happen
         outside : (ask : Ask) → ask.group.0 ≡ g → ask.stripe.0 ≡ s → (nat_lt ask.group.0 g || (nat_eq ask.group.0 g && nat_lt ask.stripe.0 s)) ≡ false
         outside ask group_is stripe_is = grind (arith, nat_tests)
 
-        inside : (ask : Ask) → ask.group.0 ≡ g → ask.stripe.0 ≡ s → (nat_lt ask.group.0 g || (nat_eq ask.group.0 g && nat_lt ask.stripe.0 (s + 1))) ≡ true
+        inside : (ask : Ask) → ask.group.0 ≡ g → ask.stripe.0 ≡ s
+            → (nat_lt ask.group.0 g || (nat_eq ask.group.0 g && nat_lt ask.stripe.0 (s + 1))) ≡ true
         inside ask group_is stripe_is = grind (arith, nat_tests)
 
     lines_of_layout : (g s : ℕ) (group : Group) (happenings : List Happening) → group_of layout g ≡ Some group → s < group.stripes
@@ -373,7 +382,8 @@ module _ (layout : Layout) (marks : List Mark) (of : ℕ → ℕ → List Happen
         record {
           lines = stage.lines ++ stripe_lines g s (of g s);
           contents = stage.contents ++ stripe_contents g s (of g s);
-          text_is = ap (λ (l : List ℕ). l ++ happened_text g s (of g s)) stage.text_is ∙ ap (λ (l : List ℕ). text_of_lines stage.contents ++ l) (stripe_text g s (of g s))
+          text_is = ap (λ (l : List ℕ). l ++ happened_text g s (of g s)) stage.text_is
+              ∙ ap (λ (l : List ℕ). text_of_lines stage.contents ++ l) (stripe_text g s (of g s))
               ∙ sym (lines_both stage.contents (stripe_contents g s (of g s)));
           clear = clear_all stage.contents (stripe_contents g s (of g s)) stage.clear (stripe_clear g s (of g s) (reads_stripe g s group is within));
           before = before_both stage.lines (stripe_lines g s (of g s)) g (s + 1) (before_stripe stage.lines g s (s + 1) (omega arith) stage.before)
@@ -381,10 +391,14 @@ module _ (layout : Layout) (marks : List Mark) (of : ℕ → ℕ → List Happen
           few = omega (arith, long, few, more);
           reads = subst (λ (k : ℕ). Reads start (of_stripes claims []) (stage.contents ++ stripe_contents g s (of g s)) k
               (of_stripes claims (stage.lines ++ stripe_lines g s (of g s))))
-              (let same : (start + length stage.lines) + length (stripe_lines g s (of g s)) ≡ start + length (stage.lines ++ stripe_lines g s (of g s)) = omega (arith, long) in same)
-              (reads_both start (start + length stage.lines) ((start + length stage.lines) + length (stripe_lines g s (of g s))) (of_stripes claims [])
-              (of_stripes claims stage.lines) (of_stripes claims (stage.lines ++ stripe_lines g s (of g s))) stage.contents (stripe_contents g s (of g s)) stage.reads
-              (stripe_read g s (of g s) (start + length stage.lines) claims stage.lines (omega (arith, few, more, all, room)) (reads_stripe g s group is within) stage.before));
+              (let same : (start + length stage.lines) + length (stripe_lines g s (of g s)) ≡ start + length
+              (stage.lines ++ stripe_lines g s (of g s)) = omega (arith, long) in same)
+              (reads_both start (start + length stage.lines) ((start + length stage.lines) + length (stripe_lines g s (of g s)))
+              (of_stripes claims [])
+              (of_stripes claims stage.lines) (of_stripes claims (stage.lines ++ stripe_lines g s (of g s))) stage.contents
+              (stripe_contents g s (of g s)) stage.reads
+              (stripe_read g s (of g s) (start + length stage.lines) claims stage.lines (omega (arith, few, more, all, room))
+              (reads_stripe g s group is within) stage.before));
           said = said_more g s stage.lines stage.before stage.said;
           of_layout = layout_both stage.lines (stripe_lines g s (of g s)) stage.of_layout (lines_of_layout g s group (of g s) is within);
         }
@@ -426,12 +440,15 @@ module _ (layout : Layout) (marks : List Mark) (of : ℕ → ℕ → List Happen
     next_group_of : (g : ℕ) (found : Option Group) → group_of layout g ≡ found → (text : List ℕ) → Stage g 0 text
         → Stage g (count g) (text ++ stripes_text_of g (count g))
     next_group_of g None is text stage =
-        subst (λ (k : ℕ). Stage g k (text ++ stripes_text_of g k)) (ap stripes_of (sym is)) (subst (λ (l : List ℕ). Stage g 0 l) (sym (append-nil text)) stage)
+        subst (λ (k : ℕ). Stage g k (text ++ stripes_text_of g k)) (ap stripes_of (sym is))
+        (subst (λ (l : List ℕ). Stage g 0 l) (sym (append-nil text)) stage)
     next_group_of g (Some group) is text stage =
-        subst (λ (k : ℕ). Stage g k (text ++ stripes_text_of g k)) (ap stripes_of (sym is)) (next_stripes g group text is stage group.stripes (omega arith))
+        subst (λ (k : ℕ). Stage g k (text ++ stripes_text_of g k)) (ap stripes_of (sym is))
+        (next_stripes g group text is stage group.stripes (omega arith))
 
     pub groups_stage : (g : ℕ) → Stage g 0 (groups_text_of g)
     groups_stage zero = first_stage
     groups_stage (suc g) =
         subst (λ (k : ℕ). Stage k 0 (groups_text_of g ++ stripes_text_of g (count g))) (let same : g + 1 ≡ suc g = omega arith in same)
-        (shut_group g (groups_text_of g ++ stripes_text_of g (count g)) (next_group_of g (group_of layout g) refl (groups_text_of g) (groups_stage g)))
+        (shut_group g (groups_text_of g ++ stripes_text_of g (count g))
+        (next_group_of g (group_of layout g) refl (groups_text_of g) (groups_stage g)))

@@ -191,7 +191,8 @@ pub before_back : (end n : ℕ) (rest : List ℕ) → IsNoDigit end → n < 2 ^ 
 unfolding number_before
 before_back end n rest none small =
     bind_some (cut end (decimal n ++ (end ∷ rest))) (decimal n, rest) _
-    (cut_at end (decimal n) rest (all_then is_ascii_digit (λ byte. not (byte == end)) (decimal n) (λ b is. digit_other end b none is) (digits_of n small)))
+    (cut_at end (decimal n) rest (all_then is_ascii_digit (λ byte. not (byte == end)) (decimal n) (λ b is. digit_other end b none is)
+    (digits_of n small)))
     ∙ bind_some (plain_number (decimal n)) n _ (plain_back n small)
 
 -- words
