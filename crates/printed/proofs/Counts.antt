@@ -51,12 +51,14 @@ end_numbers (Begin p n b ask ∷ marks) = end_numbers marks
 end_numbers (End p n answer ∷ marks) = n ∷ end_numbers marks
 end_numbers (Crash p b ∷ marks) = end_numbers marks
 
+-- as many operations end as there are Ends
 ends_are : (marks : List Mark) → length (end_numbers marks) ≡ count_by is_end marks
 ends_are [] = refl
 ends_are (Begin p n b ask ∷ marks) = let rest = ends_are marks in omega (arith, rest, count_no is_end (Begin p n b ask) marks refl)
 ends_are (End p n answer ∷ marks) = let rest = ends_are marks in omega (arith, rest, count_yes is_end (End p n answer) marks refl)
 ends_are (Crash p b ∷ marks) = let rest = ends_are marks in omega (arith, rest, count_no is_end (Crash p b) marks refl)
 
+-- of marks, and then others
 ends_both : (marks more : List Mark) → end_numbers (marks ++ more) ≡ end_numbers marks ++ end_numbers more
 ends_both [] more = refl
 ends_both (Begin p n b ask ∷ marks) more = ends_both marks more
@@ -67,14 +69,17 @@ ends_both (Crash p b ∷ marks) more = ends_both marks more
 abbrev HasEnd : List Mark → ℕ → Type 0
 HasEnd marks n = (k : ℕ) × (p : ℕ) × (answer : Answer) × (slice_get marks k ≡ Some (End p n answer))
 
+-- an End behind one more mark
 later_end : (mark : Mark) (marks : List Mark) (n : ℕ) → HasEnd marks n → HasEnd (mark ∷ marks) n
 later_end mark marks n has = (suc has.0, has.1, has.2, has.3)
 
+-- an End is the first mark, or behind it
 end_here : (marks : List Mark) (p k n : ℕ) (answer : Answer) (more : Bool) → (more ≡ true → HasEnd marks n) → (b : Bool) → eqb n k ≡ b
     → b || more ≡ true → HasEnd (End p k answer ∷ marks) n
 end_here marks p k n answer more then true same any = (0, p, answer, ap (λ (i : ℕ). Some (End p i answer)) (sym (eqb-true n k same)))
 end_here marks p k n answer more then false other any = later_end (End p k answer) marks n (then any)
 
+-- an operation among those that end has its End
 end_of_number : (marks : List Mark) (n : ℕ) → list_any (eqb n) (end_numbers marks) ≡ true → HasEnd marks n
 end_of_number [] n any = absurd (let never : false ≡ true = any in cc)
 end_of_number (Begin p k b ask ∷ marks) n any = later_end (Begin p k b ask) marks n (end_of_number marks n any)
@@ -84,6 +89,7 @@ end_of_number (Crash p b ∷ marks) n any = later_end (Crash p b) marks n (end_o
 
 -- the first marks
 
+-- one of the first marks is one of all, with the same before it
 get_taken : (k : ℕ) (marks : List Mark) (i : ℕ) (mark : Mark) → slice_get (take k marks) i ≡ Some mark
     → (slice_get marks i ≡ Some mark) × (take i (take k marks) ≡ take i marks)
 get_taken zero marks i mark at = absurd (let never : None ≡ Some mark = at in cc)
@@ -92,6 +98,7 @@ get_taken (suc k) (m ∷ marks) zero mark at = (at, refl)
 get_taken (suc k) (m ∷ marks) (suc i) mark at =
     let rest = get_taken k marks i mark at in (rest.0, ap (λ (l : List Mark). m ∷ l) rest.1)
 
+-- the numbers of the first marks rise
 rise_taken : (k : ℕ) (marks : List Mark) (a : ℕ) → NumbersRise a marks → NumbersRise a (take k marks)
 rise_taken zero marks a rises = tt
 rise_taken (suc k) [] a rises = tt
@@ -99,20 +106,24 @@ rise_taken (suc k) (Begin p n b ask ∷ marks) a rises = (rises.0, rise_taken k 
 rise_taken (suc k) (End p n answer ∷ marks) a rises = rise_taken k marks a rises
 rise_taken (suc k) (Crash p b ∷ marks) a rises = rise_taken k marks a rises
 
+-- one mark more
 take_next : (k : ℕ) (marks : List Mark) (mark : Mark) → slice_get marks k ≡ Some mark → take (suc k) marks ≡ take k marks ++ (mark ∷ [])
 take_next k [] mark at = absurd (let never : None ≡ Some mark = at in cc)
 take_next zero (m ∷ marks) mark at = ap (λ (x : Mark). x ∷ []) (same_Some m mark at)
 take_next (suc k) (m ∷ marks) mark at = ap (λ (l : List Mark). m ∷ l) (take_next k marks mark at)
 
+-- there is a mark at each place
 there : (marks : List Mark) (k : ℕ) → k < length marks → (mark : Mark) × (slice_get marks k ≡ Some mark)
 there [] k within = absurd (omega arith)
 there (m ∷ marks) zero within = (m, refl)
 there (m ∷ marks) (suc k) within = there marks k (omega arith)
 
+-- the first marks, of all of them
 take_whole : (marks : List Mark) → take (length marks) marks ≡ marks
 take_whole [] = refl
 take_whole (m ∷ marks) = ap (λ (l : List Mark). m ∷ l) (take_whole marks)
 
+-- no number stands twice in none
 distinct_none : IsDistinct eqb []
 unfolding IsDistinct
 distinct_none = tt

@@ -17,12 +17,14 @@ abbrev pub text_of_lines : List (List ℕ) → List ℕ
 text_of_lines [] = []
 text_of_lines (line ∷ lines) = (line ++ newline) ++ text_of_lines lines
 
+-- of lines, and then others
 pub lines_both : (one other : List (List ℕ)) → text_of_lines (one ++ other) ≡ text_of_lines one ++ text_of_lines other
 lines_both [] other = refl
 lines_both (line ∷ one) other =
     ap (λ (text : List ℕ). (line ++ newline) ++ text) (lines_both one other)
     ∙ sym (append_assoc (line ++ newline) (text_of_lines one) (text_of_lines other))
 
+-- of one line
 pub one_line_text : (line : List ℕ) → text_of_lines (line ∷ []) ≡ line ++ newline
 one_line_text line = append-nil (line ++ newline)
 
@@ -31,29 +33,36 @@ abbrev pub AreClear : List (List ℕ) → Type 0
 AreClear [] = ⊤
 AreClear (line ∷ lines) = (list_all is_clear line ≡ true) × AreClear lines
 
+-- of lines, and then others
 pub clear_all : (one other : List (List ℕ)) → AreClear one → AreClear other → AreClear (one ++ other)
 clear_all [] other first second = second
 clear_all (line ∷ one) other first second = (first.0, clear_all one other first.1 second)
 
+-- a clear byte is no line feed
 no_feed : (b : ℕ) → is_clear b ≡ true → not (b == 10) ≡ true
 no_feed b clear = grind (arith, nat_tests)
 
+-- nor a carriage return
 no_return : (b : ℕ) → is_clear b ≡ true → (b == 13) ≡ false
 no_return b clear = grind (arith, nat_tests)
 
+-- a line with its line feed is whole
 whole_line : (line : List ℕ) → list_all is_clear line ≡ true → IsWhole (line ++ newline)
 whole_line line clear =
     let long : length line ≡ length (line ++ newline) - 1 = omega (arith, length-append line newline) in
     found_at 10 line [] (all_then is_clear (λ byte. not (byte == 10)) line no_feed clear) ∙ ap (λ (k : ℕ). Some k) long
 
+-- no byte of a clear line is a carriage return
 none_returns : (line : List ℕ) (i : ℕ) → list_all is_clear line ≡ true → (slice_index line i == 13) ≡ false
 none_returns [] i clear = refl
 none_returns (b ∷ line) zero clear = no_return b (and_parts (is_clear b) (list_all is_clear line) clear).0
 none_returns (b ∷ line) (suc i) clear = none_returns line i (and_parts (is_clear b) (list_all is_clear line) clear).1
 
+-- so none is stripped from its end
 stripped_is : (line : List ℕ) → list_all is_clear line ≡ true → strip_carriage_return line ≡ line
 stripped_is line clear = ap (λ (b : Bool). cond b (take (length line - 1) line) line) (none_returns line (length line - 1) clear)
 
+-- its content is the line
 content_is : (line : List ℕ) → list_all is_clear line ≡ true → content (line ++ newline) ≡ line
 content_is line clear =
     let all : List ℕ = line ++ newline in

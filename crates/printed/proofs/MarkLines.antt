@@ -35,12 +35,14 @@ use Rattle.printed.proofs.Tokens.{is_clear, bind_some, or_some, or_none, IsPiece
 
 -- the mark as it is claimed
 
+-- what is asked
 abbrev pub access_of : Op → Access
 access_of (ReadBlock j) = access.ReadBlock j
 access_of (WriteBlock j bytes) = access.WriteBlock j bytes
 access_of ReadStripe = access.ReadStripe
 access_of (WriteStripe bytes) = access.WriteStripe bytes
 
+-- why an operation was aborted
 abbrev pub reason_of : Cause → Reason
 reason_of (Later brick stamp) =
     reason.Later brick.0 (record { view = stamp.view.0; time = stamp.time; brick = stamp.brick.0; boot = stamp.boot })
@@ -48,16 +50,19 @@ reason_of (Gone brick) = reason.Gone brick.0
 reason_of (Full brick live) = reason.Full brick.0 live
 reason_of (Moved brick view) = reason.Moved brick.0 view.0
 
+-- an answer
 abbrev pub outcome_of : Answer → Outcome
 outcome_of (Data bytes) = outcome.Data bytes
 outcome_of Done = outcome.Done
 outcome_of (Aborted cause) = outcome.Aborted (reason_of cause)
 
+-- a mark
 abbrev pub claim_of : Mark → Claim
 claim_of (Begin p n b ask) = claim.Begin p n b.0 ask.group.0 ask.stripe.0 (access_of ask.op)
 claim_of (End p n answer) = claim.End p n (outcome_of answer)
 claim_of (Crash p b) = claim.Crash p b.0
 
+-- what is asked is claimed as it is
 op_same : (op : Op) → op_of (access_of op) ≡ op
 op_same (ReadBlock j) = refl
 op_same (WriteBlock j bytes) = refl
@@ -77,6 +82,7 @@ claimed (Crash p b) = refl
 
 -- numbers and bytes that have a spelling
 
+-- a number below 2^64
 abbrev pub IsSmall : ℕ → Type 0
 IsSmall n = n < 2 ^ 64
 
@@ -84,34 +90,40 @@ IsSmall n = n < 2 ^ 64
 abbrev pub most_told : ℕ
 most_told = 32768
 
+-- bytes, at least one, and no more than a mark tells
 pub record IsTold (bytes : List ℕ) : Type 0 where
   pub some : 1 ≤ length bytes
   pub few : length bytes ≤ most_told
   pub are : IsBytes bytes
 
+-- what is asked
 abbrev pub OpReads : Op → Type 0
 OpReads (ReadBlock j) = IsSmall j
 OpReads (WriteBlock j bytes) = IsSmall j × IsTold bytes
 OpReads ReadStripe = ⊤
 OpReads (WriteStripe bytes) = IsTold bytes
 
+-- a stamp
 pub record StampReads (stamp : Stamp) : Type 0 where
   pub view : IsSmall stamp.view.0
   pub time : IsSmall stamp.time
   pub brick : IsSmall stamp.brick.0
   pub boot : IsSmall stamp.boot
 
+-- why an operation was aborted
 abbrev pub CauseReads : Cause → Type 0
 CauseReads (Later brick stamp) = IsSmall brick.0 × StampReads stamp
 CauseReads (Gone brick) = IsSmall brick.0
 CauseReads (Full brick live) = IsSmall brick.0 × IsSmall live
 CauseReads (Moved brick view) = IsSmall brick.0 × IsSmall view.0
 
+-- an answer
 abbrev pub AnswerReads : Answer → Type 0
 AnswerReads (Data bytes) = IsTold bytes
 AnswerReads Done = ⊤
 AnswerReads (Aborted cause) = CauseReads cause
 
+-- what is asked, and of which stripe
 pub record AskReads (ask : Ask) : Type 0 where
   pub group : IsSmall ask.group.0
   pub stripe : IsSmall ask.stripe.0
@@ -125,41 +137,48 @@ MarkReads (Crash p b) = IsSmall p × IsSmall b.0
 
 -- the line of a mark, without its line feed
 
+-- what is asked
 abbrev op_line : Ask → Op → List ℕ
 op_line ask (ReadBlock j) = codes "read " ++ place_text ask (codes " " ++ decimal j)
 op_line ask (WriteBlock j bytes) = codes "write " ++ place_text ask (codes " " ++ (decimal j ++ (codes " " ++ encode_lower bytes)))
 op_line ask ReadStripe = codes "readall " ++ (decimal ask.group.0 ++ (codes " " ++ decimal ask.stripe.0))
 op_line ask (WriteStripe bytes) = codes "writeall " ++ place_text ask (codes " " ++ encode_lower bytes)
 
+-- why an operation was aborted
 abbrev cause_line : Cause → List ℕ
 cause_line (Later brick stamp) = codes "later " ++ (decimal brick.0 ++ (codes " " ++ stamp_text stamp))
 cause_line (Gone brick) = codes "gone " ++ decimal brick.0
 cause_line (Full brick live) = codes "full " ++ (decimal brick.0 ++ (codes " " ++ decimal live))
 cause_line (Moved brick view) = codes "moved " ++ (decimal brick.0 ++ (codes " " ++ decimal view.0))
 
+-- an answer
 abbrev answer_line : Answer → List ℕ
 answer_line (Data bytes) = codes "data " ++ encode_lower bytes
 answer_line Done = codes "done"
 answer_line (Aborted cause) = codes "aborted " ++ cause_line cause
 
+-- a mark
 abbrev pub mark_line : Mark → List ℕ
 mark_line (Begin p n brick ask) =
     decimal p ++ (codes " begin " ++ (decimal n ++ (codes " " ++ (decimal brick.0 ++ (codes " " ++ op_line ask ask.op)))))
 mark_line (End p n answer) = decimal p ++ (codes " end " ++ (decimal n ++ (codes " " ++ answer_line answer)))
 mark_line (Crash p brick) = decimal p ++ (codes " crash " ++ decimal brick.0)
 
+-- what is asked, and its line feed
 op_ends : (ask : Ask) (op : Op) → op_text ask op ≡ op_line ask op ++ newline
 op_ends ask (ReadBlock j) = simp append_assoc refl
 op_ends ask (WriteBlock j bytes) = simp append_assoc refl
 op_ends ask ReadStripe = simp append_assoc refl
 op_ends ask (WriteStripe bytes) = simp append_assoc refl
 
+-- why an operation was aborted, and its line feed
 cause_ends : (cause : Cause) → cause_text cause ≡ cause_line cause ++ newline
 cause_ends (Later brick stamp) = simp append_assoc refl
 cause_ends (Gone brick) = simp append_assoc refl
 cause_ends (Full brick live) = simp append_assoc refl
 cause_ends (Moved brick view) = simp append_assoc refl
 
+-- an answer, and its line feed
 answer_ends : (answer : Answer) → answer_text answer ≡ answer_line answer ++ newline
 answer_ends (Data bytes) = simp append_assoc refl
 answer_ends Done = refl
@@ -176,12 +195,15 @@ mark_ends (Crash p brick) = simp append_assoc refl
 
 -- it is one line, and no longer than a line may be
 
+-- a text that computes
 pub literal : (most : ℕ) (text : List ℕ) → list_all is_clear text ≡ true → length text ≤ most → IsPiece most text
 literal most text clear short = record { clear = clear; short = short }
 
+-- a space
 space : IsPiece 1 (codes " ")
 space = literal 1 (codes " ") refl (omega arith)
 
+-- what is asked
 op_piece : (ask : Ask) (op : Op) → IsSmall ask.group.0 → IsSmall ask.stripe.0 → OpReads op → IsPiece 65700 (op_line ask op)
 op_piece ask (ReadBlock j) g s reads =
     piece_most _ 65700 _ (omega arith) (piece_both 5 _ _ _ (literal 5 (codes "read ") refl (omega arith)) (piece_both 20 _ _ _
@@ -203,15 +225,18 @@ op_piece ask (WriteStripe bytes) g s reads =
     (piece_both 1 _ _ _ space (piece_both 20 _ _ _ (digits_piece ask.stripe.0 s)
     (piece_both 1 (2 * most_told) _ _ space (hex_piece most_told bytes reads.are reads.few))))))
 
+-- a dot
 dot : IsPiece 1 (codes ".")
 dot = literal 1 (codes ".") refl (omega arith)
 
+-- a stamp
 stamp_piece : (stamp : Stamp) → StampReads stamp → IsPiece 100 (stamp_text stamp)
 stamp_piece stamp reads =
     piece_most _ 100 _ (omega arith) (piece_both 20 _ _ _ (digits_piece stamp.view.0 reads.view) (piece_both 1 _ _ _ dot
     (piece_both 20 _ _ _ (digits_piece stamp.time reads.time) (piece_both 1 _ _ _ dot (piece_both 20 _ _ _ (digits_piece stamp.brick.0 reads.brick)
     (piece_both 1 20 _ _ dot (digits_piece stamp.boot reads.boot)))))))
 
+-- why an operation was aborted
 cause_piece : (cause : Cause) → CauseReads cause → IsPiece 200 (cause_line cause)
 cause_piece (Later brick stamp) reads =
     piece_most _ 200 _ (omega arith) (piece_both 6 _ _ _ (literal 6 (codes "later ") refl (omega arith)) (piece_both 20 _ _ _
@@ -228,6 +253,7 @@ cause_piece (Moved brick view) reads =
     (digits_piece brick.0 reads.0)
     (piece_both 1 20 _ _ space (digits_piece view.0 reads.1))))
 
+-- an answer
 answer_piece : (answer : Answer) → AnswerReads answer → IsPiece 65700 (answer_line answer)
 answer_piece (Data bytes) reads =
     piece_most _ 65700 _ (omega arith) (piece_both 5 (2 * most_told) _ _ (literal 5 (codes "data ") refl (omega arith))
@@ -236,6 +262,7 @@ answer_piece Done reads = literal 65700 (codes "done") refl (omega arith)
 answer_piece (Aborted cause) reads =
     piece_most _ 65700 _ (omega arith) (piece_both 8 200 _ _ (literal 8 (codes "aborted ") refl (omega arith)) (cause_piece cause reads))
 
+-- a mark
 pub mark_piece : (mark : Mark) → MarkReads mark → IsPiece most_line_bytes (mark_line mark)
 mark_piece (Begin p n brick ask) reads =
     piece_most _ most_line_bytes _ (omega arith) (piece_both 20 _ _ _ (digits_piece p reads.0)
@@ -252,14 +279,17 @@ mark_piece (Crash p brick) reads =
 
 -- what is asked reads back
 
+-- `readall` is not `read`
 readall_not : (rest : List ℕ) → behind (codes "read ") (codes "readall " ++ rest) ≡ None
 unfolding behind
 readall_not rest = refl
 
+-- nor `writeall` `write`
 writeall_not : (rest : List ℕ) → behind (codes "write ") (codes "writeall " ++ rest) ≡ None
 unfolding behind
 writeall_not rest = refl
 
+-- each of the four operations
 ask_back : (p n b : ℕ) (ask : Ask) (op : Op) → IsSmall ask.group.0 → IsSmall ask.stripe.0 → OpReads op
     → ask_of p n b (op_line ask op) ≡ begins p n b ask.group.0 ask.stripe.0 (access_of op)
 unfolding ask_of read_of write_of read_all_of write_all_of
@@ -282,6 +312,7 @@ ask_back p n b ask (WriteStripe bytes) g s reads =
 
 -- why an operation was aborted reads back
 
+-- a stamp reads back
 stamp_back : (stamp : Stamp) → StampReads stamp
     → stamp_of (stamp_text stamp) ≡ Some (record { view = stamp.view.0; time = stamp.time; brick = stamp.brick.0; boot = stamp.boot })
 unfolding stamp_of
@@ -289,6 +320,7 @@ stamp_back stamp reads =
     bind_some _ _ _ (before_back 46 stamp.view.0 _ refl reads.view) ∙ bind_some _ _ _ (before_back 46 stamp.time _ refl reads.time)
     ∙ bind_some _ _ _ (before_back 46 stamp.brick.0 _ refl reads.brick) ∙ bind_some _ _ _ (plain_back stamp.boot reads.boot)
 
+-- each of the four causes
 cause_back : (cause : Cause) → CauseReads cause → cause_of (cause_line cause) ≡ Some (reason_of cause)
 unfolding cause_of later_of gone_of full_of moved_of
 cause_back (Later brick stamp) reads =
@@ -306,10 +338,12 @@ cause_back (Moved brick view) reads =
 
 -- an answer reads back
 
+-- `done`
 done_back : (p n : ℕ) → answer_of p n (codes "done") ≡ ends p n outcome.Done
 unfolding answer_of behind
 done_back p n = refl
 
+-- each of the three answers
 answer_back : (p n : ℕ) (answer : Answer) → AnswerReads answer → answer_of p n (answer_line answer) ≡ ends p n (outcome_of answer)
 unfolding answer_of data_of aborted_of
 answer_back p n (Data bytes) reads =
@@ -320,6 +354,7 @@ answer_back p n (Aborted cause) reads =
 
 -- the rest of a mark reads back
 
+-- of a Begin
 begin_back : (p n : ℕ) (brick : ℕ) (ask : Ask) → IsSmall n → IsSmall brick → AskReads ask
     → mark_at p (codes "begin " ++ (decimal n ++ (codes " " ++ (decimal brick ++ (codes " " ++ op_line ask ask.op)))))
     ≡ begins p n brick ask.group.0 ask.stripe.0 (access_of ask.op)
@@ -329,6 +364,7 @@ begin_back p n brick ask small there reads =
     ∙ bind_some _ _ _ (before_back 32 n _ refl small) ∙ bind_some _ _ _ (before_back 32 brick _ refl there)
     ∙ ask_back p n brick ask ask.op reads.group reads.stripe reads.op
 
+-- of an End
 end_back : (p n : ℕ) (answer : Answer) → IsSmall n → AnswerReads answer
     → mark_at p (codes "end " ++ (decimal n ++ (codes " " ++ answer_line answer))) ≡ ends p n (outcome_of answer)
 unfolding mark_at end_of
@@ -336,6 +372,7 @@ end_back p n answer small reads =
     or_none _ _ _ (behind_other 98 101 _ _ refl) ∙ or_some _ _ _ _ (behind_front (codes "end ") _)
     ∙ bind_some _ _ _ (before_back 32 n _ refl small) ∙ answer_back p n answer reads
 
+-- of a Crash
 crash_back : (p brick : ℕ) → IsSmall brick → mark_at p (codes "crash " ++ decimal brick) ≡ Some (entry.Mark (claim.Crash p brick))
 unfolding mark_at crash_of
 crash_back p brick small =
@@ -344,12 +381,15 @@ crash_back p brick small =
 
 -- a line that begins with a digit is a mark, if anything
 
+-- a digit is no letter
 digit_not : (d c : ℕ) → 48 ≤ d → d ≤ 57 → 58 ≤ c → nat_eq d c ≡ false
 digit_not d c low high far = grind (arith, nat_tests)
 
+-- nor the first of `idle`
 not_idle : (d : ℕ) (rest : List ℕ) → nat_eq d 105 ≡ false → bytes_eq (d ∷ rest) (codes "idle") ≡ false
 not_idle d rest other = rw other refl
 
+-- so the line is none of the other words
 no_word : (d : ℕ) (rest : List ℕ) → 48 ≤ d → d ≤ 57 → is_word (d ∷ rest) ≡ false
 unfolding is_word
 no_word d rest low high =
@@ -359,6 +399,7 @@ no_word d rest low high =
     ∙ or_none _ _ _ (behind_other 115 d _ rest (digit_not d 115 low high (omega arith)))
     ∙ not_idle d rest (digit_not d 105 low high (omega arith))
 
+-- so it has the form of a mark
 form_of_cells : (d : ℕ) (rest : List ℕ) → 48 ≤ d → d ≤ 57 → form (d ∷ rest) ≡ mark_of_line (d ∷ rest)
 unfolding form
 form_of_cells d rest low high =
@@ -367,17 +408,21 @@ form_of_cells d rest low high =
     ∙ or_none _ _ _ (behind_other 104 d _ rest (digit_not d 104 low high (omega arith)))
     ∙ or_none _ _ _ (behind_other 99 d _ rest (digit_not d 99 low high (omega arith)))
 
+-- the same of a text that begins so
 form_of_digit : (text : List ℕ) → BeginsDigit text → form text ≡ mark_of_line text
 form_of_digit text first = ap form first.is ∙ form_of_cells first.first first.rest first.low first.high ∙ ap mark_of_line (sym first.is)
 
+-- a line that is no longer than a line may be says what its form says
 pub entry_short : (text : List ℕ) → length text ≤ most_line_bytes → entry_of text ≡ form text
 unfolding entry_of
 entry_short text short = let test : nat_le (length text) most_line_bytes ≡ true = grind (arith, nat_tests) in rw test refl
 
+-- a mark's position, and what stands behind it
 mark_behind : (p : ℕ) (rest : List ℕ) → IsSmall p → mark_of_line (decimal p ++ (32 ∷ rest)) ≡ mark_at p rest
 unfolding mark_of_line
 mark_behind p rest small = bind_some _ _ _ (before_back 32 p rest refl small)
 
+-- the form of a line that begins with a position
 mark_form : (p : ℕ) (rest : List ℕ) → IsSmall p → form (decimal p ++ (32 ∷ rest)) ≡ mark_at p rest
 mark_form p rest small = form_of_digit (decimal p ++ (32 ∷ rest)) (begins_digit p (32 ∷ rest) small) ∙ mark_behind p rest small
 

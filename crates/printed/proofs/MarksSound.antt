@@ -40,14 +40,17 @@ use Rattle.printed.proofs.Standing.{MarkStands, AllStand, run_stands}
 
 -- bytes, by a test
 
+-- each of them is below 256
 byte_at : (bytes : List ℕ) (i : ℕ) → are_bytes bytes ≡ true → slice_index bytes i < 256
 byte_at [] i are = omega arith
 byte_at (b ∷ bytes) zero are = ltb-true b 256 (and_parts (nat_lt b 256) (are_bytes bytes) are).0
 byte_at (b ∷ bytes) (suc i) are = byte_at bytes i (and_parts (nat_lt b 256) (are_bytes bytes) are).1
 
+-- bytes that a mark tells
 are_told : (bytes : List ℕ) → are_bytes bytes ≡ true → 1 ≤ length bytes → length bytes ≤ most_told → IsTold bytes
 are_told bytes are some few = record { some = some; few = few; are = λ i. byte_at bytes i are }
 
+-- the first of them are bytes
 taken : (k : ℕ) (bytes : List ℕ) → are_bytes bytes ≡ true → are_bytes (take k bytes) ≡ true
 taken zero bytes are = refl
 taken (suc k) [] are = refl
@@ -55,36 +58,40 @@ taken (suc k) (b ∷ bytes) are =
     let parts = and_parts (nat_lt b 256) (are_bytes bytes) are in
     ap (λ (t : Bool). t && are_bytes (take k bytes)) parts.0 ∙ taken k bytes parts.1
 
+-- so are those behind the first
 dropped : (k : ℕ) (bytes : List ℕ) → are_bytes bytes ≡ true → are_bytes (drop k bytes) ≡ true
 dropped zero bytes are = are
 dropped (suc k) [] are = are
 dropped (suc k) (b ∷ bytes) are = dropped k bytes (and_parts (nat_lt b 256) (are_bytes bytes) are).1
 
+-- and zeros
 zeros : (n : ℕ) → are_bytes (replicate n 0) ≡ true
 zeros zero = refl
 zeros (suc n) = zeros n
 
 -- what is asked
 
+-- a group's number is below how many there are
 group_within : (groups : List Group) (g : ℕ) (group : Group) → slice_get groups g ≡ Some group → g < length groups
 group_within groups g group is = slice_get_within groups g group is
 
+-- a product of two positive numbers
 room : (m block : ℕ) → 1 ≤ m → 1 ≤ block → 1 ≤ m * block
 room m block some more = grind arith
-
-block_few : (m block : ℕ) → 1 ≤ m → m * block ≤ 32768 → block ≤ 32768
-block_few m block some few = grind arith
 
 module _ (layout : Layout) (is : IsLayout layout) where
   pub few_groups : length layout.groups ≤ 64
   few_groups = is.few_groups
 
+  -- a group's number has a spelling
   pub group_few : (g : ℕ) (group : Group) → group_of layout g ≡ Some group → IsSmall g
   group_few g group here = let within = group_within layout.groups g group here in let few = is.few_groups in omega arith
 
+  -- and a stripe's
   pub stripe_few : (g : ℕ) (group : Group) (s : ℕ) → group_of layout g ≡ Some group → s < group.stripes → IsSmall s
   stripe_few g group s here within = let few = (is.each g group here).few_stripes in omega arith
 
+  -- what is not refused fits its group
   op_fits : (m block : ℕ) (op : Op) → has_block m op ≡ true → has_length m block op ≡ true → OpFits m block op
   op_fits m block (ReadBlock j) has long = ltb-true j m has
   op_fits m block (WriteBlock j bytes) has long =
@@ -93,6 +100,7 @@ module _ (layout : Layout) (is : IsLayout layout) where
   op_fits m block (WriteStripe bytes) has long =
       eqb-true (length bytes) (m * block) (and_parts (are_bytes bytes) (nat_eq (length bytes) (m * block)) long).1
 
+  -- and has a spelling
   op_reads : (group : Group) (op : Op) → IsGroup layout.block layout.bricks group → has_block group.m op ≡ true
       → has_length group.m layout.block op ≡ true → OpReads op
   op_reads group (ReadBlock j) of has long =
@@ -113,10 +121,12 @@ module _ (layout : Layout) (is : IsLayout layout) where
       let short = of.room in
       are_told bytes parts.0 (omega (arith, length_is, some)) (omega (arith, length_is, short))
 
+  -- it fits the group that was found
   group_fits : (found : Option Group) (group : Group) (s : ℕ) (op : Op) → found ≡ Some group → s < group.stripes → OpFits group.m layout.block op
       → GroupFits found layout.block s op
   group_fits found group s op here within fits = subst (λ (z : Option Group). GroupFits z layout.block s op) (sym here) (within, fits)
 
+  -- an operation that begins fits the layout
   begin_fits : (mark : Mark) → MarkStands (coding layout) mark → BeginFits layout mark
   begin_fits (Begin p n b ask) stands = (
     stands.0,
@@ -126,6 +136,7 @@ module _ (layout : Layout) (is : IsLayout layout) where
   begin_fits (End p n answer) stands = tt
   begin_fits (Crash p b) stands = tt
 
+  -- what it asks has a spelling
   ask_reads : (ask : Ask) → books.BeginFits (coding layout) ask → AskReads ask
   ask_reads ask fits = record {
     group = group_few ask.group.0 fits.group fits.group_is;
@@ -138,17 +149,21 @@ module _ (layout : Layout) (is : IsLayout layout) where
     abbrev w : World
     w = run (coding layout) events (first_world layout)
 
+    -- the laws of the disk
     pub laws : Laws (coding layout) (layout_views layout) w
     laws = every_layout_run (coding layout) events (coding_is_sound layout is)
 
+    -- each operation that begins fits, and each brick that stops is the layout's
     stands : AllStand (coding layout) w.marks
     stands = run_stands (coding layout) events (first_world layout) (λ k mark at. absurd (let never : None ≡ Some mark = at in cc))
 
+    -- each stamp has a spelling
     fits : WorldFits (coding layout) w
     fits = run_fits (coding layout) events (first_world layout) (let few = is.few_bricks in omega arith) (first_world_fits (coding layout)) timely
 
     -- data that was answered is bytes
 
+    -- the content of a version is bytes
     content_bytes : (stamps : Stamping) (said : Said (coding layout) w stamps) (g s : ℕ) (t : Stamp) (group : Group)
         → group_of layout g ≡ Some group → IsMadeOrFirst w g s t
         → are_bytes (w.contents g s t) ≡ true
@@ -165,6 +180,7 @@ module _ (layout : Layout) (is : IsLayout layout) where
         ap are_bytes (sym content)
         ∙ ((said.operations made.0 made.1 made.2).content t made.5 made.6 group (ap (group_of layout) made.3 ∙ here)).1
 
+    -- what is read of it is bytes
     read_bytes : (op : Op) (bytes content : List ℕ) → read_of layout.block op content ≡ Some bytes → are_bytes content ≡ true → are_bytes bytes ≡ true
     read_bytes (ReadBlock j) bytes content read are =
         ap are_bytes (sym (same_Some (block_of layout.block j content) bytes read))
@@ -173,6 +189,7 @@ module _ (layout : Layout) (is : IsLayout layout) where
     read_bytes (WriteBlock j given) bytes content read are = absurd (let never : None ≡ Some bytes = read in cc)
     read_bytes (WriteStripe given) bytes content read are = absurd (let never : None ≡ Some bytes = read in cc)
 
+    -- so is the data of an answer
     data_bytes : (k p n : ℕ) (bytes : List ℕ) → slice_get w.marks k ≡ Some (End p n (Data bytes))
         → are_bytes bytes ≡ true
     data_bytes k p n bytes at =
@@ -216,6 +233,7 @@ module _ (layout : Layout) (is : IsLayout layout) where
     cause_reads n o (Gone brick) shows = absurd shows
     cause_reads n o (Moved brick view) shows = absurd shows
 
+    -- an answer has a spelling
     answer_reads : (k p n : ℕ) (answer : Answer) → slice_get w.marks k ≡ Some (End p n answer)
         → AnswerReads answer
     answer_reads k p n (Data bytes) at =
@@ -250,6 +268,7 @@ module _ (layout : Layout) (is : IsLayout layout) where
         let there = stands k (Crash p b) at in
         (omega (arith, place, within, few), omega (arith, bricks, there))
 
+    -- the word of an answer is that of its operation
     word_fits : (m : ℕ) (op : Op) (answer : Answer) → law.WordFits m layout.block op answer → WordFits op answer
     word_fits m (ReadBlock j) (Data bytes) word = tt
     word_fits m (ReadBlock j) Done word = absurd word
@@ -271,6 +290,7 @@ module _ (layout : Layout) (is : IsLayout layout) where
     ask_stays (Some life) more n later open' onward answer m word =
         word_fits m life.ask.op answer (subst (λ (l : Life). law.WordFits m layout.block l.ask.op answer) (sym (same_Some _ later onward)) word)
 
+    -- so is that of each End, by the marks before it
     answers_fit : (i p n : ℕ) (answer : Answer) → slice_get w.marks i ≡ Some (End p n answer)
         → AnswerFits (life_of (take i w.marks) n) answer
     answers_fit i p n answer at =

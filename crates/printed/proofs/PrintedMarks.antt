@@ -52,15 +52,18 @@ other_mark (mark.Begin p n b ask) = 1
 other_mark (mark.End p n answer) = 0
 other_mark (mark.Crash p b) = 1
 
+-- the same of a printed line
 abbrev other_line : Printed → ℕ
 other_line (OfMark one) = other_mark one
 other_line (OfRefusal refusal) = 1
 other_line OfNothing = 1
 
+-- of printed lines
 abbrev pub others : List Printed → ℕ
 others [] = 0
 others (line ∷ printed) = other_line line + others printed
 
+-- of printed lines and then others
 others_both : (one other : List Printed) → others (one ++ other) ≡ others one + others other
 others_both [] other = omega arith
 others_both (line ∷ one) other = let rest = others_both one other in omega (arith, rest)
@@ -69,6 +72,7 @@ others_both (line ∷ one) other = let rest = others_both one other in omega (ar
 pub count_yes : (p : Mark → Bool) (one : Mark) (marks : List Mark) → p one ≡ true → count_by p (one ∷ marks) ≡ 1 + count_by p marks
 count_yes p one marks is = sum_by-cons (λ (x : Mark). cond (p x) 1 0) one marks ∙ ap (λ (b : Bool). cond b 1 0 + count_by p marks) is
 
+-- or is not
 pub count_no : (p : Mark → Bool) (one : Mark) (marks : List Mark) → p one ≡ false → count_by p (one ∷ marks) ≡ count_by p marks
 count_no p one marks isnt =
     sum_by-cons (λ (x : Mark). cond (p x) 1 0) one marks ∙ ap (λ (b : Bool). cond b 1 0 + count_by p marks) isnt
@@ -105,14 +109,17 @@ marks_among_lines (OfMark one ∷ printed) = let rest = marks_among_lines printe
 marks_among_lines (OfRefusal refusal ∷ printed) = let rest = marks_among_lines printed in omega (arith, rest)
 marks_among_lines (OfNothing ∷ printed) = let rest = marks_among_lines printed in omega (arith, rest)
 
+-- the text of marks is that of their lines
 marks_printed : (marks : List Mark) → marks_text marks ≡ printed_texts (map OfMark marks)
 marks_printed [] = refl
 marks_printed (one ∷ marks) = ap (λ (text : List ℕ). mark_text one ++ text) (marks_printed marks)
 
+-- the marks among the lines of marks are these
 marks_among : (marks : List Mark) → printed_marks (map OfMark marks) ≡ marks
 marks_among [] = refl
 marks_among (one ∷ marks) = ap (λ (rest : List Mark). one ∷ rest) (marks_among marks)
 
+-- the text of an outcome is that of its lines
 outcome_printed : (outcome : Outcome) (marks : List Mark) → outcome_text outcome marks ≡ printed_texts (lines_of outcome marks)
 outcome_printed Marks marks = marks_printed marks
 outcome_printed (Refused refusal) marks = sym (append-nil (printed_text (OfRefusal refusal)))
@@ -125,6 +132,7 @@ texts_both (line ∷ one) other =
     ap (λ (text : List ℕ). printed_text line ++ text) (texts_both one other)
     ∙ sym (append_assoc (printed_text line) (printed_texts one) (printed_texts other))
 
+-- and the marks among them
 marks_both : (one other : List Printed) → printed_marks (one ++ other) ≡ printed_marks one ++ printed_marks other
 marks_both [] other = refl
 marks_both (line ∷ one) other =
@@ -141,6 +149,7 @@ record IsPrinted (w next : World) (outcome : Outcome) (most : ℕ) : Type 0 wher
   marks : next.marks ≡ w.marks ++ printed_marks (lines_of outcome (new_marks w next))
   few : others (lines_of outcome (new_marks w next)) ≤ most
 
+-- marks were made
 printed_more : (w next : World) (more : List Mark) (most : ℕ) → next.marks ≡ w.marks ++ more → others (map OfMark more) ≤ most
     → IsPrinted w next Marks most
 printed_more w next more most is few =
@@ -150,12 +159,15 @@ printed_more w next more most is few =
       few = subst (λ (l : List Mark). others (map OfMark l) ≤ most) (sym new) few;
     }
 
+-- no mark was made
 printed_none : (w next : World) (most : ℕ) → next.marks ≡ w.marks → IsPrinted w next Marks most
 printed_none w next most same = printed_more w next [] most (same ∙ sym (append-nil w.marks)) (omega arith)
 
+-- the line was idle
 printed_idle : (w : World) → IsPrinted w w Idle 1
 printed_idle w = record { marks = sym (append-nil w.marks); few = omega arith }
 
+-- the operation was refused
 printed_refused : (w : World) (refusal : Refusal) → IsPrinted w w (Refused refusal) 1
 printed_refused w refusal = record { marks = sym (append-nil w.marks); few = omega arith }
 
@@ -170,6 +182,7 @@ told_marks setting w brick [] = refl
 told_marks setting w brick (told.Made seq t base ∷ more) = told_marks setting (world_told setting w brick (told.Made seq t base)) brick more
 told_marks setting w brick (told.Seen seq t ∷ more) = told_marks setting (world_told setting w brick (told.Seen seq t)) brick more
 
+-- answers are Ends
 answer_marks : (w : World) (brick : BrickId) (answers : List Answered)
     → (more : List Mark) × ((world_answers w brick answers).marks ≡ w.marks ++ more) × (others (map OfMark more) ≡ 0)
 answer_marks w brick [] = ([], sym (append-nil w.marks), refl)
@@ -178,6 +191,7 @@ answer_marks w brick (one ∷ answers) =
     let rest = answer_marks (world_answered w brick one) brick answers in
     (here ∷ rest.0, rest.1 ∙ append_assoc w.marks (here ∷ []) rest.0, (let none = rest.2 in omega (arith, none)))
 
+-- a step prints Ends alone
 stepped_printed : (setting : Setting) (w before : World) (brick : BrickId) (step : NodeStep) → before.marks ≡ w.marks
     → IsPrinted w (world_stepped setting before brick step) Marks 0
 stepped_printed setting w before brick step same =
@@ -186,6 +200,7 @@ stepped_printed setting w before brick step same =
     printed_more w (world_stepped setting before brick step) more.0 0
     (more.1 ∙ ap (λ (l : List Mark). l ++ more.0) (told_marks setting before brick step.told ∙ same)) (omega (arith, more.2))
 
+-- no other line is at most one
 printed_fewer : (w next : World) (outcome : Outcome) → IsPrinted w next outcome 0 → IsPrinted w next outcome 1
 printed_fewer w next outcome printed = record { marks = printed.marks; few = (let few = printed.few in omega arith) }
 
@@ -199,6 +214,7 @@ handled_printed setting w number packet =
     let counted : World = record w { replies = replies_with setting w packet; reached = put w.reached number true } in
     stepped_printed setting w counted packet.to step refl
 
+-- a delivery prints Ends, or that it is idle
 delivered_printed : (setting : Setting) (w : World) (number : ℕ) (packet : Option Packet)
     → IsPrinted w (delivered setting w number packet) (marks_if (is_deliverable setting w packet)) 1
 delivered_printed setting w number None = printed_idle w
@@ -215,6 +231,7 @@ invoked_printed w next false refusal printed = printed_refused w Down
 invoked_printed w next true None printed = printed
 invoked_printed w next true (Some refusal) printed = printed_refused w refusal
 
+-- a start prints nothing
 started_printed : (w : World) (brick : BrickId) (openings : ℕ) (found : Found)
     → IsPrinted w (world_started (world_found w brick found) brick openings) Marks 1
 started_printed w brick openings Before = printed_none w (world_started w brick openings) 1 refl
@@ -266,6 +283,7 @@ both_printed w mid next first second one_most other_most one other = record {
   few = omega (arith, others_both one.printed other.printed, one.few, other.few);
 }
 
+-- so many are at most as many as more
 most_printed : (w next : World) (text : List ℕ) (most more : ℕ) → most ≤ more → IsPrintedAs w next text most → IsPrintedAs w next text more
 most_printed w next text most more le printed = record {
   printed = printed.printed;
@@ -295,6 +313,7 @@ one_printed setting w line event =
 
 -- The deliveries of an operation that runs alone are of messages that can be delivered: one that could not would be the next for ever.
 
+-- nothing happens then
 idle_stays : (setting : Setting) (w : World) (number : ℕ) (packet : Option Packet) → is_deliverable setting w packet ≡ false
     → delivered setting w number packet ≡ w
 idle_stays setting w number None idle = refl
@@ -303,6 +322,7 @@ idle_stays setting w number (Some packet) idle =
     (record w { replies = replies_with setting w packet; reached = put w.reached number true }) packet.to
     (received setting packet.to (w.clocks packet.to.0) (w.nodes packet.to.0) packet)) w) idle
 
+-- what a delivery is
 delivers_is : (setting : Setting) (w : World) (number : ℕ)
     → happens setting w (Delivers number) ≡ delivered setting w number (packet_of w.packets number)
 unfolding happens
@@ -324,6 +344,7 @@ module _ (setting : Setting) (n : ℕ) (bricks : List BrickId) (w : World) (numb
       (ap (λ (x : World). happens setting x (Delivers other)) same ∙ ap (λ (k : ℕ). happens setting w (Delivers k)) number_same
       ∙ delivers_is setting w number ∙ idle_stays setting w number (packet_of w.packets number) idle)
 
+-- a message that can be delivered prints Ends alone
 handled_alone : (setting : Setting) (w : World) (number : ℕ) (packet : Option Packet) → is_deliverable setting w packet ≡ true
     → IsPrinted w (delivered setting w number packet) (marks_if (is_deliverable setting w packet)) 0
 handled_alone setting w number None up = absurd (let never : false ≡ true = up in cc)
@@ -333,12 +354,14 @@ handled_alone setting w number (Some packet) up =
     subst (λ (b : Bool). IsPrinted w (if b then world_stepped setting counted packet.to step else w) (if b then Marks else Idle) 0) (sym up)
     (handled_printed setting w number packet)
 
+-- the same of the event
 delivers_alone : (setting : Setting) (w : World) (number : ℕ) → is_deliverable setting w (packet_of w.packets number) ≡ true
     → IsPrinted w (happens setting w (Delivers number)) (outcome_of setting w (Delivers number)) 0
 delivers_alone setting w number up =
     subst (λ (v : World). IsPrinted w v (outcome_of setting w (Delivers number)) 0) (sym (delivers_is setting w number))
     (handled_alone setting w number (packet_of w.packets number) up)
 
+-- the message that is delivered next can be delivered
 next_up : (setting : Setting) (n : ℕ) (bricks : List BrickId) (w last : World) (number : ℕ) (events : List Event) → is_some (open_call w n) ≡ true
     → next_delivery w n bricks ≡ Some number → RunsAlone setting n bricks (happens setting w (Delivers number)) events last
     → is_deliverable setting w (packet_of w.packets number) ≡ true
@@ -362,6 +385,7 @@ alone_printed setting n bricks _ _ _ (Next w last number events opens next more)
     (delivers_alone setting w number (next_up setting n bricks w last number events opens next more)))
     (alone_printed setting n bricks (happens setting w (Delivers number)) last events more)
 
+-- where nothing is delivered, that it is idle
 idle_printed : (setting : Setting) (n : ℕ) (numbers : List ℕ) (w : World)
     → IsPrintedAs w (run setting [] w) (line_text setting w (Calm n numbers) []) 1
 idle_printed setting n numbers w = record {
@@ -377,6 +401,7 @@ of_none : (setting : Setting) (w : World) (line : Line) (events : List Event) �
 of_none setting w line events are printed =
     subst (λ (l : List Event). IsPrintedAs w (run setting l w) (line_text setting w line l) 1) (sym are) printed
 
+-- or of one event
 of_one : (setting : Setting) (w : World) (line : Line) (event : Event) (events : List Event) → events ≡ event ∷ []
     → IsPrintedAs w (run setting events w) (line_text setting w line events) 1
 of_one setting w line event events are =

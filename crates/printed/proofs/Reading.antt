@@ -26,11 +26,13 @@ use Rattle.printed.proofs.OtherLines.{refusal_line, refusal_ends, refusal_piece,
 abbrev pub Reads : ℕ → Transcribed → List (List ℕ) → ℕ → Transcribed → Type 0
 Reads n t lines m u = (more : List (List ℕ)) → text_behind n t (lines ++ more) ≡ text_behind m u more
 
+-- lines, and then others
 pub reads_both : (n m k : ℕ) (t u v : Transcribed) (one other : List (List ℕ)) → Reads n t one m u → Reads m u other k v
     → Reads n t (one ++ other) k v
 reads_both n m k t u v one other first second more =
     ap (text_behind n t) (append_assoc one other more) ∙ first (other ++ more) ∙ second more
 
+-- a line that there may be
 within : (n : ℕ) → n < most_lines → nat_lt n most_lines ≡ true
 within n h = grind (arith, nat_tests)
 
@@ -49,11 +51,13 @@ reads_one n t u line said few is after more =
 abbrev pub of_marks : List Claim → Transcribed
 of_marks claims = record { claims = claims; stripes = []; counts = None }
 
+-- a mark is claimed at its position
 position_same : (mark : Mark) → position_said (claim_of mark) ≡ position_of mark
 position_same (Begin p n b ask) = refl
 position_same (End p n answer) = refl
 position_same (Crash p b) = refl
 
+-- a mark at its place leads on
 mark_after : (claims : List Claim) (mark : Mark) → position_of mark ≡ length claims
     → after_entry (of_marks claims) (entry.Mark (claim_of mark)) ≡ Some (of_marks (claims ++ claim_of mark ∷ []))
 unfolding after_entry
@@ -61,6 +65,7 @@ mark_after claims mark at =
     ap (λ (b : Bool). cond b (Some (of_marks (claims ++ claim_of mark ∷ []))) None)
     (eq-eqb (position_said (claim_of mark)) (length claims) (position_same mark ∙ at))
 
+-- so does another word
 other_after : (claims : List Claim) → after_entry (of_marks claims) entry.Other ≡ Some (of_marks claims)
 unfolding after_entry
 other_after claims = refl
@@ -71,11 +76,13 @@ printed_line (OfMark mark) = mark_line mark
 printed_line (OfRefusal refusal) = refusal_line refusal
 printed_line OfNothing = codes "idle"
 
+-- the printed text is the line and its line feed
 printed_end : (one : Printed) → printed_text one ≡ printed_line one ++ newline
 printed_end (OfMark mark) = mark_ends mark
 printed_end (OfRefusal refusal) = refusal_ends refusal
 printed_end OfNothing = refl
 
+-- of printed lines
 pub printed_lines : (printed : List Printed) → printed_texts printed ≡ text_of_lines (map printed_line printed)
 printed_lines [] = refl
 printed_lines (one ∷ printed) =
@@ -87,10 +94,12 @@ abbrev pub EachReads : List Mark → Type 0
 EachReads [] = ⊤
 EachReads (mark ∷ marks) = MarkReads mark × EachReads marks
 
+-- each of these marks is at its place, from p
 abbrev pub EachPlaced : ℕ → List Mark → Type 0
 EachPlaced p [] = ⊤
 EachPlaced p (mark ∷ marks) = (position_of mark ≡ p) × EachPlaced (p + 1) marks
 
+-- no byte of a printed line ends one
 pub printed_clear : (printed : List Printed) → EachReads (printed_marks printed) → AreClear (map printed_line printed)
 printed_clear [] reads = tt
 printed_clear (OfMark mark ∷ printed) reads = ((mark_piece mark reads.0).clear, printed_clear printed reads.1)
@@ -137,6 +146,7 @@ abbrev pub AreBefore : List StripeLine → ℕ → ℕ → Type 0
 AreBefore [] g s = ⊤
 AreBefore (line ∷ lines) g s = ((line.group < g) ⊎ ((line.group ≡ g) × (line.stripe < s))) × AreBefore lines g s
 
+-- of lines, and then others
 pub before_both : (one other : List StripeLine) (g s : ℕ) → AreBefore one g s → AreBefore other g s → AreBefore (one ++ other) g s
 before_both [] other g s first second = second
 before_both (line ∷ one) other g s first second = (first.0, before_both one other g s first.1 second)
@@ -150,6 +160,7 @@ before_stripe (line ∷ lines) g s t le before = (later before.0, before_stripe 
     later (inl lower) = inl lower
     later (inr here) = inr (here.0, omega (arith, here.1))
 
+-- a later group
 pub before_group : (lines : List StripeLine) (g s : ℕ) → AreBefore lines g s → AreBefore lines (g + 1) 0
 before_group [] g s before = tt
 before_group (line ∷ lines) g s before = (inl (later before.0), before_group lines g s before.1)
@@ -158,15 +169,18 @@ before_group (line ∷ lines) g s before = (inl (later before.0), before_group l
     later (inl lower) = omega arith
     later (inr here) = omega (arith, here.0)
 
+-- the test of it
 before_test : (a b : StripeLine) → (a.group < b.group) ⊎ ((a.group ≡ b.group) × (a.stripe < b.stripe)) → stripe_before a b ≡ true
 before_test a b (inl lower) = grind (arith, nat_tests)
 before_test a b (inr here) = grind (arith, nat_tests)
 
+-- so a line is behind any of those before it
 before_at : (lines : List StripeLine) (line : StripeLine) (k : ℕ) → AreBefore lines line.group line.stripe → is_behind (slice_get lines k) line ≡ true
 before_at [] line k before = refl
 before_at (first ∷ lines) line zero before = before_test first line before.0
 before_at (first ∷ lines) line (suc k) before = before_at lines line k before.1
 
+-- the line of a stripe behind the last leads on
 stripe_after : (claims : List Claim) (lines : List StripeLine) (line : StripeLine) → AreBefore lines line.group line.stripe
     → after_entry (of_stripes claims lines) (entry.Happened line) ≡ Some (of_stripes claims (lines ++ line ∷ []))
 unfolding after_entry
@@ -178,6 +192,7 @@ abbrev pub stripe_lines : ℕ → ℕ → List Happening → List StripeLine
 stripe_lines g s [] = []
 stripe_lines g s (h ∷ happenings) = record { group = g; stripe = s; happenings = h ∷ happenings } ∷ []
 
+-- its text
 abbrev pub stripe_contents : ℕ → ℕ → List Happening → List (List ℕ)
 stripe_contents g s [] = []
 stripe_contents g s (h ∷ happenings) = happened_line g s h happenings ∷ []
@@ -189,6 +204,7 @@ pub record StripeReads (g s : ℕ) (happenings : List Happening) : Type 0 where
   pub each : AllRead happenings
   pub few : length happenings < 2000000
 
+-- no byte of it ends one
 pub stripe_clear : (g s : ℕ) (happenings : List Happening) → StripeReads g s happenings → AreClear (stripe_contents g s happenings)
 stripe_clear g s [] reads = tt
 stripe_clear g s (h ∷ happenings) reads =
@@ -210,11 +226,13 @@ stripe_read g s (h ∷ happenings) n claims lines few reads before more =
 
 -- counts
 
+-- the counts lead on
 counts_after : (claims : List Claim) (lines : List StripeLine) (counts : Counts)
     → after_entry (of_stripes claims lines) (entry.Counted counts) ≡ Some (record { claims = claims; stripes = lines; counts = Some counts })
 unfolding after_entry
 counts_after claims lines counts = refl
 
+-- and end the text
 text_ends : (n : ℕ) (claims : List Claim) (lines : List StripeLine) (counts : Counts)
     → text_behind n (record { claims = claims; stripes = lines; counts = Some counts }) []
     ≡ Whole (record { claims = claims; stripes = lines; counts = Some counts }) counts

@@ -52,6 +52,7 @@ pub marks_back : (marks : List Mark) → marks_of (map claim_of marks) ≡ marks
 marks_back [] = refl
 marks_back (mark ∷ marks) = ap (λ (m : Mark). m ∷ marks_of (map claim_of marks)) (claimed mark) ∙ ap (λ (l : List Mark). mark ∷ l) (marks_back marks)
 
+-- each mark is at its place
 each_placed : (from : ℕ) (marks : List Mark) → ((k : ℕ) (mark : Mark) → slice_get marks k ≡ Some mark → position_of mark ≡ from + k)
     → EachPlaced from marks
 each_placed from [] placed = tt
@@ -60,10 +61,12 @@ each_placed from (mark ∷ marks) placed = (
   each_placed (from + 1) marks (λ k one at. let there = placed (suc k) one at in omega (arith, there)),
 )
 
+-- each mark reads back
 each_read : (marks : List Mark) → ((k : ℕ) (mark : Mark) → slice_get marks k ≡ Some mark → MarkReads mark) → EachReads marks
 each_read [] reads = tt
 each_read (mark ∷ marks) reads = (reads 0 mark refl, each_read marks (λ k one at. reads (suc k) one at))
 
+-- the last line is that of the counts, and its line feed
 counts_end_text : (lines : ℕ) (marks : List Mark)
     → count_text lines marks
     ≡ counts_line lines (record { begun = count_by is_begin marks; answered = count_by is_answered marks; aborted = count_by is_aborted marks; crashes = count_by is_crash marks })
@@ -76,9 +79,11 @@ module _ (layout : Layout) (is : IsLayout layout) (schedule : List (List ℕ)) (
   abbrev events : List Event
   events = all_events steps
 
+  -- the world that they leave
   abbrev w : World
   w = left_by layout steps
 
+  -- the times that clocks are set to have a spelling
   timely : EventsFit events
   timely = steps_fit are.first are.last schedule steps are.lines are.leads
 
@@ -86,9 +91,11 @@ module _ (layout : Layout) (is : IsLayout layout) (schedule : List (List ℕ)) (
   printed : IsPrintedAs (first_world layout) w (steps_text (coding layout) (first_world layout) steps) (length steps)
   printed = schedule_printed layout schedule steps are
 
+  -- the laws of the disk
   laws : Laws (coding layout) (layout_views layout) w
   laws = marking.laws layout is events timely
 
+  -- the marks among the printed lines are the world's
   marks_are : printed_marks printed.printed ≡ w.marks
   marks_are = sym printed.marks_are
 
@@ -98,23 +105,27 @@ module _ (layout : Layout) (is : IsLayout layout) (schedule : List (List ℕ)) (
       (numbered_run (coding layout) events (first_world layout)
       (record { count = refl; each = λ k n at. absurd (let never : None ≡ Some n = at in cc) })).count
 
+  -- no more begin than there are steps
   begins_few : count_by is_begin w.marks ≤ length steps
   begins_few =
       let low = begins_among printed.printed in
       let most = printed.few in
       omega (arith, subst (λ (l : List Mark). count_by is_begin l ≤ others printed.printed) marks_are low, most)
 
+  -- so no operation has a greater number
   lives_low : (n : ℕ) (life : Life) → life_of w.marks n ≡ Some life → n ≤ length steps
   lives_low n life at =
       let own = ((books (coding layout) events).lives n life at).1 in
       omega (arith, own, begun_is, begins_are w.marks, begins_few)
 
+  -- and hardly more end
   ends_low : count_by is_end w.marks ≤ length steps + 1
   ends_low =
       ends_few w.marks laws.well_formed laws.without_gaps.placed
       (λ n life at. ((books (coding layout) events).lives n life at).0) (length steps)
       (λ k p n answer at. let word = laws.words k p n answer at in lives_low n word.0 word.2)
 
+  -- so many lines are printed before the happenings
   lines_low : length printed.printed ≤ length steps + (length steps + 1)
   lines_low =
       let most = printed.few in
@@ -125,6 +136,7 @@ module _ (layout : Layout) (is : IsLayout layout) (schedule : List (List ℕ)) (
         subst (λ (l : List Mark). count_by is_end l ≤ length steps + 1) (sym marks_are) ends_low,
       )
 
+  -- and so many marks are made
   marks_low : length w.marks ≤ length steps + (length steps + 1)
   marks_low =
       omega (arith, lines_low, subst (λ (l : List Mark). length l ≤ length printed.printed) marks_are (marks_among_lines printed.printed))
@@ -140,9 +152,11 @@ module _ (layout : Layout) (is : IsLayout layout) (schedule : List (List ℕ)) (
       let within = slice_get_within (begun_numbers w.marks) place.0 n place.1 in
       omega (arith, number, within, begins_are w.marks, begins_few, few))
 
+  -- the marks as they are claimed
   abbrev claims : List Claim
   claims = map claim_of w.marks
 
+  -- the printed lines say the marks
   printed_reads : Reads 0 (of_marks []) (map printed_line printed.printed) (0 + length printed.printed) (of_marks claims)
   printed_reads =
       subst (λ (l : List Mark). Reads 0 (of_marks []) (map printed_line printed.printed) (0 + length printed.printed)
@@ -163,6 +177,7 @@ module _ (layout : Layout) (is : IsLayout layout) (schedule : List (List ℕ)) (
     stripe_small = marking.stripe_few layout is;
   }
 
+  -- the lines of all stripes
   stage : Stage layout w.marks (happenings_of w) story claims
       (0 + length printed.printed) 64 0
       (groups_text_of layout w.marks (happenings_of w) story claims
@@ -171,6 +186,7 @@ module _ (layout : Layout) (is : IsLayout layout) (schedule : List (List ℕ)) (
       groups_stage layout w.marks (happenings_of w) story claims
       (0 + length printed.printed) (omega (arith, lines_low, begins_few, few)) 64
 
+  -- their text is what is printed
   groups_same : (g : ℕ) → groups_text layout w g
       ≡ groups_text_of layout w.marks (happenings_of w) story claims
       (0 + length printed.printed) g
@@ -193,6 +209,7 @@ module _ (layout : Layout) (is : IsLayout layout) (schedule : List (List ℕ)) (
     crashes = count_by is_crash w.marks;
   }
 
+  -- they have a spelling
   counts_read : CountsRead counts
   counts_read =
       let all = marks_low in
@@ -207,6 +224,7 @@ module _ (layout : Layout) (is : IsLayout layout) (schedule : List (List ℕ)) (
         crashes = omega (arith, four, all, few);
       }
 
+  -- so has the number of lines of the schedule
   steps_small : IsSmall (length steps)
   steps_small = omega (arith, few)
 
@@ -214,6 +232,7 @@ module _ (layout : Layout) (is : IsLayout layout) (schedule : List (List ℕ)) (
   abbrev all_lines : List (List ℕ)
   all_lines = map printed_line printed.printed ++ (stage.contents ++ (counts_line (length steps) counts ∷ []))
 
+  -- they are the printed text
   text_is : steps_text (coding layout) (first_world layout) steps ++ closing_text layout w (length steps) ≡ text_of_lines all_lines
   text_is =
       ap (λ (l : List ℕ). l ++ closing_text layout w (length steps)) (printed.text_is ∙ printed_lines printed.printed)
@@ -225,6 +244,7 @@ module _ (layout : Layout) (is : IsLayout layout) (schedule : List (List ℕ)) (
       (sym (lines_both stage.contents (counts_line (length steps) counts ∷ [])))
       ∙ sym (lines_both (map printed_line printed.printed) (stage.contents ++ (counts_line (length steps) counts ∷ [])))
 
+  -- no byte of them ends one
   all_clear : AreClear all_lines
   all_clear =
       clear_all (map printed_line printed.printed) (stage.contents ++ (counts_line (length steps) counts ∷ []))
@@ -262,10 +282,12 @@ module _ (layout : Layout) (is : IsLayout layout) (schedule : List (List ℕ)) (
             (laws.strict g s group here),
       )
 
+  -- a stripe that the layout has is one of a group's
   stripe_within : (g s : ℕ) (found : Option Group) → HasStripe found s → s < stripes_of found
   stripe_within g s None has = absurd has
   stripe_within g s (Some group) has = has
 
+  -- so is a stripe that a line names
   named_within : (lines : List StripeLine) → AreOfLayout layout w.marks (happenings_of w) story
       claims (0 + length printed.printed) lines
       → (i : ℕ) (line : StripeLine) → slice_get lines i ≡ Some line → line.stripe < stripes_of (group_of layout line.group)
@@ -274,6 +296,7 @@ module _ (layout : Layout) (is : IsLayout layout) (schedule : List (List ℕ)) (
       subst (λ (l : StripeLine). l.stripe < stripes_of (group_of layout l.group)) (same_Some first line at) all.0
   named_within (first ∷ lines) all (suc i) line at = named_within lines all.1 i line at
 
+  -- the happenings of each stripe hold
   stripes_hold : StripesHold layout w.marks stage.lines
   stripes_hold g s (inl has) =
       holds_in g s (group_of layout g) refl (stripe_within g s (group_of layout g) has)
@@ -283,9 +306,11 @@ module _ (layout : Layout) (is : IsLayout layout) (schedule : List (List ℕ)) (
       (subst (λ (x : ℕ). x < stripes_of (group_of layout g)) named.4
       (subst (λ (x : ℕ). named.1.stripe < stripes_of (group_of layout x)) named.3 within))
 
+  -- the counts hold
   counts_hold : CountsHold counts w.marks
   counts_hold = record { begun = refl; answered = refl; aborted = refl; crashes = refl }
 
+  -- The text is sound.
   pub sound_text : IsSoundText layout (steps_text (coding layout) (first_world layout) steps ++ closing_text layout (left_by layout steps)
       (length steps))
   sound_text =

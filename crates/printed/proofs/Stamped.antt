@@ -60,19 +60,23 @@ record NodeFits (node : Node) : Type 0 where
 abbrev RequestFits : Request → Type 0
 RequestFits request = (t : Stamp) → stamp_asked request ≡ Some t → StampReads t
 
+-- a reply
 abbrev pub ReplyFits : Reply → Type 0
 ReplyFits (Reply.Later x) = StampReads x
 ReplyFits reply = ⊤
 
+-- a message
 abbrev pub MessageFits : Message → Type 0
 MessageFits (Message.Request call request) = RequestFits request
 MessageFits (Message.Reply call reply) = ReplyFits reply
 MessageFits message = ⊤
 
+-- a message on its way: it is of a brick of the layout
 pub record PacketFits (bricks : ℕ) (packet : Packet) : Type 0 where
   pub from : packet.from.0 < bricks
   pub message : MessageFits packet.message
 
+-- each of these
 abbrev AreFit : ℕ → List Packet → Type 0
 AreFit bricks packets = (k : ℕ) (packet : Packet) → slice_get packets k ≡ Some packet → PacketFits bricks packet
 
@@ -86,19 +90,23 @@ pub record WorldFits (setting : Setting) (w : World) : Type 0 where
 
 -- packets
 
+-- none
 no_packets : (bricks : ℕ) → AreFit bricks []
 no_packets bricks k packet at = absurd (let never : None ≡ Some packet = at in cc)
 
+-- some, and then others
 packets_both : (bricks : ℕ) (one other : List Packet) → AreFit bricks one → AreFit bricks other → AreFit bricks (one ++ other)
 packets_both bricks one other first second k packet at = ⊎_elim
     (λ (old : slice_get one k ≡ Some packet). first k packet old)
     (λ (new : (j : ℕ) × (slice_get other j ≡ Some packet)). second new.0 packet new.1)
     (get_grown one other k packet at)
 
+-- one, and then others
 one_packet : (bricks : ℕ) (one : Packet) (rest : List Packet) → PacketFits bricks one → AreFit bricks rest → AreFit bricks (one ∷ rest)
 one_packet bricks one rest first others zero packet at = subst (λ (z : Packet). PacketFits bricks z) (same_Some one packet at) first
 one_packet bricks one rest first others (suc k) packet at = others k packet at
 
+-- a request to each member
 members_fit : (bricks : ℕ) (me : BrickId) (call : Call) (request : ℕ → Request) (seat : ℕ) (members : List BrickId) → me.0 < bricks
     → ((k : ℕ) → RequestFits (request k)) → AreFit bricks (to_members me call request seat members)
 members_fit bricks me call request seat members there fits k packet at =
@@ -119,19 +127,23 @@ asked_own code d seat (Modifies base j) t is = sym (same_Some d.stamp t is)
 asked_own code d seat (Bases base) t is = sym (same_Some d.stamp t is)
 asked_own code d seat Stores t is = sym (same_Some d.stamp t is)
 
+-- what a phase asks for has a spelling
 request_fits : (code : Code) (d : Coordinator) (seat : ℕ) → CallFits d → RequestFits (request_of code d seat)
 request_fits code d seat fits t is = subst (λ (z : Stamp). StampReads z) (sym (asked_own code d seat d.phase t is)) fits.stamp
 
+-- the requests of a phase
 phase_fits : (setting : Setting) (me : BrickId) (d : Coordinator) → me.0 < setting.layout.bricks → CallFits d
     → AreFit setting.layout.bricks (phase_packets setting me d)
 phase_fits setting me d there fits =
     members_fit setting.layout.bricks me d.call (request_of setting.code d) 0 d.group.members there (λ k. request_fits setting.code d k fits)
 
+-- the requests to collect
 collects_fit : (bricks : ℕ) (me : BrickId) (c : Coordinator) (held : Option Stamp) → me.0 < bricks → AreFit bricks (collect_packets me c held)
 collects_fit bricks me c None there = no_packets bricks
 collects_fit bricks me c (Some t) there =
     members_fit bricks me c.call (λ seat. Request.Collect t) 0 c.group.members there (λ k u is. absurd (let never : None ≡ Some u = is in cc))
 
+-- a phase's requests again
 resent_fit : (bricks : ℕ) (me : BrickId) (call : Call) (request : ℕ → Request) (counted : List Counted) (seat : ℕ) (members : List BrickId)
     → me.0 < bricks → ((k : ℕ) → RequestFits (request k)) → AreFit bricks (resent_to me call request counted seat members)
 resent_fit bricks me call request counted seat [] there fits = no_packets bricks
@@ -144,6 +156,7 @@ resent_fit bricks me call request counted seat (member ∷ members) there fits =
     (λ hasnt. one_packet bricks (record { from = me; to = member; message = Message.Request call (request seat) })
     (resent_to me call request counted (seat + 1) members) (record { from = there; message = fits seat }) rest)
 
+-- those of all open operations again
 ticked_fit : (setting : Setting) (me : BrickId) (calls : ℕ → Option Coordinator) (k : ℕ) → me.0 < setting.layout.bricks
     → ((j : ℕ) (c : Coordinator) → calls j ≡ Some c → CallFits c) → AreFit setting.layout.bricks (resent_up_to setting me calls k)
 ticked_fit setting me calls zero there fits = no_packets setting.layout.bricks
@@ -159,9 +172,11 @@ ticked_fit setting me calls (suc k) there fits =
 
 -- members
 
+-- the greater of two stamps
 max_fits : (a b : Stamp) → StampReads a → StampReads b → StampReads (stamp_max a b)
 max_fits a b first second = cond_both (stamp_below a b) b a (λ (z : Stamp). StampReads z) (λ is. second) (λ isnt. first)
 
+-- how far a part has come, by its newest version
 top_cases : (replica : Replica) (newest : Option Version) → newest_of replica.log ≡ newest → PartFits replica → StampReads (top_of replica)
 unfolding top_of
 top_cases replica None is fits = rw is fits.order
@@ -169,9 +184,11 @@ top_cases replica (Some version) is fits =
     let at = newest_stands replica.log version is in
     rw is (max_fits replica.order version.stamp fits.order (fits.log at.0 version at.1))
 
+-- how far a part has come
 top_fits : (replica : Replica) → PartFits replica → StampReads (top_of replica)
 top_fits replica fits = top_cases replica (newest_of replica.log) refl fits
 
+-- a reply, where there is one
 abbrev AnyReplyFits : Option Reply → Type 0
 AnyReplyFits None = ⊤
 AnyReplyFits (Some reply) = ReplyFits reply
@@ -181,12 +198,15 @@ record ReactionFits (reaction : Reaction) : Type 0 where
   part : PartFits reaction.replica
   reply : AnyReplyFits reaction.reply
 
+-- a refusal tells how far the part has come
 refuses_fits : (replica : Replica) → PartFits replica → ReactionFits (stays replica (Reply.Later (top_of replica)))
 refuses_fits replica fits = record { part = fits; reply = top_fits replica fits }
 
+-- the part once it promised a stamp
 promised_part : (replica : Replica) (t : Stamp) (reply : Reply) → PartFits replica → StampReads t → PartFits (promised replica t reply).replica
 promised_part replica t reply fits reads = record { order = reads; log = fits.log }
 
+-- once it stored a version
 stored_fits : (replica : Replica) (t : Stamp) (block : List ℕ) → PartFits replica → StampReads t → ReactionFits (stored replica t block)
 stored_fits replica t block fits reads = record {
   part = record {
@@ -200,6 +220,7 @@ stored_fits replica t block fits reads = record {
   reply = tt;
 }
 
+-- or where its store was full
 unless_full_fits : (full : Option ℕ) (replica : Replica) (reaction : Reaction) → PartFits replica → ReactionFits reaction
     → ReactionFits (unless_full full replica reaction)
 unless_full_fits None replica reaction fits goes = goes
@@ -207,6 +228,7 @@ unless_full_fits (Some live) replica reaction fits goes =
     cond_both (nat_lt reaction.drops reaction.adds) (stays replica (Reply.Full live)) reaction (λ (z : Reaction). ReactionFits z)
     (λ more. record { part = fits; reply = tt }) (λ same. goes)
 
+-- each request
 handle_fits : (code : Code) (m : ℕ) (full : Option ℕ) (seat : ℕ) (replica : Replica) (request : Request) → PartFits replica → RequestFits request
     → ReactionFits (handle code m full seat replica request)
 unfolding handle
@@ -249,14 +271,17 @@ handle_fits code m full seat replica (Request.Accept ballot members) fits reads 
 
 -- steps
 
+-- a step of a brick, which leaves its store opened as often
 record StepFits (bricks boot : ℕ) (step : NodeStep) : Type 0 where
   node : NodeFits step.node
   opened_as : step.node.boot ≡ boot
   packets : AreFit bricks step.packets
 
+-- a step that does nothing
 quiet_fits : (bricks : ℕ) (node : Node) → NodeFits node → StepFits bricks node.boot (no_step node)
 quiet_fits bricks node fits = record { node = fits; opened_as = refl; packets = no_packets bricks }
 
+-- the reply that is sent
 replies_fit : (bricks : ℕ) (me to : BrickId) (call : Call) (reply : Option Reply) → me.0 < bricks → AnyReplyFits reply
     → AreFit bricks (reply_packets me to call reply)
 replies_fit bricks me to call None there fits = no_packets bricks
@@ -264,6 +289,7 @@ replies_fit bricks me to call (Some reply) there fits =
     one_packet bricks (record { from = me; to = to; message = Message.Reply call reply }) [] (record { from = there; message = fits })
     (no_packets bricks)
 
+-- a member's step
 reacted_fits : (bricks : ℕ) (me from : BrickId) (node : Node) (call : Call) (reaction : Reaction) → me.0 < bricks → NodeFits node
     → ReactionFits reaction
     → StepFits bricks node.boot (reacted me from node call reaction)
@@ -278,6 +304,7 @@ reacted_fits bricks me from node call reaction there fits goes = record {
   packets = replies_fit bricks me from call reaction.reply there goes.reply;
 }
 
+-- a brick's step on a request
 requested_fits : (setting : Setting) (me from : BrickId) (node : Node) (call : Call) (request : Request) → me.0 < setting.layout.bricks
     → NodeFits node
     → RequestFits request → StepFits setting.layout.bricks node.boot (requested setting me from node call request)
@@ -296,12 +323,14 @@ time_fits now known clock later =
     let left : known < 2 ^ 64 - 1 = ltb-true known (2 ^ 64 - 1) later in
     omega arith
 
+-- a new stamp
 stamp_fits : (layout : Layout) (me : BrickId) (view : ViewNo) (now boot known : ℕ) → layout.bricks ≤ 64 → me.0 < layout.bricks → IsSmall view.0
     → IsSmall now
     → IsSmall boot → has_later_time known ≡ true → StampReads (new_stamp me view now boot known)
 stamp_fits layout me view now boot known few there seen clock opened later =
     record { view = seen; time = time_fits now known clock later; brick = omega arith; boot = opened }
 
+-- the stamp of a new round
 fresh_fits : (layout : Layout) (me : BrickId) (view : ViewNo) (now boot known : ℕ) (t : Stamp) → layout.bricks ≤ 64 → me.0 < layout.bricks
     → IsSmall view.0
     → IsSmall now → IsSmall boot → fresh_stamp me view now boot known ≡ Some t → StampReads t
@@ -319,12 +348,14 @@ NextReads (Sends d) = CallFits d
 NextReads (Makes d) = CallFits d
 NextReads (Ends answer seen held) = ⊤
 
+-- the operation with the stamp and the view that it had
 same_call : (c d : Coordinator) → CallFits c → d.stamp ≡ c.stamp → d.call.view ≡ c.call.view → CallFits d
 same_call c d fits stamp view = record {
   stamp = subst (λ (z : Stamp). StampReads z) (sym stamp) fits.stamp;
   view = subst (λ (z : ViewNo). IsSmall z.0) (sym view) fits.view;
 }
 
+-- each decision
 next_reads : (fresh : Option Stamp) (c : Coordinator) (next : Next) → NextFits fresh c next → CallFits c
     → ((t : Stamp) → fresh ≡ Some t → StampReads t) → NextReads next
 next_reads fresh c Ignores goes fits reads = tt
@@ -342,6 +373,7 @@ next_reads fresh c (Sends d) goes fits reads = ⊎_elim
 next_reads fresh c (Makes d) goes fits reads = same_call c d fits goes.stamp goes.same.view
 next_reads fresh c (Ends answer seen held) goes fits reads = tt
 
+-- a brick with an operation changed
 call_put : (node : Node) (known busy seq : ℕ) (call : Option Coordinator) → NodeFits node
     → ((c : Coordinator) → call ≡ Some c → CallFits c) → NodeFits (with_call node known busy seq call)
 call_put node known busy seq call fits new = record {
@@ -351,9 +383,11 @@ call_put node known busy seq call fits new = record {
   calls = put_each (λ k z. (c : Coordinator) → z ≡ Some c → CallFits c) node.calls seq call new (λ k other. fits.calls k);
 }
 
+-- the operation that was found
 some_call : (d c : Coordinator) → CallFits d → Some d ≡ Some c → CallFits c
 some_call d c fits is = subst (λ (z : Coordinator). CallFits z) (same_Some d c is) fits
 
+-- a brick's step on what was decided
 carried_fits : (setting : Setting) (me : BrickId) (node : Node) (known : ℕ) (c : Coordinator) (next : Next) → me.0 < setting.layout.bricks
     → NodeFits node → NextReads next → StepFits setting.layout.bricks node.boot (carried_out setting me node known c next)
 carried_fits setting me node known c Ignores there fits reads =
@@ -379,6 +413,7 @@ carried_fits setting me node known c (Ends answer seen held) there fits reads = 
   packets = collects_fit setting.layout.bricks me c held there;
 }
 
+-- what is decided once a reply counts, or does not
 counted_reads : (block : ℕ) (code : Code) (fresh : Option Stamp) (c : Coordinator) (from : BrickId) (reply : Reply) (seat : Option ℕ) → CallFits c
     → ((t : Stamp) → fresh ≡ Some t → StampReads t) → NextReads (counted_at block code fresh c from reply seat)
 counted_reads block code fresh c from reply None fits reads = tt
@@ -386,12 +421,14 @@ counted_reads block code fresh c from reply (Some seat) fits reads =
     next_reads fresh (with_reply c seat from reply) (once_full block code fresh (with_reply c seat from reply))
     (once_full_fits block code fresh (with_reply c seat from reply)) (record { stamp = fits.stamp; view = fits.view }) reads
 
+-- what is decided on a reply
 reply_reads : (block : ℕ) (code : Code) (fresh : Option Stamp) (c : Coordinator) (from : BrickId) (call : Call) (reply : Reply) → CallFits c
     → ((t : Stamp) → fresh ≡ Some t → StampReads t) → NextReads (on_reply block code fresh c from call reply)
 unfolding on_reply
 reply_reads block code fresh c from call reply fits reads = counted_reads block code fresh c from reply
     (counts_at block c from.0 call reply) fits reads
 
+-- a brick's step on a reply
 replied_fits : (setting : Setting) (me : BrickId) (now : ℕ) (from : BrickId) (node : Node) (call : Call) (reply : Reply) → setting.layout.bricks ≤ 64
     → me.0 < setting.layout.bricks → IsSmall now → NodeFits node
     → StepFits setting.layout.bricks node.boot (replied setting me now from node call reply)
@@ -416,6 +453,7 @@ replied_fits setting me now from node call reply few there clock fits = at_call 
         (fits.calls call.seq c is).view clock
         fits.boot made))
 
+-- a brick's step on a message
 received_fits : (setting : Setting) (now : ℕ) (from to : BrickId) (message : Message) (node : Node) → setting.layout.bricks ≤ 64
     → to.0 < setting.layout.bricks → IsSmall now → NodeFits node → MessageFits message
     → StepFits setting.layout.bricks node.boot (received setting to now node (record { from = from; to = to; message = message }))
@@ -426,6 +464,7 @@ received_fits setting now from to (Message.Reply call reply) node few there cloc
     replied_fits setting to now from node call reply few there clock fits
 received_fits setting now from to message node few there clock fits reads = quiet_fits setting.layout.bricks node fits
 
+-- a brick that handled a message before it stopped
 absorbed_fits : (setting : Setting) (from to me : BrickId) (message : Message) (node : Node) → me.0 < setting.layout.bricks → NodeFits node
     → MessageFits message → (let after : Node = absorbed setting me node (record { from = from; to = to; message = message }) in
     NodeFits after × (after.boot ≡ node.boot))
@@ -436,14 +475,17 @@ absorbed_fits setting from to me message node there fits reads = (fits, refl)
 
 -- a brick that begins an operation has a later time
 
+-- a reason to refuse that is not met
 spent_not : (b : Bool) (rest : Option Refusal) (r : Refusal) → cond b (Some r) rest ≡ None → (b ≡ false) × (rest ≡ None)
 spent_not true rest r is = absurd (let never : Some r ≡ None = is in cc)
 spent_not false rest r is = (refl, is)
 
+-- a brick that is not spent has a later time
 later_time : (a b : Bool) → not a || b ≡ false → a ≡ true
 later_time true b is = refl
 later_time false b is = absurd (let never : true ≡ false = is in cc)
 
+-- so has one that refuses nothing
 refusal_time : (block : ℕ) (node : Node) (ask : Ask) (found : Option Group) → refusal_in block node ask found ≡ None
     → has_later_time node.known ≡ true
 refusal_time block node ask None none = absurd (let never : Some Refusal.NoStripe ≡ None = none in cc)
@@ -455,13 +497,16 @@ refusal_time block node ask (Some group) none =
     let fifth = spent_not (is_spent node) None Refusal.Spent fourth.1 in
     later_time (has_later_time node.known) (nat_eq node.seq (2 ^ 64 - 1)) fifth.0
 
+-- no reason was found
 no_refusal : (r : Option Refusal) → not (is_some r) ≡ true → r ≡ None
 no_refusal None h = refl
 no_refusal (Some r) h = absurd (let never : false ≡ true = h in cc)
 
+-- a brick that is up is one of the layout
 pub up_brick : (layout : Layout) (w : World) (brick : BrickId) → is_up layout w brick ≡ true → brick.0 < layout.bricks
 up_brick layout w brick up = ltb-true brick.0 layout.bricks (and_parts (is_brick layout brick) (w.up brick.0) up).0
 
+-- a brick that begins an operation has a later time
 begins_time : (setting : Setting) (w : World) (brick : BrickId) (ask : Ask) → may_begin setting w brick ask ≡ true
     → has_later_time (w.nodes brick.0).known ≡ true
 unfolding refusal_of
@@ -470,6 +515,7 @@ begins_time setting w brick ask may =
     refusal_time setting.layout.block (w.nodes brick.0) ask (group_of setting.layout ask.group.0)
     (no_refusal (refusal_of setting.layout (w.nodes brick.0) ask) both.1)
 
+-- a brick's step as it begins an operation
 invoked_fits : (setting : Setting) (me : BrickId) (now : ℕ) (node : Node) (ask : Ask) → setting.layout.bricks ≤ 64 → me.0 < setting.layout.bricks
     → IsSmall now → NodeFits node → has_later_time node.known ≡ true → StepFits setting.layout.bricks node.boot (invoked setting me now node ask)
 unfolding invoked
@@ -498,6 +544,7 @@ invoked_fits setting me now node ask few there clock fits later = in_group (grou
           packets = phase_fits setting me (new_coordinator group me now node ask) there call;
         }
 
+-- a brick that stopped
 stopped_fits : (node : Node) → NodeFits node → NodeFits (stopped node)
 unfolding stopped
 stopped_fits node fits = record {
@@ -507,6 +554,7 @@ stopped_fits node fits = record {
   calls = λ k c is. absurd (let never : None ≡ Some c = is in cc);
 }
 
+-- a brick that was started
 restarted_fits : (openings : ℕ) (node : Node) → NodeFits node → node.boot + openings < 2 ^ 32 → NodeFits (restarted openings node)
 unfolding restarted
 restarted_fits openings node fits low = record {
@@ -516,19 +564,23 @@ restarted_fits openings node fits low = record {
   calls = λ k c is. absurd (let never : None ≡ Some c = is in cc);
 }
 
+-- a stop opens no store
 stopped_boot : (node : Node) → (stopped node).boot ≡ node.boot
 unfolding stopped
 stopped_boot node = refl
 
+-- a start opens it so many times
 restarted_boot : (openings : ℕ) (node : Node) → (restarted openings node).boot ≡ node.boot + openings
 unfolding restarted
 restarted_boot openings node = refl
 
 -- worlds
 
+-- one brick changed
 put_fits : (nodes : ℕ → Node) (i : ℕ) (node : Node) → ((j : ℕ) → NodeFits (nodes j)) → NodeFits node → (j : ℕ) → NodeFits (put nodes i node j)
 put_fits nodes i node fits new = put_each (λ j n. NodeFits n) nodes i node new (λ j other. fits j)
 
+-- the message of a number was sent
 packet_at : (packets : List Packet) (number : ℕ) (packet : Packet) → packet_of packets number ≡ Some packet
     → (k : ℕ) × (slice_get packets k ≡ Some packet)
 packet_at packets zero packet is = absurd (let never : None ≡ Some packet = is in cc)
@@ -541,6 +593,7 @@ tells_keep setting w brick [] = (refl, refl)
 tells_keep setting w brick (Made seq t base ∷ more) = tells_keep setting (world_told setting w brick (Made seq t base)) brick more
 tells_keep setting w brick (Seen seq v ∷ more) = tells_keep setting (world_told setting w brick (Seen seq v)) brick more
 
+-- the same of answers
 answers_keep : (w : World) (brick : BrickId) (answers : List Answered)
     → ((world_answers w brick answers).clocks ≡ w.clocks) × ((world_answers w brick answers).after ≡ w.after)
 answers_keep w brick [] = (refl, refl)
@@ -562,6 +615,7 @@ node_changes setting w next me node more fits clocks after nodes packets new sam
       (packets_both setting.layout.bricks w.packets more fits.packets sent);
 }
 
+-- a brick's step on a message that was sent
 stepped_fits : (setting : Setting) (w : World) (number : ℕ) (packet : Packet) → setting.layout.bricks ≤ 64 → WorldFits setting w
     → is_up setting.layout w packet.to ≡ true → PacketFits setting.layout.bricks packet
     → WorldFits setting (world_stepped setting (record w { replies = replies_with setting w packet; reached = put w.reached number true }) packet.to
@@ -581,6 +635,7 @@ stepped_fits setting w number packet few fits up reads =
     ∙ told.1)
     refl refl steps.node steps.opened_as steps.packets
 
+-- a delivery
 delivered_fits : (setting : Setting) (w : World) (number : ℕ) (packet : Option Packet) → setting.layout.bricks ≤ 64 → WorldFits setting w
     → packet_of w.packets number ≡ packet → WorldFits setting (delivered setting w number packet)
 delivered_fits setting w number None few fits is = fits
@@ -593,9 +648,11 @@ delivered_fits setting w number (Some packet) few fits is =
 
 -- a brick that stops
 
+-- what a brick that stopped may keep
 abbrev LeftFits : Node → Node → Type 0
 LeftFits node after = NodeFits after × (after.boot ≡ node.boot)
 
+-- once a handling was cut short, or none
 left_fits : (setting : Setting) (w : World) (brick : BrickId) (packet : Option Packet) → WorldFits setting w → brick.0 < setting.layout.bricks
     → ((p : Packet) → packet ≡ Some p → PacketFits setting.layout.bricks p)
     → LeftFits (w.nodes brick.0) (left_after setting brick (w.nodes brick.0) packet)
@@ -610,12 +667,14 @@ left_fits setting w brick (Some packet) fits there reads =
     (stopped_fits (absorbed setting brick (w.nodes brick.0) packet) kept.0, stopped_boot (absorbed setting brick (w.nodes brick.0) packet) ∙ kept.1))
     (λ other. (stopped_fits (w.nodes brick.0) (fits.nodes brick.0), stopped_boot (w.nodes brick.0)))
 
+-- the message of that handling was sent
 during_fits : (setting : Setting) (w : World) (during : Option ℕ) (packet : Packet) → WorldFits setting w
     → packet_during w.packets during ≡ Some packet
     → PacketFits setting.layout.bricks packet
 during_fits setting w None packet fits is = absurd (let never : None ≡ Some packet = is in cc)
 during_fits setting w (Some number) packet fits is = let at = packet_at w.packets number packet is in fits.packets at.0 packet at.1
 
+-- a stop
 halted_fits : (setting : Setting) (w : World) (brick : BrickId) (during : Option ℕ) → WorldFits setting w → brick.0 < setting.layout.bricks
     → WorldFits setting (world_stopped setting w brick during)
 halted_fits setting w brick during fits there =
@@ -640,6 +699,7 @@ halted_fits setting w brick during fits there =
 
 -- a brick that starts
 
+-- a brick starts with what it is found to keep
 starts_fits : (setting : Setting) (w : World) (brick : BrickId) (openings : ℕ) (node : Node) → WorldFits setting w → NodeFits node
     → (w.after brick.0).boot ≤ node.boot → node.boot + openings < 2 ^ 32 → (next : World) → next.clocks ≡ w.clocks → next.after ≡ w.after
     → next.packets ≡ w.packets → ((j : ℕ) → j ≢ brick.0 → next.nodes j ≡ w.nodes j) → next.nodes brick.0 ≡ restarted openings node
@@ -665,6 +725,7 @@ starts_fits setting w brick openings node fits new above low next clocks after p
       packets = subst (λ (l : List Packet). AreFit setting.layout.bricks l) (sym packets) fits.packets;
     }
 
+-- a start
 found_fits : (setting : Setting) (w : World) (brick : BrickId) (openings : ℕ) (found : Found) → WorldFits setting w
     → (w.nodes brick.0).boot + openings < 2 ^ 32 → WorldFits setting (world_started (world_found w brick found) brick openings)
 found_fits setting w brick openings Before fits low =
@@ -685,6 +746,7 @@ found_fits setting w brick openings After fits low =
     ∙ put_other w.nodes brick.0 (w.after brick.0) j other)
     (put_same (put w.nodes brick.0 (w.after brick.0)) brick.0 (restarted openings (put w.nodes brick.0 (w.after brick.0) brick.0)))
 
+-- a store is opened so many times at most
 may_open_low : (layout : Layout) (w : World) (brick : BrickId) (openings : ℕ) → may_start layout w brick openings ≡ true
     → (w.nodes brick.0).boot + openings < 2 ^ 32
 may_open_low layout w brick openings may =
@@ -744,9 +806,11 @@ run_fits setting [] w few fits all = fits
 run_fits setting (event ∷ events) w few fits all = run_fits setting events (happens setting w event) few
     (happens_fits setting w event few fits all.0) all.1
 
+-- the first stamp has a spelling
 first_reads : StampReads first_stamp
 first_reads = record { view = omega arith; time = omega arith; brick = omega arith; boot = omega arith }
 
+-- a fresh part
 fresh_part : (block e : ℕ) → PartFits (fresh_replica block e)
 fresh_part block e =
     cond_both (nat_eq e 1) (first_replica block) _ (λ (r : Replica). PartFits r)
@@ -756,6 +820,7 @@ fresh_part block e =
     })
     (λ other. record { order = first_reads; log = λ k version at. absurd (let never : None ≡ Some version = at in cc) })
 
+-- a fresh brick
 first_fits : (layout : Layout) → NodeFits (first_node layout)
 first_fits layout = record {
   boot = omega arith;

@@ -22,9 +22,11 @@ MarkStands setting (Begin p n b ask) = (b.0 < setting.layout.bricks) × BeginFit
 MarkStands setting (End p n answer) = ⊤
 MarkStands setting (Crash p b) = b.0 < setting.layout.bricks
 
+-- each of these marks
 abbrev pub AllStand : Setting → List Mark → Type 0
 AllStand setting marks = (k : ℕ) (mark : Mark) → slice_get marks k ≡ Some mark → MarkStands setting mark
 
+-- one mark more
 one_more : (setting : Setting) (marks : List Mark) (mark : Mark) → AllStand setting marks → MarkStands setting mark
     → AllStand setting (marks ++ (mark ∷ []))
 one_more setting marks mark all new k one at = ⊎_elim
@@ -32,23 +34,27 @@ one_more setting marks mark all new k one at = ⊎_elim
     (λ (last : (k ≡ length marks) × (mark ≡ one)). subst (λ (m : Mark). MarkStands setting m) last.1 new)
     (slice_get_push marks mark one k at)
 
+-- what is told makes no mark
 tells_stand : (setting : Setting) (w : World) (me : BrickId) (told : List Told) → AllStand setting w.marks
     → AllStand setting (world_tells setting w me told).marks
 tells_stand setting w me [] all = all
 tells_stand setting w me (Made seq t base ∷ more) all = tells_stand setting (world_told setting w me (Made seq t base)) me more all
 tells_stand setting w me (Seen seq v ∷ more) all = tells_stand setting (world_told setting w me (Seen seq v)) me more all
 
+-- what is answered makes Ends
 answers_stand : (setting : Setting) (w : World) (me : BrickId) (answers : List Answered) → AllStand setting w.marks
     → AllStand setting (world_answers w me answers).marks
 answers_stand setting w me [] all = all
 answers_stand setting w me (one ∷ more) all =
     answers_stand setting (world_answered w me one) me more (one_more setting w.marks (End (length w.marks) _ one.answer) all tt)
 
+-- a step on a message
 stepped_stand : (setting : Setting) (w : World) (me : BrickId) (step : NodeStep) → AllStand setting w.marks
     → AllStand setting (world_stepped setting w me step).marks
 stepped_stand setting w me step all =
     answers_stand setting (world_tells setting w me step.told) me step.answers (tells_stand setting w me step.told all)
 
+-- a delivery
 delivered_stand : (setting : Setting) (w : World) (number : ℕ) (packet : Option Packet) → AllStand setting w.marks
     → AllStand setting (delivered setting w number packet).marks
 delivered_stand setting w number None all = all
@@ -58,6 +64,7 @@ delivered_stand setting w number (Some packet) all =
     cond_both (is_up setting.layout w packet.to) (world_stepped setting counted packet.to step) w (λ (next : World). AllStand setting next.marks)
     (λ up. stepped_stand setting counted packet.to step all) (λ down. all)
 
+-- a start
 found_stand : (setting : Setting) (w : World) (brick : BrickId) (openings : ℕ) (found : Found) → AllStand setting w.marks
     → AllStand setting (world_started (world_found w brick found) brick openings).marks
 found_stand setting w brick openings Before all = all

@@ -31,10 +31,12 @@ use Rattle.printed.proofs.Reading.{Reads, reads_both, of_stripes, AreBefore, bef
 
 -- where lives end
 
+-- the positions of marks are below this
 abbrev pub AreBelow : ℕ → List Mark → Type 0
 AreBelow most [] = ⊤
 AreBelow most (mark ∷ marks) = (position_of mark < most) × AreBelow most marks
 
+-- those of marks at their places
 pub below_placed : (most from : ℕ) (marks : List Mark) → ((k : ℕ) (mark : Mark) → slice_get marks k ≡ Some mark → position_of mark ≡ from + k)
     → from + length marks ≤ most → AreBelow most marks
 below_placed most from [] placed few = tt
@@ -43,12 +45,14 @@ below_placed most from (mark ∷ marks) placed few = (
   below_placed most (from + 1) marks (λ k one at. let there = placed (suc k) one at in omega (arith, there)) (omega (arith, few)),
 )
 
+-- those of some of them
 below_filter : (most : ℕ) (test : Mark → Bool) (marks : List Mark) → AreBelow most marks → AreBelow most (filter test marks)
 below_filter most test [] below = tt
 below_filter most test (mark ∷ marks) below =
     cond_both (test mark) (mark ∷ filter test marks) (filter test marks) (λ (l : List Mark). AreBelow most l)
     (λ own. (below.0, below_filter most test marks below.1)) (λ other. below_filter most test marks below.1)
 
+-- so an operation's end is no later
 ending_low : (marks : List Mark) (n brick past most : ℕ) → past ≤ most → AreBelow most marks → end_of (ending_of marks n brick past) ≤ most
 ending_low [] n brick past most le below = le
 ending_low (Begin p k b ask ∷ marks) n brick past most le below =
@@ -60,10 +64,12 @@ ending_low (Crash p b ∷ marks) n brick past most le below =
     cond_both (nat_eq b.0 brick) (Interrupted p) (ending_of marks n brick (p + 1)) (λ (e : Ending). end_of e ≤ most)
     (λ its. let low = below.0 in omega arith) (λ other. ending_low marks n brick (p + 1) most (let low = below.0 in omega arith) below.1)
 
+-- an operation ends no later, where it has begun
 abbrev LowLife : ℕ → Option Life → Type 0
 LowLife most None = ⊤
 LowLife most (Some life) = end_of life.ending ≤ most
 
+-- so it is of each operation
 life_low : (marks : List Mark) (n most : ℕ) → AreBelow most marks → LowLife most (life_of marks n)
 life_low [] n most below = tt
 life_low (Begin p k b ask ∷ marks) n most below =
@@ -77,9 +83,11 @@ life_low (Crash p b ∷ marks) n most below = life_low marks n most below.1
 abbrev HasBegin : List Mark → ℕ → Type 0
 HasBegin marks n = (k : ℕ) × (p : ℕ) × (b : BrickId) × (ask : Ask) × (slice_get marks k ≡ Some (Begin p n b ask))
 
+-- a Begin behind one more mark
 later_begin : (mark : Mark) (marks : List Mark) (n : ℕ) → HasBegin marks n → HasBegin (mark ∷ marks) n
 later_begin mark marks n has = (suc has.0, has.1, has.2, has.3, has.4)
 
+-- each life begins
 life_begins : (marks : List Mark) (n : ℕ) (life : Life) → life_of marks n ≡ Some life → HasBegin marks n
 life_begins [] n life is = absurd (let never : None ≡ Some life = is in cc)
 life_begins (Begin p k b ask ∷ marks) n life is =
@@ -92,6 +100,7 @@ life_begins (Crash p b ∷ marks) n life is = later_begin (Crash p b) marks n (l
 
 -- Begins by group and stripe
 
+-- a Begin of a stripe before this one
 abbrev pub is_before : ℕ → ℕ → Mark → Bool
 is_before g s (Begin p n b ask) = nat_lt ask.group.0 g || (nat_eq ask.group.0 g && nat_lt ask.stripe.0 s)
 is_before g s (End p n answer) = false
@@ -108,10 +117,12 @@ less_step p q mark marks k false true first second then rest =
 less_step p q mark marks k false false first second then rest =
     omega (arith, rest, count_no p mark marks first, count_no q mark marks second)
 
+-- a test that passes more
 pub count_less : (p q : Mark → Bool) (marks : List Mark) → ((mark : Mark) → p mark ≡ true → q mark ≡ true) → count_by p marks + 0 ≤ count_by q marks
 count_less p q [] then = omega arith
 count_less p q (mark ∷ marks) then = less_step p q mark marks 0 (p mark) (q mark) refl refl (then mark) (count_less p q marks then)
 
+-- and one mark that only it passes
 count_more : (p q : Mark → Bool) (marks : List Mark) → ((mark : Mark) → p mark ≡ true → q mark ≡ true) → (k : ℕ) (one : Mark)
     → slice_get marks k ≡ Some one → p one ≡ false → q one ≡ true → count_by p marks + 1 ≤ count_by q marks
 count_more p q [] then k one at first second = absurd (let never : None ≡ Some one = at in cc)
@@ -122,16 +133,19 @@ count_more p q (mark ∷ marks) then zero one at first second =
 count_more p q (mark ∷ marks) then (suc k) one at first second =
     less_step p q mark marks 1 (p mark) (q mark) refl refl (then mark) (count_more p q marks then k one at first second)
 
+-- what is before a stripe is before the next
 next_stripe : (g s : ℕ) (mark : Mark) → is_before g s mark ≡ true → is_before g (s + 1) mark ≡ true
 next_stripe g s (Begin p n b ask) is = grind (arith, nat_tests)
 next_stripe g s (End p n answer) is = is
 next_stripe g s (Crash p b) is = is
 
+-- and before the next group
 next_group : (g s : ℕ) (mark : Mark) → is_before g s mark ≡ true → is_before (g + 1) 0 mark ≡ true
 next_group g s (Begin p n b ask) is = grind (arith, nat_tests)
 next_group g s (End p n answer) is = is
 next_group g s (Crash p b) is = is
 
+-- it is a Begin
 pub all_begins : (g s : ℕ) (mark : Mark) → is_before g s mark ≡ true → is_begin mark ≡ true
 all_begins g s (Begin p n b ask) is = refl
 all_begins g s (End p n answer) is = is
@@ -139,6 +153,7 @@ all_begins g s (Crash p b) is = is
 
 -- what is said of a stripe
 
+-- what is said of a stripe behind lines of those before it
 said_right : (xs ys : List StripeLine) (g s : ℕ) → AreBefore xs g s → happenings_said (xs ++ ys) g s ≡ happenings_said ys g s
 said_right [] ys g s before = refl
 said_right (x ∷ xs) ys g s before =
@@ -148,17 +163,20 @@ said_right (x ∷ xs) ys g s before =
     isnt (inl lower) = grind (arith, nat_tests)
     isnt (inr here) = grind (arith, nat_tests)
 
+-- what is said of it before lines of others
 said_left : (xs ys : List StripeLine) (g s : ℕ) → happenings_said ys g s ≡ [] → happenings_said (xs ++ ys) g s ≡ happenings_said xs g s
 said_left [] ys g s none = none
 said_left (x ∷ xs) ys g s none =
     ap (λ (l : List Happening). cond (nat_eq x.group g && nat_eq x.stripe s) x.happenings l) (said_left xs ys g s none)
 
+-- its line says its happenings
 said_here : (g s : ℕ) (happenings : List Happening) → happenings_said (stripe_lines g s happenings) g s ≡ happenings
 said_here g s [] = refl
 said_here g s (h ∷ happenings) =
     let test : (nat_eq g g && nat_eq s s) ≡ true = grind (arith, nat_tests) in
     ap (λ (b : Bool). cond b (h ∷ happenings) []) test
 
+-- and nothing of another stripe
 said_elsewhere : (g s h t : ℕ) (happenings : List Happening) → (nat_eq g h && nat_eq s t) ≡ false
     → happenings_said (stripe_lines g s happenings) h t ≡ []
 said_elsewhere g s h t [] other = refl
@@ -166,6 +184,7 @@ said_elsewhere g s h t (first ∷ happenings) other = ap (λ (b : Bool). cond b 
 
 -- each happening reads back where numbers are small
 
+-- each of some
 each_reads : (happenings : List Happening) → All (λ (h : Happening). HappeningReads h) happenings → AllRead happenings
 each_reads [] all = tt
 each_reads (h ∷ happenings) all = (
@@ -174,10 +193,12 @@ each_reads (h ∷ happenings) all = (
       (All-tail (λ (x : Happening). HappeningReads x) h happenings all),
 )
 
+-- its printed text is its line
 stripe_text : (g s : ℕ) (happenings : List Happening) → happened_text g s happenings ≡ text_of_lines (stripe_contents g s happenings)
 stripe_text g s [] = refl
 stripe_text g s (h ∷ happenings) = happened_ends g s h happenings ∙ sym (one_line_text (happened_line g s h happenings))
 
+-- its line is before the next stripe
 stripe_before : (g s : ℕ) (happenings : List Happening) → AreBefore (stripe_lines g s happenings) g (s + 1)
 stripe_before g s [] = tt
 stripe_before g s (h ∷ happenings) = (inr (refl, omega arith), tt)
@@ -197,11 +218,13 @@ module _ (layout : Layout) (marks : List Mark) (of : ℕ → ℕ → List Happen
   lives g s n None none life is = absurd (let never : None ≡ Some life = sym (none_filtered (concerns g s marks) marks n none) ∙ is in cc)
   lives g s n (Some own) at life is = story.numbers n own at
 
+  -- so has one that happens
   in_time_low : (g s : ℕ) (h : Happening) (o : Option Life) → life_of (stripe_marks g s marks) h.operation ≡ o → IsInTime o h.position
       → h.operation ≤ 1500000
   in_time_low g s h None is in' = absurd in'
   in_time_low g s h (Some life) is in' = lives g s h.operation (life_of marks h.operation) refl life is
 
+  -- a happening has a spelling
   in_time_reads : (g s : ℕ) (h : Happening) → IsInTime (life_of (stripe_marks g s marks) h.operation) h.position → HappeningReads h
   in_time_reads g s h in' = by (life_of (stripe_marks g s marks) h.operation) refl in'
     where
@@ -218,10 +241,12 @@ module _ (layout : Layout) (marks : List Mark) (of : ℕ → ℕ → List Happen
           let late = in'.1 in
           record { operation = omega (arith, number); position = omega (arith, late, low) }
 
+  -- the first number is low, and so are the others
   numbers_step : (q n : ℕ) (more : Bool) → n ≤ 1500000 → (more ≡ true → q < 1500001) → (b : Bool) → eqb q n ≡ b → b || more ≡ true → q < 1500001
   numbers_step q n more low then true same any = let number = eqb-true q n same in omega (arith, number, low)
   numbers_step q n more low then false other any = then any
 
+  -- the numbers of happenings are low
   numbers_low : (g s : ℕ) (happenings : List Happening)
       → All (λ (h : Happening). IsInTime (life_of (stripe_marks g s marks) h.operation) h.position) happenings
       → (q : ℕ) → list_any (eqb q) (map (λ (h : Happening). h.operation) happenings) ≡ true → q < 1500001
@@ -283,6 +308,7 @@ module _ (layout : Layout) (marks : List Mark) (of : ℕ → ℕ → List Happen
   AreOfLayout [] = ⊤
   AreOfLayout (line ∷ lines) = (line.stripe < count line.group) × AreOfLayout lines
 
+  -- of lines, and then others
   layout_both : (one other : List StripeLine) → AreOfLayout one → AreOfLayout other → AreOfLayout (one ++ other)
   layout_both [] other first second = second
   layout_both (line ∷ one) other first second = (first.0, layout_both one other first.1 second)
@@ -322,6 +348,7 @@ module _ (layout : Layout) (marks : List Mark) (of : ℕ → ℕ → List Happen
   stripes_text_of g zero = []
   stripes_text_of g (suc s) = stripes_text_of g s ++ happened_text g s (of g s)
 
+  -- of groups
   abbrev pub groups_text_of : ℕ → List ℕ
   groups_text_of zero = []
   groups_text_of (suc g) = groups_text_of g ++ stripes_text_of g (count g)
@@ -346,11 +373,13 @@ module _ (layout : Layout) (marks : List Mark) (of : ℕ → ℕ → List Happen
             → (nat_lt ask.group.0 g || (nat_eq ask.group.0 g && nat_lt ask.stripe.0 (s + 1))) ≡ true
         inside ask group_is stripe_is = grind (arith, nat_tests)
 
+    -- the line of a stripe is of the layout
     lines_of_layout : (g s : ℕ) (group : Group) (happenings : List Happening) → group_of layout g ≡ Some group → s < group.stripes
         → AreOfLayout (stripe_lines g s happenings)
     lines_of_layout g s group [] is within = tt
     lines_of_layout g s group (h ∷ happenings) is within = (subst (λ (o : Option Group). s < stripes_of o) (sym is) within, tt)
 
+    -- what is said of the stripes before the next one
     said_more : (g s : ℕ) (lines : List StripeLine) → AreBefore lines g s → ((h t : ℕ) → IsOver h t g s → happenings_said lines h t ≡ of h t)
         → (h t : ℕ) → IsOver h t g (s + 1) → happenings_said (lines ++ stripe_lines g s (of g s)) h t ≡ of h t
     said_more g s lines before said h t (inl low) =
@@ -371,6 +400,7 @@ module _ (layout : Layout) (marks : List Mark) (of : ℕ → ℕ → List Happen
             (said_elsewhere g s h t (of g s) (let test : (nat_eq g h && nat_eq s t) ≡ false = grind (arith, nat_tests) in test))
             ∙ said h t (inr (here.0, (let lower = here.1 in omega arith)))
 
+    -- the next stripe of a group
     next_of : (g s : ℕ) (group : Group) (text : List ℕ) → group_of layout g ≡ Some group → s < group.stripes → Stage g s text
         → Stage g (s + 1) (text ++ happened_text g s (of g s))
     next_of g s group text is within stage =
@@ -403,6 +433,7 @@ module _ (layout : Layout) (marks : List Mark) (of : ℕ → ℕ → List Happen
           of_layout = layout_both stage.lines (stripe_lines g s (of g s)) stage.of_layout (lines_of_layout g s group (of g s) is within);
         }
 
+    -- the stripes of a group
     next_stripes : (g : ℕ) (group : Group) (text : List ℕ) → group_of layout g ≡ Some group → Stage g 0 text → (s : ℕ) → s ≤ group.stripes
         → Stage g s (text ++ stripes_text_of g s)
     next_stripes g group text is stage zero few = subst (λ (l : List ℕ). Stage g 0 l) (sym (append-nil text)) stage
@@ -421,6 +452,7 @@ module _ (layout : Layout) (marks : List Mark) (of : ℕ → ℕ → List Happen
         (cases_lt h g)
     over_group h t g (inr here) = absurd (let lower = here.1 in omega arith)
 
+    -- all stripes of a group are those before the next group
     shut_group : (g : ℕ) (text : List ℕ) → Stage g (count g) text → Stage (g + 1) 0 text
     shut_group g text stage =
         let few = stage.few in
@@ -437,6 +469,7 @@ module _ (layout : Layout) (marks : List Mark) (of : ℕ → ℕ → List Happen
           of_layout = stage.of_layout;
         }
 
+    -- the stripes of the next group, where there is one
     next_group_of : (g : ℕ) (found : Option Group) → group_of layout g ≡ found → (text : List ℕ) → Stage g 0 text
         → Stage g (count g) (text ++ stripes_text_of g (count g))
     next_group_of g None is text stage =
@@ -446,6 +479,7 @@ module _ (layout : Layout) (marks : List Mark) (of : ℕ → ℕ → List Happen
         subst (λ (k : ℕ). Stage g k (text ++ stripes_text_of g k)) (ap stripes_of (sym is))
         (next_stripes g group text is stage group.stripes (omega arith))
 
+    -- The lines of the first groups.
     pub groups_stage : (g : ℕ) → Stage g 0 (groups_text_of g)
     groups_stage zero = first_stage
     groups_stage (suc g) =

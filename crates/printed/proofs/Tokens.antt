@@ -23,9 +23,11 @@ use Rattle.transcript.specs.Words.{or_else}
 pub bind_some : {A B : Type 0} (found : Option A) (x : A) (next : A → Option B) → found ≡ Some x → (found >>= next) ≡ next x
 bind_some found x next is = ap (option_and_then next) is
 
+-- one reading was found
 pub or_some : {A B : Type 0} (found : Option A) (x : A) (here : A → B) (there : B) → found ≡ Some x → or_else found here there ≡ here x
 or_some found x here there is = ap (λ (o : Option _). or_else o here there) is
 
+-- it was not
 pub or_none : {A B : Type 0} (found : Option A) (here : A → B) (there : B) → found ≡ None → or_else found here there ≡ there
 or_none found here there is = ap (λ (o : Option _). or_else o here there) is
 
@@ -36,12 +38,14 @@ all_both p (x ∷ xs) ys one other =
     let parts = and_parts (p x) (list_all p xs) one in
     ap (λ (b : Bool). b && list_all p (xs ++ ys)) parts.0 ∙ all_both p xs ys parts.1 other
 
+-- a test that passes more
 pub all_then : (p q : ℕ → Bool) (xs : List ℕ) → ((b : ℕ) → p b ≡ true → q b ≡ true) → list_all p xs ≡ true → list_all q xs ≡ true
 all_then p q [] then all = refl
 all_then p q (x ∷ xs) then all =
     let parts = and_parts (p x) (list_all p xs) all in
     ap (λ (b : Bool). b && list_all q xs) (then x parts.0) ∙ all_then p q xs then parts.1
 
+-- no byte passes a test that all fail
 none_any : (p : ℕ → Bool) (xs : List ℕ) → list_all (λ b. not (p b)) xs ≡ true → list_any p xs ≡ false
 none_any p [] all = refl
 none_any p (x ∷ xs) all =
@@ -66,26 +70,33 @@ pub piece_both : (a b : ℕ) (xs ys : List ℕ) → IsPiece a xs → IsPiece b y
 piece_both a b xs ys one other =
     record { clear = all_both is_clear xs ys one.clear other.clear; short = omega (arith, length-append xs ys, one.short, other.short) }
 
+-- so many are at most as many as more
 pub piece_most : (a b : ℕ) (xs : List ℕ) → a ≤ b → IsPiece a xs → IsPiece b xs
 piece_most a b xs le one = record { clear = one.clear; short = omega (arith, one.short) }
 
 -- the digits of a number
 
+-- bytes that are digits alone
 abbrev AreDigits : List ℕ → Type 0
 AreDigits token = list_all is_ascii_digit token ≡ true
 
+-- the test of it
 tells : IsDigitsTest AreDigits
 tells = search rules
 
+-- they spell a number
 model : IsNumeralModel AreDigits (digits_value 10)
 model = numerals_by_value AreDigits tells
 
+-- a number's text is digits
 pub digits_of : (n : ℕ) → n < 2 ^ 64 → AreDigits (decimal n)
 digits_of n small = digits_decimal model n small
 
+-- a digit is clear
 digit_clear : (b : ℕ) → is_ascii_digit b ≡ true → is_clear b ≡ true
 digit_clear b is = grind (arith, nat_tests)
 
+-- a number's text is at most 20 bytes
 pub digits_piece : (n : ℕ) → n < 2 ^ 64 → IsPiece 20 (decimal n)
 digits_piece n small = record {
   clear = all_then is_ascii_digit is_clear (decimal n) digit_clear (digits_of n small);
@@ -107,15 +118,18 @@ pub record BeginsDigit (text : List ℕ) : Type 0 where
   pub low : 48 ≤ first
   pub high : first ≤ 57
 
+-- a digit is from 48 to 57
 digit_range : (b : ℕ) → is_ascii_digit b ≡ true → (48 ≤ b) × (b ≤ 57)
 digit_range b is = (grind (arith, nat_tests), grind (arith, nat_tests))
 
+-- digits begin with one
 first_digit : (token : List ℕ) → AreDigits token → 0 < length token → BeginsDigit token
 first_digit [] digits some = absurd (omega arith)
 first_digit (b ∷ rest) digits some =
     let range = digit_range b (and_parts (is_ascii_digit b) (list_all is_ascii_digit rest) digits).0 in
     record { first = b; rest = rest; is = refl; low = range.0; high = range.1 }
 
+-- a text that begins with a number
 pub begins_digit : (n : ℕ) (rest : List ℕ) → n < 2 ^ 64 → BeginsDigit (decimal n ++ rest)
 begins_digit n rest small =
     let first = first_digit (decimal n) (digits_of n small) (decimal_nonempty n small) in
@@ -129,17 +143,20 @@ begins_digit n rest small =
 
 -- it reads back
 
+-- digits that spell a number
 number_is : (token : List ℕ) (n : ℕ) → length token ≤ 20 → AreDigits token → 0 < length token → digits_value 10 token ≡ n → n < 2 ^ 64
     → number token ≡ Some n
 unfolding number
 number_is token n short digits some is small = grind (arith, nat_tests)
 
+-- no zero stands before other digits
 plain_is : (token : List ℕ) → (48 < get_or token 0 0) ⊎ (length token ≡ 1) → plain_number token ≡ number token
 unfolding plain_number
 plain_is [] (inl first) = absurd (omega arith)
 plain_is (b ∷ rest) (inl first) = grind (arith, nat_tests)
 plain_is token (inr one) = grind (arith, nat_tests)
 
+-- nor does it in what is printed
 first_or_one : (n : ℕ) → n < 2 ^ 64 → (48 < get_or (decimal n) 0 0) ⊎ (length (decimal n) ≡ 1)
 first_or_one n small =
     elim (cases_lt 0 n) [
@@ -147,6 +164,7 @@ first_or_one n small =
       | inr none ↦ inr (ap (λ (l : List ℕ). length l) (decimal_digit n (omega arith)))
     ]
 
+-- a number reads back
 pub plain_back : (n : ℕ) → n < 2 ^ 64 → plain_number (decimal n) ≡ Some n
 plain_back n small =
     plain_is (decimal n) (first_or_one n small)
@@ -162,6 +180,7 @@ place_of end (x ∷ xs) rest lacks =
     let more = place_of end xs rest parts.1 in
     grind (arith, nat_tests)
 
+-- so it is found there
 pub found_at : (end : ℕ) (xs rest : List ℕ) → list_all (λ byte. not (byte == end)) xs ≡ true
     → position (λ byte. byte == end) (xs ++ (end ∷ rest)) ≡ Some (length xs)
 found_at end xs rest lacks =
@@ -169,6 +188,7 @@ found_at end xs rest lacks =
     let long = length-append xs (end ∷ rest) in
     grind (arith, nat_tests)
 
+-- and cuts the text
 cut_at : (end : ℕ) (xs rest : List ℕ) → list_all (λ byte. not (byte == end)) xs ≡ true → cut end (xs ++ (end ∷ rest)) ≡ Some (xs, rest)
 unfolding cut
 cut_at end xs rest lacks =
@@ -184,9 +204,11 @@ cut_at end xs rest lacks =
 abbrev pub IsNoDigit : ℕ → Type 0
 IsNoDigit end = is_ascii_digit end ≡ false
 
+-- which no digit is
 digit_other : (end b : ℕ) → IsNoDigit end → is_ascii_digit b ≡ true → not (b == end) ≡ true
 digit_other end b none is = grind (arith, nat_tests)
 
+-- a number before it reads back
 pub before_back : (end n : ℕ) (rest : List ℕ) → IsNoDigit end → n < 2 ^ 64 → number_before end (decimal n ++ (end ∷ rest)) ≡ Some (n, rest)
 unfolding number_before
 before_back end n rest none small =
@@ -197,9 +219,11 @@ before_back end n rest none small =
 
 -- words
 
+-- bytes are equal to themselves
 bytes_same : (xs : List ℕ) → bytes_eq xs xs ≡ true
 bytes_same xs = (bytes_eq-Decides xs xs).1 refl
 
+-- what stands behind a word
 pub behind_front : (front rest : List ℕ) → behind front (front ++ rest) ≡ Some rest
 unfolding behind
 behind_front front rest =
@@ -207,17 +231,20 @@ behind_front front rest =
     ∙ ap (λ (b : Bool). cond b (Some (drop (length front) (front ++ rest))) None) (bytes_same front)
     ∙ ap (λ (l : List ℕ). Some l) (drop_at front rest (length front) refl)
 
+-- a word that begins otherwise
 pub behind_other : (c d : ℕ) (cs ds : List ℕ) → nat_eq d c ≡ false → behind (c ∷ cs) (d ∷ ds) ≡ None
 unfolding behind
 behind_other c d cs ds other = rw other refl
 
 -- bytes in hex
 
+-- a test of each digit of a table
 pub hex_digit_at : (p : ℕ → Bool) (table : List ℕ) (i : ℕ) → list_all p table ≡ true → i < length table → p (slice_index table i) ≡ true
 hex_digit_at p [] i all within = absurd (omega arith)
 hex_digit_at p (x ∷ table) zero all within = (and_parts (p x) (list_all p table) all).0
 hex_digit_at p (x ∷ table) (suc i) all within = hex_digit_at p table i (and_parts (p x) (list_all p table) all).1 (omega arith)
 
+-- and of each digit of a text
 hex_all : (p : ℕ → Bool) (bytes : List ℕ) → list_all p lower_digits ≡ true → IsBytes bytes → list_all p (encode_lower bytes) ≡ true
 unfolding encode_with
 hex_all p [] digits are = refl
@@ -229,12 +256,14 @@ hex_all p (b ∷ bytes) digits are =
     ∙ ap (λ (t : Bool). t && list_all p (encode_lower bytes)) low
     ∙ hex_all p bytes digits (λ i. are (suc i))
 
+-- the text of bytes is twice as long
 pub hex_piece : (most : ℕ) (bytes : List ℕ) → IsBytes bytes → length bytes ≤ most → IsPiece (2 * most) (encode_lower bytes)
 hex_piece most bytes are few = record {
   clear = hex_all is_clear bytes refl are;
   short = omega (arith, length-encode_with lower_digits bytes);
 }
 
+-- two digits or more, of lower case, spell bytes
 hex_long : (token bytes : List ℕ) → 2 ≤ length token → list_any is_ascii_uppercase token ≡ false → decode_of token ≡ Ok bytes
     → lower_hex token ≡ Some bytes
 unfolding lower_hex bytes_of_hex
@@ -242,6 +271,7 @@ hex_long token bytes long lower is =
     let test : nat_lt (length token) 2 ≡ false = grind (arith, nat_tests) in
     rw (lower, test, is) refl
 
+-- bytes read back
 pub hex_back : (bytes : List ℕ) → IsBytes bytes → 1 ≤ length bytes → lower_hex (encode_lower bytes) ≡ Some bytes
 hex_back bytes are some =
     hex_long (encode_lower bytes) bytes (omega (arith, length-encode_with lower_digits bytes))
@@ -274,5 +304,6 @@ split_alone (x ∷ xs) lacks =
     isnt true h = sym h
     isnt false h = refl
 
+-- no digit is a space
 pub digits_no_space : (n : ℕ) → n < 2 ^ 64 → list_all (λ byte. not (byte == 32)) (decimal n) ≡ true
 digits_no_space n small = all_then is_ascii_digit (λ byte. not (byte == 32)) (decimal n) (λ b is. digit_other 32 b refl is) (digits_of n small)
