@@ -1,7 +1,7 @@
 #!/usr/bin/env python3
 """How much processor time `replay run` takes a line, and how much memory.
 
-    bench/replay/run.py [PROGRAM] [--beside COMMAND].. [--lines N].. [--stops N] [--seconds S]
+    bench/replay/run.py [PROGRAM] [--beside COMMAND].. [--lines N].. [--stops N] [--audits N] [--seconds S]
 
 It makes schedules of 20,000, 100,000 and 1,000,000 lines (or of those that --lines names), runs the built program on each, and prints a
 row: the processor time of the run, user and system, divided by the number of lines, and the most memory that it held at one time.
@@ -16,6 +16,10 @@ Its row then says so, and a longer schedule is not tried with that command. Let 
 
 With --stops a schedule is run in their place that stops a brick so many times and starts it again: each time it crashes, its start is cut
 short at one of the calls of its disk, with one of three picks, and then it starts. Every start opens its store.
+
+With --audits what is printed for schedules of N lines is audited in their place: for the one below; for one of writes that only begin, of
+which a brick has 64 open before it crashes and starts again, so that almost each of its lines prints a mark; and for one each of whose
+lines finds nothing to do. The row gives the processor time of `run` and that of `audit` on what it printed.
 
 The schedule: four bricks keep 64 stripes of two data blocks of 64 bytes (any two of a stripe's four blocks give its data back, and three
 bricks are a quorum). Stripe after stripe, in turn, is written whole and then read, each time by one brick and over bricks 0, 1 and 2, and
@@ -75,6 +79,19 @@ def stops(count):
     return LAYOUT + "".join(row + "\n" for row in rows)
 
 
+def begins(lines):
+    """The input of so many lines that begins writes, and stops their brick where it has as many open as it may have."""
+    rows = []
+    while len(rows) < lines:
+        rows += [f"writeall 0 0 {place} 8001" for place in range(64)] + ["crash 0", "start 0"]
+    return LAYOUT.replace("block = 64", "block = 1") + "".join(row + "\n" for row in rows[:lines])
+
+
+def idles(lines):
+    """The input of so many lines that find nothing to do."""
+    return LAYOUT + "deliver 1000000000\n" * lines
+
+
 def inputs(asked):
     """What is run, each with its number of lines."""
     if asked.stops:
@@ -100,14 +117,34 @@ def run(command, given, printed, seconds):
     return None if ended else child.returncode, used.ru_utime + used.ru_stime, used.ru_maxrss
 
 
+def audits(asked):
+    """Runs schedules, audits what was printed, and prints a row for each."""
+    with tempfile.TemporaryDirectory() as folder:
+        given, printed, found = (pathlib.Path(folder, name) for name in ["given", "printed", "found"])
+        for what, make in [("reads and writes", schedule), ("writes that begin", begins), ("nothing to do", idles)]:
+            schedule_text = make(asked.audits)
+            layout = schedule_text[: schedule_text.index("---\n") + 4]
+            given.write_text(schedule_text)
+            status, ran, _ = run([asked.program, "run"], given, printed, asked.seconds)
+            text = printed.read_text()
+            given.write_text(layout + text)
+            audited, took, kilobytes = run([asked.program, "audit"], given, found, asked.seconds)
+            note = f"status {status}, then {audited}, {found.read_text().strip()}"
+            print(f"{text.count(chr(10)):9} lines printed  run {ran:6.2f} s  audit {took:6.2f} s  {kilobytes / 1024:8.1f} MB  {note}: {what}")
+            sys.stdout.flush()
+
+
 def main():
     words = argparse.ArgumentParser(description=__doc__.splitlines()[0])
     words.add_argument("program", nargs="?", default=str(ROOT / "crates/replay_main/out/replay_main"))
     words.add_argument("--beside", action="append", default=[], metavar="COMMAND")
     words.add_argument("--lines", action="append", type=int, metavar="N")
     words.add_argument("--stops", type=int, metavar="N")
+    words.add_argument("--audits", type=int, metavar="N")
     words.add_argument("--seconds", type=float, default=300)
     asked = words.parse_args()
+    if asked.audits:
+        return audits(asked)
     commands = [[asked.program, "run"]] + [command.split() for command in asked.beside]
     slow = set()
     with tempfile.TemporaryDirectory() as folder:

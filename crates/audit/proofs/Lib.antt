@@ -13,3 +13,4 @@ pub mod LineGoing
 pub mod Missing
 pub mod Verdicts
 pub mod Bad
+pub mod OneVerdict

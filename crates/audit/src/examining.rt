@@ -4,6 +4,7 @@ ghost use Rattle.std.specs.Prelude.{◌≡◌, IfOk};
 ghost use Rattle.std.specs.Io.KnownBytes.{prepend_known};
 ghost use Rattle.fab_io.specs.Ends.{Kept};
 ghost use Rattle.transcript.specs.Transcripts.{RisesWhole};
+ghost use Rattle.transcript.specs.Readings.{TextReads};
 ghost use Rattle.audit.specs.Examining.{Examines, ExaminesLeft, EndsJudged};
 
 use crate::findings::Finding;
@@ -42,7 +43,8 @@ fn examine_text(alloc: Global, layout: &Layout, text: &Text) -> Result<Verdict, 
     }
 }
 
-/// Audits the text that is left of a source under a layout, as far as it takes to know what is found.
+/// Audits the text that is left of a source under a layout, as far as it takes to know what is found: no read is made once a line is bad,
+/// or one too many.
 ///
 /// The forms of the lines come first, then the marks, then the happenings of each stripe, then the counts. Where a text is whole, the
 /// source was read to its end. `Failed` comes only where the source failed, and `NoMemory` where there was no memory.
@@ -54,6 +56,8 @@ pub fn examine<S: Source>(
 ) -> Result<Verdict, IoFault>
     ensures verdict { IfOk result (ExaminesLeft layout.now (prepend_known unread.old (S.told source.old))) }
     ensures end { IfOk result (λ verdict. EndsJudged verdict (prepend_known unread.new (S.told source.new))) }
+    ensures reads { TextReads unread.old (S.told source.old) (S.told source.new) (S.came source.new) (source.new ≡ source.old)
+        (result ≡ Err IoFault.Failed) }
     ensures kept { Kept (S.faults source.old) (S.faults source.new) (S.sound source.old) (S.sound source.new)
         (result ≡ Err IoFault.Failed) }
 {

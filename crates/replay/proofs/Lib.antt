@@ -12,3 +12,4 @@ pub mod PrintedMarks
 pub mod Linearity
 pub mod Statuses
 pub mod Steppings
+pub mod Auditing

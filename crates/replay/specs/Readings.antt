@@ -1,8 +1,8 @@
 -- What a part of a run read, no more than it took to know how the run ends.
-use Rattle.std.specs.Prelude.{◌≡◌, ℕ, ◌≤◌, true, false, List, [], ◌++◌, length, map, ⊤, Option, Result, Ok, Err}
-use Rattle.std.specs.List.{list_any, concat}
+use Rattle.std.specs.Prelude.{◌≡◌, ℕ, ◌≤◌, true, false, List, [], ◌++◌, length, map, ⊤, Option, None, Result, Ok, Err}
+use Rattle.std.specs.List.{list_any, concat, position}
 use Rattle.std.specs.Io.KnownBytes.{Appends, Consumes}
-use Rattle.lines.specs.Lines.{content, ends_layout}
+use Rattle.lines.specs.Lines.{is_line_feed, content, ends_layout}
 use Rattle.lines.specs.Reading.{AreWhole, IsWhole, IsBegun, IsNeeded}
 use Rattle.fab_base.specs.Layouts.{Layout}
 use Rattle.layout.specs.Texts.{layout_of}
@@ -57,6 +57,15 @@ pub record ScheduleSoFar (head bytes text : List ℕ) : Type 0 where
   pub first_is : first ≡ record { layout = layout; steps = []; disks = first.disks }
   pub fresh : ShowsDisks first
   pub lines : LinesSoFar first bytes text
+
+-- Bytes behind a layout's text are whole lines, and a line that was begun, behind which it goes on, and this is the text of the lines.
+pub record BehindSoFar (goes_on : List ℕ → List (List ℕ) → List ℕ → List ℕ → Type 0) (head bytes text : List ℕ) : Type 0 where
+  pub raw : List (List ℕ)
+  pub begun : List ℕ
+  pub are_whole : AreWhole raw
+  pub has_none : position is_line_feed begun ≡ None
+  pub bytes_are : bytes ≡ concat raw ++ begun
+  pub goes : goes_on head (map content raw) begun text
 
 -- the bytes that were taken are a layout's text and the line that ends it
 pub record TakesHead (text bytes new : List ℕ) : Type 0 where

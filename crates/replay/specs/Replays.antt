@@ -19,7 +19,7 @@ use Rattle.layout.specs.Texts.{layout_of}
 use Rattle.world.specs.Runs.{Step}
 use Rattle.world.specs.Texts.{newline}
 use Rattle.replay.specs.declared.endings.Verdict.{Verdict}
-use Rattle.replay.specs.declared.endings.Verdict.TheVariants.{Whole, BadLayout, BadLine, TooManyLines}
+use Rattle.replay.specs.declared.endings.Verdict.TheVariants.{Whole, BadLayout, BadLine, TooManyLines, Refuted}
 use Rattle.replay.specs.declared.endings.Halt.{Halt}
 use Rattle.replay.specs.declared.endings.Halt.TheVariants.{Source, Sink, Memory}
 use Rattle.replay.specs.Inputs.{Input, Parted, TooLong, Endless, most_layout_bytes, input_of, IsInput}
@@ -29,11 +29,15 @@ use Rattle.replay.specs.Printed.{Printed, printed_texts, printed_marks}
 use Rattle.replay.specs.Turns.{Prints}
 use Rattle.replay.specs.Histories.{Succeeds}
 
+-- the words are this one word
+abbrev pub is_word : List ℕ → List (List ℕ) → Bool
+is_word text [] = false
+is_word text (word ∷ []) = bytes_eq word text
+is_word text (word ∷ (more ∷ words)) = false
+
 -- the words are the one word `run`
 abbrev pub asks_run : List (List ℕ) → Bool
-asks_run [] = false
-asks_run (word ∷ []) = bytes_eq word (codes "run")
-asks_run (word ∷ (more ∷ words)) = false
+asks_run words = is_word (codes "run") words
 
 -- the exit status of an end
 abbrev pub status_of : Result Verdict Halt → ℕ
@@ -44,10 +48,11 @@ status_of (Err Source) = 5
 status_of (Err Sink) = 6
 status_of (Err Memory) = 7
 status_of (Ok TooManyLines) = 8
+status_of (Ok Refuted) = 9
 
 -- the usage line
 abbrev pub usage_text : List ℕ
-usage_text = codes "usage: replay run | replay make SEED LINES" ++ newline
+usage_text = codes "usage: replay run | replay make SEED LINES | replay audit" ++ newline
 
 -- The words are refused: the sink took the usage line, and the status is 2. Where that line could not be
 -- written, the status is 6 or 7, and the sink took some of it, from its front.
@@ -99,33 +104,37 @@ pub record IsRunSoFar (head : List ℕ) (schedule : List (List ℕ)) (text : Lis
   pub within : length steps ≤ most_lines
   pub text_is : text ≡ steps_text (coding layout) (first_world layout) steps
 
--- A run may go on behind an input as far as its last line feed, and the line that was begun: the text of its layout goes
--- on, or its schedule does; and this is the text of its lines.
-abbrev pub MayGoOn : Input → List ℕ → List ℕ → Type 0
-MayGoOn Endless begun text = IsBegun most_layout_bytes begun × (text ≡ [])
-MayGoOn TooLong begun text = ⊥
-MayGoOn (Parted head schedule) begun text = IsBegun 70000 begun × IsRunSoFar head schedule text
+-- A run goes on behind this layout's text and these lines, and the line that was begun, and this is the text of the lines.
+abbrev pub RunGoesOn : List ℕ → List (List ℕ) → List ℕ → List ℕ → Type 0
+RunGoesOn head schedule begun text = IsBegun 70000 begun × IsRunSoFar head schedule text
 
--- the bytes that were read do not decide how the run ends, and this is the text of their whole lines
-abbrev pub LeavesOpen : List ℕ → List ℕ → Type 0
-LeavesOpen read text = MayGoOn (input_of (concat (whole_lines read))) (begun_line read) text
+-- A run or an audit may go on behind an input as far as its last line feed, and the line that was begun: the text of its layout goes on,
+-- or the lines behind that do, as is said of them; and this is what was printed of them.
+abbrev pub MayGoOn : (List ℕ → List (List ℕ) → List ℕ → List ℕ → Type 0) → Input → List ℕ → List ℕ → Type 0
+MayGoOn goes_on Endless begun text = IsBegun most_layout_bytes begun × (text ≡ [])
+MayGoOn goes_on TooLong begun text = ⊥
+MayGoOn goes_on (Parted head lines) begun text = goes_on head lines begun text
 
--- The source was read no further than it took: what was read before the last read does not decide how the run ends. That read
+-- the bytes that were read do not decide how it ends, and this is what was printed of their whole lines
+abbrev pub LeavesOpen : (List ℕ → List (List ℕ) → List ℕ → List ℕ → Type 0) → List ℕ → List ℕ → Type 0
+LeavesOpen goes_on read text = MayGoOn goes_on (input_of (concat (whole_lines read))) (begun_line read) text
+
+-- The source was read no further than it took: what was read before the last read does not decide how it ends. That read
 -- gave so many bytes.
-pub record ReadsAsNeeded (source source_after : Option (List ℕ)) (came : ℕ) : Type 0 where
+pub record ReadsAsNeeded (goes_on : List ℕ → List (List ℕ) → List ℕ → List ℕ → Type 0) (source source_after : Option (List ℕ)) (came : ℕ) : Type 0 where
   pub before : List ℕ
   pub last : List ℕ
   pub text : List ℕ
   pub was_read : Consumes source source_after (before ++ last)
   pub by_last_read : length last ≤ came
-  pub leaves_open : LeavesOpen before text
+  pub leaves_open : LeavesOpen goes_on before text
 
--- The source failed: what was read by then does not decide how the run ends, and the sink took the text of its whole lines.
-pub record FailedSource (source source_after sink sink_after : Option (List ℕ)) : Type 0 where
+-- The source failed: what was read by then does not decide how it ends, and the sink took what is printed of its whole lines.
+pub record FailedSource (goes_on : List ℕ → List (List ℕ) → List ℕ → List ℕ → Type 0) (source source_after sink sink_after : Option (List ℕ)) : Type 0 where
   pub read : List ℕ
   pub text : List ℕ
   pub was_read : Consumes source source_after read
-  pub leaves_open : LeavesOpen read text
+  pub leaves_open : LeavesOpen goes_on read text
   pub printed : Appends sink sink_after text
 
 -- A run. There is an input, of which what the source tells is the bytes, and an end, of which the status
@@ -143,8 +152,8 @@ pub record RunEnds (source source_after : Option (List ℕ)) (came : ℕ) (sink 
   pub status_is : status ≡ status_of ending
   pub steps_are : AreStepsIn input steps ending
   pub printed : Prints sink sink_after (output_of steps input) ending
-  pub reads_as_needed : ReadsAsNeeded source source_after came
-  pub failed_source : ending ≡ Err Source → FailedSource source source_after sink sink_after
+  pub reads_as_needed : ReadsAsNeeded RunGoesOn source source_after came
+  pub failed_source : ending ≡ Err Source → FailedSource RunGoesOn source source_after sink sink_after
   pub read : ending ≡ Ok Whole → IsAtEnd source_after
   pub linearizable : ending ≡ Ok Whole → IsLinearizable input (output_of steps input).text
   pub stays_strict : StaysStrict input

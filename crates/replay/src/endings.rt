@@ -7,20 +7,22 @@ ghost use Rattle.replay.specs.declared.endings.Halt.TheVariants.{Memory};
 use fab_base::NoMem;
 use std::alloc::AllocError;
 
-/// How an input ends a run.
+/// How an input ends a run, or an audit.
 #[derive(Clone, Copy, PartialEq, Eq)]
 pub enum Verdict {
-    /// All lines were run.
+    /// All lines were run; or all that the text says holds.
     Whole,
     /// The input has no layout: the text before the line `---` is none, or there is no such line.
     BadLayout,
-    /// This line of the schedule, counted from 1, is no line.
+    /// This line behind the layout, counted from 1, is no line, or is not in its place.
     BadLine(u64),
-    /// There are more lines than a schedule may have.
+    /// There are more lines than there may be.
     TooManyLines,
+    /// What the text says does not hold: its marks, the happenings of a stripe, or its counts. No run ends so.
+    Refuted,
 }
 
-/// What stops a run from outside.
+/// What stops a run, or an audit, from outside.
 #[derive(Clone, Copy, Debug, PartialEq, Eq)]
 pub enum Halt {
     /// The source failed.
@@ -56,6 +58,7 @@ pub(crate) fn status_of(ending: Result<Verdict, Halt>) -> u8
         Ok(Verdict::BadLayout) => 3,
         Ok(Verdict::BadLine(_)) => 4,
         Ok(Verdict::TooManyLines) => 8,
+        Ok(Verdict::Refuted) => 9,
         Err(Halt::Source) => 5,
         Err(Halt::Sink) => 6,
         Err(Halt::Memory) => 7,

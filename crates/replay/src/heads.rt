@@ -1,4 +1,4 @@
-//! What stands before the schedule of an input.
+//! What stands before the schedule of an input, or before the text that is to be audited.
 
 ghost use Rattle.std.specs.Prelude.{◌≡◌, ◌≢◌, IfOk};
 ghost use Rattle.std.specs.Io.KnownBytes.{prepend_known};

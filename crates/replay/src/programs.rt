@@ -2,8 +2,10 @@
 
 ghost use Rattle.std.specs.Prelude.{◌≡◌, ◌≢◌, false, true, map, string_bytes};
 ghost use Rattle.fab_io.specs.Ends.{Kept, WriteTakes};
-ghost use Rattle.replay.specs.Replays.{asks_run, usage_text, Refuses, RunEnds, IsDecided};
+ghost use Rattle.replay.specs.Replays.{is_word, asks_run, usage_text, Refuses, RunEnds, IsDecided};
+ghost use Rattle.replay.specs.Audits.{asks_audit, AuditEnds, IsAuditDecided};
 
+use crate::audits::audit_input;
 use crate::endings::{Halt, status_of};
 use crate::schedules::run;
 use crate::turns::write;
@@ -12,10 +14,12 @@ use std::alloc::Global;
 
 /// Runs the program `replay` with these words (its own name left out), and answers its exit status.
 ///
+/// The one word `run`:
+///
 /// | status | when | printed |
 /// |---|---|---|
 /// | 0 | the source was read to its end, all lines were run, all was written | the whole output |
-/// | 2 | the words are not the one word `run` | the usage line |
+/// | 2 | the words are neither the one word `run` nor the one word `audit` | the usage line |
 /// | 3 | the text before the line `---` is no layout, is past 1,048,576 bytes, or there is no such line | `bad layout: toml`, `bad layout: field NAME`, `bad layout: limit NAME`, `bad layout: end` |
 /// | 4 | a line of the schedule is no line; the earlier ones were run and printed | `bad line N` |
 /// | 5 | the source failed; the lines whose line feed was read before were run and printed | nothing more |
@@ -43,47 +47,70 @@ use std::alloc::Global;
 /// However far a run comes, all laws of the disk hold of what its lines left (`Laws` of `protocol_laws`), and what
 /// further lines leave follows it: no brick has lowered what it had promised or stored, or added a version
 /// below that, and no version that was lost has surfaced (`Succeeds`, `specs/Histories.antt`).
+///
+/// The one word `audit`: the text behind the line `---` may be of any origin. Nothing is run, and nothing is printed before all is known.
+///
+/// | status | when | printed |
+/// |---|---|---|
+/// | 0 | the text was read to its end; its lines have the forms, order and limits of what `run` prints; and its marks, happenings and counts hold under the layout | `audit ok` |
+/// | 2, 3, 5, 6 | as of `run` | as of `run` |
+/// | 4 | a line has none of these forms, is past 33,554,432 bytes, or is not in its place; the end without the counts counts as the next line | `bad line N` |
+/// | 7 | no memory was left | nothing |
+/// | 8 | a line follows the 4,194,304th | `too many lines` |
+/// | 9 | the marks do not hold; else a stripe's happenings do not, and this one, by group and stripe, is the first; else a count does not | `audit bad marks`, `audit bad G S`, `audit bad count` |
+///
+/// What is found is `Examines` (`specs/Examining.antt` of `audit`): the forms are those of `transcript`, and a stripe's happenings hold
+/// where they are strict for its marks, `IsStrict` as above.
 pub fn replay<S: Source, K: Sink>(
     alloc: Global,
     words: &[String],
     source: &mut S,
     sink: &mut K,
 ) -> u8
-    // Words that are not the one word `run`: nothing is read.
-    ensures words { asks_run (map string_bytes words.now) ≡ false
+    // Words that are neither the one word `run` nor the one word `audit`: nothing is read.
+    ensures words { asks_run (map string_bytes words.now) ≡ false → asks_audit (map string_bytes words.now) ≡ false
         → Refuses (K.told sink.old) (K.told sink.new) result × (source.new ≡ source.old) }
 
     // The one word `run`.
     ensures run { asks_run (map string_bytes words.now) ≡ true
         → RunEnds (S.told source.old) (S.told source.new) (S.came source.new) (K.told sink.old) (K.told sink.new) result }
 
+    // The one word `audit`.
+    ensures audit { asks_audit (map string_bytes words.now) ≡ true
+        → AuditEnds (S.told source.old) (S.told source.new) (S.came source.new) (K.told sink.old) (K.told sink.new) result }
+
     // A failure comes only where that end's count of faults rose, and never from a sound end.
     ensures source { Kept (S.faults source.old) (S.faults source.new) (S.sound source.old) (S.sound source.new) (result ≡ 5) }
     ensures sink { Kept (K.faults sink.old) (K.faults sink.new) (K.sound sink.old) (K.sound sink.new) (result ≡ 6) }
 
-    // Over sound ends a run answers what the input alone calls for, as 0 for a legal one, or that memory was
+    // Over sound ends a run, or an audit, answers what the input alone calls for, as 0 for a legal one, or that memory was
     // lacking.
     ensures decided { asks_run (map string_bytes words.now) ≡ true → S.sound source.old → K.sound sink.old
         → IsDecided (S.told source.old) result }
+    ensures audit_decided { asks_audit (map string_bytes words.now) ≡ true → S.sound source.old → K.sound sink.old
+        → IsAuditDecided (S.told source.old) result }
 {
-    if is_run(words) {
+    if is_word(words, "run") {
         return status_of(run(alloc, source, sink));
+    }
+    if is_word(words, "audit") {
+        return status_of(audit_input(alloc, source, sink));
     }
     match write(
         sink,
-        b"usage: replay run | replay make SEED LINES\n".as_slice(),
+        b"usage: replay run | replay make SEED LINES | replay audit\n".as_slice(),
     ) {
         Ok(()) => 2,
         Err(halt) => status_of(Err(halt)),
     }
 }
 
-/// Whether the words are the one word `run`.
-fn is_run(words: &[String]) -> bool
-    ensures { result ≡ asks_run (map string_bytes words.now) }
+/// Whether the words are this one word.
+fn is_word(words: &[String], text: &str) -> bool
+    ensures { result ≡ is_word text.now (map string_bytes words.now) }
 {
     match words {
-        [word] => word.as_str() == "run",
+        [word] => word.as_str() == text,
         _ => false,
     }
 }

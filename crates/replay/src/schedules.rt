@@ -7,7 +7,7 @@ ghost use Rattle.layout.specs.Names.{fault_text};
 ghost use Rattle.replay.specs.Outputs.{bad_layout};
 ghost use Rattle.replay.specs.Turns.{Prints, PrintsRest, PrintsHeaded, PrintsInput};
 ghost use Rattle.replay.specs.Readings.{ReadsPart, LinesSoFar, ScheduleSoFar};
-ghost use Rattle.replay.specs.Replays.{LeavesOpen};
+ghost use Rattle.replay.specs.Replays.{RunGoesOn, LeavesOpen};
 
 use crate::endings::{Halt, Verdict};
 use crate::heads::{Head, read_head};
@@ -58,7 +58,7 @@ fn refuse_layout<K: Sink>(alloc: Global, sink: &mut K, fault: &LayoutFault) -> R
 }
 
 /// Whether a layout was not read for want of memory.
-fn is_memory(fault: &LayoutFault) -> bool
+pub(crate) fn is_memory(fault: &LayoutFault) -> bool
     ensures { result ≡ false → fault.now ≢ LayoutFault.NoMemory }
 {
     match fault {
@@ -112,7 +112,7 @@ pub(crate) fn run<S: Source, K: Sink>(
     sink: &mut K,
 ) -> Result<Verdict, Halt>
     ensures output { PrintsInput (S.told source.old) (K.told sink.old) (K.told sink.new) result }
-    ensures reads { ReadsPart LeavesOpen [] (S.told source.old) (S.told source.new) (K.told sink.old)
+    ensures reads { ReadsPart (LeavesOpen RunGoesOn) [] (S.told source.old) (S.told source.new) (K.told sink.old)
         (K.told sink.new) (S.came source.new) (source.new ≡ source.old) (result ≡ Err Halt.Source) }
     ensures read { result ≡ Ok Verdict.Whole → IsAtEnd (S.told source.new) }
     ensures source { Kept (S.faults source.old) (S.faults source.new) (S.sound source.old) (S.sound source.new)

@@ -1,4 +1,5 @@
-//! `replay run`: runs a layout and a schedule from standard input, and prints what they mark.
+//! `replay run`: runs a layout and a schedule from standard input, and prints what they mark. `replay audit`: checks such a print, of whatever
+//! origin, behind its layout.
 #![tactic(auto)]
 
 use fab_io::{StdSink, StdSource};

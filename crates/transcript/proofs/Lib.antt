@@ -1,3 +1,4 @@
 pub mod Happenings
 pub mod Turns
 pub mod Rising
+pub mod TextReading

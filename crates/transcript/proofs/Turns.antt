@@ -18,7 +18,7 @@ within : (n : ℕ) → n < most_lines → nat_lt n most_lines ≡ true
 within n h = grind (arith, nat_tests)
 
 -- the texts of a line and of those behind it
-one_line : (n : ℕ) (old : Transcribed) (line : List ℕ) (contents : List (List ℕ)) (after : Option Transcribed) → n < most_lines
+pub one_line : (n : ℕ) (old : Transcribed) (line : List ℕ) (contents : List (List ℕ)) (after : Option Transcribed) → n < most_lines
     → after_line old (entry_of line) ≡ after
     → text_behind n old (line ∷ contents) ≡ text_at_line n true after (λ next. text_behind (n + 1) next contents)
 unfolding text_behind

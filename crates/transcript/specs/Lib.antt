@@ -4,5 +4,6 @@ pub mod Forms
 pub mod Said
 pub mod Transcripts
 pub mod Turns
+pub mod Readings
 pub mod Marks
 pub mod Kinds

@@ -1,15 +1,17 @@
 -- What the next line of a text makes of what was said so far.
-use Rattle.std.specs.Prelude.{ℕ, ◌+◌, ◌<◌, List, Option, ⊤}
+use Rattle.std.specs.Prelude.{◌≡◌, ℕ, ◌+◌, ◌<◌, List, Option, Some, ⊤}
 use Rattle.std.specs.Io.KnownBytes.{IsAtEnd}
+use Rattle.lines.specs.Lines.{content}
 use Rattle.lines.specs.Reading.{Says}
 use Rattle.lines.specs.declared.reader.Piece.{Piece}
+use Rattle.lines.specs.declared.reader.Piece.TheVariants.{Whole}
 use Rattle.transcript.specs.declared.readings.Text.{Text}
 use Rattle.transcript.specs.declared.readings.Text.TheVariants.{BadLine}
 use Rattle.transcript.specs.declared.readings.Turn.{Turn}
 use Rattle.transcript.specs.declared.readings.Turn.TheVariants.{More, Last, Bad, Ended}
 use Rattle.transcript.specs.Said.{Transcribed}
-use Rattle.transcript.specs.Forms.{most_line_bytes}
-use Rattle.transcript.specs.Transcripts.{IsTextBehind, StripesRise, text_at_end, most_lines}
+use Rattle.transcript.specs.Forms.{entry_of, most_line_bytes}
+use Rattle.transcript.specs.Transcripts.{after_line, IsTextBehind, StripesRise, text_at_end, most_lines}
 
 -- the text goes on behind a line; or it ends behind it; or the line is bad; or there is none
 abbrev pub TurnLeaves : Transcribed → Transcribed → ℕ → Option (List ℕ) → Option (List ℕ) → Turn → Type 0
@@ -29,3 +31,10 @@ TurnRises said More = StripesRise said.stripes
 TurnRises said Last = StripesRise said.stripes
 TurnRises said Bad = ⊤
 TurnRises said Ended = StripesRise said.stripes
+
+-- what leads on and is not the last is a whole line
+abbrev pub TurnTakes : Transcribed → Transcribed → Piece → Turn → Type 0
+TurnTakes old new piece More = (line : List ℕ) × (piece ≡ Whole line) × (after_line old (entry_of (content line)) ≡ Some new)
+TurnTakes old new piece Last = ⊤
+TurnTakes old new piece Bad = ⊤
+TurnTakes old new piece Ended = ⊤

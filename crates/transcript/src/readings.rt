@@ -6,7 +6,8 @@ ghost use Rattle.fab_io.specs.Ends.{Kept};
 ghost use Rattle.lines.specs.Lines.{content};
 ghost use Rattle.transcript.specs.Forms.{entry_of};
 ghost use Rattle.transcript.specs.Transcripts.{after_line, text_at_end, IsTextOf, EndsWhole, StripesRise, RisesWhole};
-ghost use Rattle.transcript.specs.Turns.{TurnMeans, TurnRises};
+ghost use Rattle.transcript.specs.Turns.{TurnMeans, TurnRises, TurnTakes};
+ghost use Rattle.transcript.specs.Readings.{TextReads};
 
 use crate::claims::Counts;
 use crate::forms::{LINE_LIMIT, parse};
@@ -58,6 +59,7 @@ fn take_line(alloc: Global, said: &mut Transcript, line: &[u8]) -> Result<bool, 
 fn take_turn(alloc: Global, said: &mut Transcript, piece: &Piece) -> Result<Turn, NoMem>
     ensures turn { IfOk result (λ turn. TurnMeans said.old said.new piece.now turn) }
     ensures rises { IfOk result (λ turn. StripesRise said.old.stripes → TurnRises said.new turn) }
+    ensures takes { IfOk result (λ turn. TurnTakes said.old said.new piece.now turn) }
 {
     match piece {
         Piece::Whole(line) => {
@@ -83,6 +85,7 @@ fn take_turn(alloc: Global, said: &mut Transcript, piece: &Piece) -> Result<Turn
 fn take_next(alloc: Global, said: &mut Transcript, piece: &Piece) -> Result<Turn, IoFault>
     ensures turn { IfOk result (λ turn. TurnMeans said.old said.new piece.now turn) }
     ensures rises { IfOk result (λ turn. StripesRise said.old.stripes → TurnRises said.new turn) }
+    ensures takes { IfOk result (λ turn. TurnTakes said.old said.new piece.now turn) }
     ensures cause { result ≢ Err IoFault.Failed }
 {
     match take_turn(alloc, said, piece) {
@@ -102,13 +105,15 @@ fn finish(said: Transcript, lines: u64) -> Text
     }
 }
 
-/// Reads the text that is left of a source, as far as it takes to know what it is.
+/// Reads the text that is left of a source, as far as it takes to know what it is: no read is made once a line is bad, or one too many.
 ///
 /// `Failed` comes only where the source failed, and `NoMemory` where there was no memory.
 pub fn read<S: Source>(alloc: Global, source: &mut S, unread: &mut Unread) -> Result<Text, IoFault>
     ensures rises { IfOk result RisesWhole }
     ensures text { IfOk result (λ text. IsTextOf (prepend_known unread.old (S.told source.old)) text) }
     ensures end { IfOk result (λ text. EndsWhole text (prepend_known unread.new (S.told source.new))) }
+    ensures reads { TextReads unread.old (S.told source.old) (S.told source.new) (S.came source.new) (source.new ≡ source.old)
+        (result ≡ Err IoFault.Failed) }
     ensures kept { Kept (S.faults source.old) (S.faults source.new) (S.sound source.old) (S.sound source.new)
         (result ≡ Err IoFault.Failed) }
 {

@@ -1,11 +1,19 @@
 -- What is left of the text tells what all of it is.
-use Rattle.std.proofs.Common.{◌≡◌, sym, subst, arith}
+use Rattle.std.proofs.Common.{◌≡◌, Result, Err, refl, sym, ap, ◌∙◌, subst, arith}
 use Rattle.std.specs.Io.KnownBytes.{prepend_known}
-use Rattle.fab_io.proofs.Keeping.{Kept-trans, Kept-calm}
+use Rattle.std.proofs.lemmas.Result.{err_from_is_err_and}
+use Rattle.fab_io.specs.declared.fault.IoFault.{IoFault}
+use Rattle.fab_io.proofs.Keeping.{Kept-refl, Kept-trans, Kept-calm}
 use Rattle.transcript.specs.declared.readings.Text.{Text}
-use Rattle.transcript.specs.Transcripts.{IsTextOf, EndsWhole, most_lines}
-use Rattle.transcript.proofs.Turns.{ends_whole, none_left_at, many_come}
+use Rattle.transcript.specs.Said.{Transcribed}
+use Rattle.transcript.specs.Transcripts.{IsTextBehind, IsTextOf, StripesRise, EndsWhole, most_lines}
+use Rattle.transcript.proofs.Turns.{ends_whole, from_start, none_left_at, many_come}
+use Rattle.transcript.proofs.TextReading.{HasText, HasText-start, HasText-line, TextReads-ended, TextReads-failed}
 use Rattle.transcript.proofs.readings.read.Goals as goal
+
+-- the fault of an exit is the one that was met
+same_fault : {T : Type 0} (r : Result T IoFault) (met gave said : IoFault) → r ≡ Err gave → gave ≡ met → r ≡ Err said → met ≡ said
+same_fault r met gave said is same e = cc
 
 pub returns-in-Last-clause-text : goal.returns-in-Last-clause-text
 returns-in-Last-clause-text g c =
@@ -43,7 +51,11 @@ returns-in-Ended-clause-end g c =
 pub loop-count-preserved : goal.loop-count-preserved
 loop-count-preserved g c =
     let turn = rw c.in-More.is at c.in_ok-take_next.ensures.turn in
+    let takes = rw c.in-More.is at c.in_ok-take_next.ensures.takes in
+    let says = rw takes.1 at c.in_ok-piece.ensures.says in
     record {
+      has = HasText-line _ _ _ _ _ _ _ _ _ _ _ c.loop-count.count _ _ takes.0 _ c.loop-count-test.true c.loop-count.invariant.has
+          (rw takes.1 at c.in_ok-piece.ensures.reads) (λ e. (ap g.S.Source.came e, λ u. e ∙ u)) says.2 takes.2;
       leads = λ text behind. c.loop-count.invariant.leads text (turn c.loop-count.count _ _ c.loop-count-test.true c.in_ok-piece.ensures.says text behind);
       rise = rw c.in-More.is at c.in_ok-take_next.ensures.rises c.loop-count.invariant.rise;
       source = Kept-trans c.loop-count.invariant.source (Kept-calm c.next_line.ensures.kept);
@@ -60,3 +72,59 @@ pub returns-clause-text : goal.returns-clause-text
 returns-clause-text g c =
     c.loop-count.invariant.leads _
     (many_come c.loop-count.count _ _ _ _ (omega arith) c.in_default.not-Ended c.in_ok-more.ensures.says)
+
+pub returns-in_err-piece-clause-reads : goal.returns-in_err-piece-clause-reads
+returns-in_err-piece-clause-reads g c =
+    let q = err_from_is_err_and c.from_residual.result c.from_residual.ensures.1 in
+    TextReads-failed _ _ _ _ _ _ _ _ _ _ _ _ _ _ _ (omega (arith, c.loop-count-test.true)) c.loop-count.invariant.has c.in_err-piece.ensures.reads
+    (λ e. (ap g.S.Source.came e, λ u. e ∙ u)) (λ e. cc)
+
+pub returns-in_err-take_next-clause-reads : goal.returns-in_err-take_next-clause-reads
+returns-in_err-take_next-clause-reads g c =
+    let q = err_from_is_err_and c.from_residual-in_err-take_next.result c.from_residual-in_err-take_next.ensures.1 in
+    TextReads-ended _ _ _ _ _ _ _ _ _ _ _ _ _ _ _ _ (omega (arith, c.loop-count-test.true)) c.loop-count.invariant.has c.in_ok-piece.ensures.reads
+    (λ e. (ap g.S.Source.came e, λ u. e ∙ u))
+    (λ e. c.in_err-take_next.ensures.cause (ap (λ (f : IoFault). Err f) (same_fault _ _ _ _ q.1 q.2 e)))
+
+pub returns-in-Last-clause-reads : goal.returns-in-Last-clause-reads
+returns-in-Last-clause-reads g c =
+    TextReads-ended _ _ _ _ _ _ _ _ _ _ _ _ _ _ _ _ (omega (arith, c.loop-count-test.true)) c.loop-count.invariant.has c.in_ok-piece.ensures.reads
+    (λ e. (ap g.S.Source.came e, λ u. e ∙ u)) (λ e. cc)
+
+pub returns-in-Bad-clause-reads : goal.returns-in-Bad-clause-reads
+returns-in-Bad-clause-reads g c =
+    TextReads-ended _ _ _ _ _ _ _ _ _ _ _ _ _ _ _ _ (omega (arith, c.loop-count-test.true)) c.loop-count.invariant.has c.in_ok-piece.ensures.reads
+    (λ e. (ap g.S.Source.came e, λ u. e ∙ u)) (λ e. cc)
+
+pub returns-in-Ended-clause-reads : goal.returns-in-Ended-clause-reads
+returns-in-Ended-clause-reads g c =
+    TextReads-ended _ _ _ _ _ _ _ _ _ _ _ _ _ _ _ _ (omega (arith, c.loop-count-test.true)) c.loop-count.invariant.has c.in_ok-piece.ensures.reads
+    (λ e. (ap g.S.Source.came e, λ u. e ∙ u)) (λ e. cc)
+
+pub returns-in_err-more-clause-reads : goal.returns-in_err-more-clause-reads
+returns-in_err-more-clause-reads g c =
+    let q = err_from_is_err_and c.from_residual-in_err-more.result c.from_residual-in_err-more.ensures.1 in
+    TextReads-failed _ _ _ _ _ _ _ _ _ _ _ _ _ _ _ (omega arith) c.loop-count.invariant.has c.in_err-more.ensures.reads
+    (λ e. (ap g.S.Source.came e, λ u. e ∙ u)) (λ e. cc)
+
+pub returns-in-Ended-more-clause-reads : goal.returns-in-Ended-more-clause-reads
+returns-in-Ended-more-clause-reads g c =
+    TextReads-ended _ _ _ _ _ _ _ _ _ _ _ _ _ _ _ _ (omega arith) c.loop-count.invariant.has c.in_ok-more.ensures.reads
+    (λ e. (ap g.S.Source.came e, λ u. e ∙ u)) (λ e. cc)
+
+pub returns-clause-reads : goal.returns-clause-reads
+returns-clause-reads g c =
+    TextReads-ended _ _ _ _ _ _ _ _ _ _ _ _ _ _ _ _ (omega arith) c.loop-count.invariant.has c.in_ok-more.ensures.reads
+    (λ e. (ap g.S.Source.came e, λ u. e ∙ u)) (λ e. cc)
+
+pub loop-count-init : goal.loop-count-init
+loop-count-init g c =
+    let none = sym c.new-said.ensures in
+    let start = prepend_known c.args.unread.now (g.S.Source.told c.args.source.now) in
+    record {
+      leads = subst (λ (t : Transcribed). (text : Text) → IsTextBehind 0 t start text → IsTextOf start text) none (from_start start);
+      has = subst (λ (t : Transcribed). HasText c.args.unread.now c.args.unread.now (g.S.Source.told c.args.source.now) (g.S.Source.told c.args.source.now)
+          (g.S.Source.came c.args.source.now) (c.args.source.now ≡ c.args.source.now) 0 t) none (HasText-start _ _ _ _ refl);
+      rise = subst (λ (t : Transcribed). StripesRise t.stripes) none (λ i j a b h x y. cc);
+      source = Kept-refl _ _;
+    }

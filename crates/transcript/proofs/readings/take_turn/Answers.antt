@@ -57,3 +57,7 @@ returns-then-branch-clause-rises c rise =
 pub returns-then-branch-2-clause-rises : goal.returns-then-branch-2-clause-rises
 returns-then-branch-2-clause-rises c rise =
     rise_line _ _ _ rise (answered _ _ _ _ _ _ c.as_slice-in-Last.ensures.value c.if-branch-2.true c.in_ok-take_line-in-Last.ensures)
+
+pub returns-then-branch-clause-takes : goal.returns-then-branch-clause-takes
+returns-then-branch-clause-takes c =
+    (c.in-Whole.line, c.in-Whole.is, answered _ _ _ _ _ _ c.as_slice.ensures.value c.if-branch.true c.in_ok-take_line-in-Whole.ensures)
