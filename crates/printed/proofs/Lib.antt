@@ -1,0 +1,13 @@
+pub mod Tokens
+pub mod MarkLines
+pub mod OtherLines
+pub mod LineTexts
+pub mod Reading
+pub mod PrintedMarks
+pub mod Clocks
+pub mod Stamped
+pub mod Standing
+pub mod Counts
+pub mod MarksSound
+pub mod Stripes
+pub mod Sound

@@ -1,0 +1,471 @@
+-- The marks among the printed lines are those of the world that the lines of the schedule leave, and how many lines there are.
+use Rattle.std.proofs.Common.{◌≡◌, ℕ, suc, ◌+◌, ◌≤◌, inl, inr, Bool, true, false, cond, not, ◌&&◌, if◌then◌else◌, List, [], ◌∷◌, ◌++◌, length, drop, map, count_by, Option, Some, None, is_some, refl, sym, ap, subst, ◌∙◌, append_assoc, append-nil, arith}
+use Rattle.std.proofs.lemmas.List.Sums.{sum_by-cons}
+use Rattle.std.proofs.lemmas.Option.{same_Some}
+use Rattle.fab_base.specs.declared.identities.BrickId.{BrickId}
+use Rattle.fab_base.specs.declared.answers.Refusal.{Refusal}
+use Rattle.fab_base.specs.declared.answers.Refusal.TheVariants.{Down}
+use Rattle.messages.specs.declared.packets.Packet.{Packet}
+use Rattle.reg_model.specs.declared.marks.Mark.{Mark}
+use Rattle.reg_model.specs.declared.marks.Mark.TheVariants as mark
+use Rattle.protocol.specs.Settings.{Setting}
+use Rattle.protocol.specs.declared.tellings.Answered.{Answered}
+use Rattle.protocol.specs.declared.tellings.Told.{Told}
+use Rattle.protocol.specs.declared.tellings.Told.TheVariants as told
+use Rattle.protocol.specs.Nodes.{NodeStep, put, refusal_of, invoked, received}
+use Rattle.protocol.specs.Worlds.{World, Event, first_world, Found, Invokes, Delivers, Sets, Ticks, Stops, Starts, Before, After, number_of, is_brick, is_up, may_start, world_began, world_told, world_tells, world_answered, world_answers, world_stepped, world_ticked, world_stopped, world_found, world_started, replies_with, delivered, packet_of, happens, run}
+use Rattle.lines.specs.declared.forms.Line.{Line}
+use Rattle.lines.specs.declared.forms.Line.TheVariants.{Nothing, Invoke, Deliver, SetClock, Tick, Crash, Start, Calm}
+use Rattle.fab_base.specs.Layouts.{Layout}
+use Rattle.fab_disk.specs.declared.mem_disk.MemDisk.{MemDisk}
+use Rattle.stripe_code.specs.Codes.{coding}
+use Rattle.protocol.specs.Coordinators.{Coordinator}
+use Rattle.protocol.specs.Calms.{RunsAlone, Ended, Stuck, Next, open_call, next_delivery}
+use Rattle.transcript.specs.Kinds.{is_begin}
+use Rattle.world.specs.Faults.{IsEventsOf}
+use Rattle.world.specs.Runs.{Run, Step, world_of, all_events, brick_of}
+use Rattle.world.specs.Steps.{Runs}
+use Rattle.world.proofs.RunLemmas.{world_of-with_step}
+use Rattle.calm_laws.proofs.Schedules.{run-append}
+use Rattle.world.specs.Texts.{mark_text, marks_text, new_marks, is_deliverable, marks_if, outcome_of, outcome_text, event_text, text_of, line_text, step_text, refused_or_begun}
+use Rattle.world.specs.declared.simulations.Outcome.{Outcome}
+use Rattle.world.specs.declared.simulations.Outcome.TheVariants.{Marks, Refused, Idle}
+use Rattle.printed.specs.Printed.{Printed, OfMark, OfRefusal, OfNothing, printed_text, printed_texts, marks_in, printed_marks}
+use Rattle.printed.specs.Outputs.{left_by, steps_text}
+use Rattle.printed.specs.LineSteps.{LeadsTo, AreStepsOf}
+
+-- the lines that an outcome prints, with the marks that were made
+abbrev lines_of : Outcome → List Mark → List Printed
+lines_of Marks marks = map OfMark marks
+lines_of (Refused refusal) marks = OfRefusal refusal ∷ []
+lines_of Idle marks = OfNothing ∷ []
+
+-- an End
+abbrev pub is_end : Mark → Bool
+is_end (mark.Begin p n b ask) = false
+is_end (mark.End p n answer) = true
+is_end (mark.Crash p b) = false
+
+-- the printed lines that are no Ends
+abbrev other_mark : Mark → ℕ
+other_mark (mark.Begin p n b ask) = 1
+other_mark (mark.End p n answer) = 0
+other_mark (mark.Crash p b) = 1
+
+-- the same of a printed line
+abbrev other_line : Printed → ℕ
+other_line (OfMark one) = other_mark one
+other_line (OfRefusal refusal) = 1
+other_line OfNothing = 1
+
+-- of printed lines
+abbrev pub others : List Printed → ℕ
+others [] = 0
+others (line ∷ printed) = other_line line + others printed
+
+-- of printed lines and then others
+others_both : (one other : List Printed) → others (one ++ other) ≡ others one + others other
+others_both [] other = omega arith
+others_both (line ∷ one) other = let rest = others_both one other in omega (arith, rest)
+
+-- a mark more is counted, or is not
+pub count_yes : (p : Mark → Bool) (one : Mark) (marks : List Mark) → p one ≡ true → count_by p (one ∷ marks) ≡ 1 + count_by p marks
+count_yes p one marks is = sum_by-cons (λ (x : Mark). cond (p x) 1 0) one marks ∙ ap (λ (b : Bool). cond b 1 0 + count_by p marks) is
+
+-- or is not
+pub count_no : (p : Mark → Bool) (one : Mark) (marks : List Mark) → p one ≡ false → count_by p (one ∷ marks) ≡ count_by p marks
+count_no p one marks isnt =
+    sum_by-cons (λ (x : Mark). cond (p x) 1 0) one marks ∙ ap (λ (b : Bool). cond b 1 0 + count_by p marks) isnt
+    ∙ (let none : 0 + count_by p marks ≡ count_by p marks = omega arith in none)
+
+-- a line is an End or another line
+pub lines_are : (printed : List Printed) → length printed ≡ others printed + count_by is_end (printed_marks printed)
+lines_are [] = refl
+lines_are (OfMark (mark.Begin p n b ask) ∷ printed) =
+    let rest = lines_are printed in omega (arith, rest, count_no is_end (mark.Begin p n b ask) (printed_marks printed) refl)
+lines_are (OfMark (mark.End p n answer) ∷ printed) =
+    let rest = lines_are printed in omega (arith, rest, count_yes is_end (mark.End p n answer) (printed_marks printed) refl)
+lines_are (OfMark (mark.Crash p b) ∷ printed) =
+    let rest = lines_are printed in omega (arith, rest, count_no is_end (mark.Crash p b) (printed_marks printed) refl)
+lines_are (OfRefusal refusal ∷ printed) = let rest = lines_are printed in omega (arith, rest)
+lines_are (OfNothing ∷ printed) = let rest = lines_are printed in omega (arith, rest)
+
+-- no Begin is an End
+pub begins_among : (printed : List Printed) → count_by is_begin (printed_marks printed) ≤ others printed
+begins_among [] = omega arith
+begins_among (OfMark (mark.Begin p n b ask) ∷ printed) =
+    let rest = begins_among printed in omega (arith, rest, count_yes is_begin (mark.Begin p n b ask) (printed_marks printed) refl)
+begins_among (OfMark (mark.End p n answer) ∷ printed) =
+    let rest = begins_among printed in omega (arith, rest, count_no is_begin (mark.End p n answer) (printed_marks printed) refl)
+begins_among (OfMark (mark.Crash p b) ∷ printed) =
+    let rest = begins_among printed in omega (arith, rest, count_no is_begin (mark.Crash p b) (printed_marks printed) refl)
+begins_among (OfRefusal refusal ∷ printed) = let rest = begins_among printed in omega (arith, rest)
+begins_among (OfNothing ∷ printed) = let rest = begins_among printed in omega (arith, rest)
+
+-- a mark is a printed line
+pub marks_among_lines : (printed : List Printed) → length (printed_marks printed) ≤ length printed
+marks_among_lines [] = omega arith
+marks_among_lines (OfMark one ∷ printed) = let rest = marks_among_lines printed in omega (arith, rest)
+marks_among_lines (OfRefusal refusal ∷ printed) = let rest = marks_among_lines printed in omega (arith, rest)
+marks_among_lines (OfNothing ∷ printed) = let rest = marks_among_lines printed in omega (arith, rest)
+
+-- the text of marks is that of their lines
+marks_printed : (marks : List Mark) → marks_text marks ≡ printed_texts (map OfMark marks)
+marks_printed [] = refl
+marks_printed (one ∷ marks) = ap (λ (text : List ℕ). mark_text one ++ text) (marks_printed marks)
+
+-- the marks among the lines of marks are these
+marks_among : (marks : List Mark) → printed_marks (map OfMark marks) ≡ marks
+marks_among [] = refl
+marks_among (one ∷ marks) = ap (λ (rest : List Mark). one ∷ rest) (marks_among marks)
+
+-- the text of an outcome is that of its lines
+outcome_printed : (outcome : Outcome) (marks : List Mark) → outcome_text outcome marks ≡ printed_texts (lines_of outcome marks)
+outcome_printed Marks marks = marks_printed marks
+outcome_printed (Refused refusal) marks = sym (append-nil (printed_text (OfRefusal refusal)))
+outcome_printed Idle marks = sym (append-nil (printed_text OfNothing))
+
+-- of printed lines and then others
+texts_both : (one other : List Printed) → printed_texts (one ++ other) ≡ printed_texts one ++ printed_texts other
+texts_both [] other = refl
+texts_both (line ∷ one) other =
+    ap (λ (text : List ℕ). printed_text line ++ text) (texts_both one other)
+    ∙ sym (append_assoc (printed_text line) (printed_texts one) (printed_texts other))
+
+-- and the marks among them
+marks_both : (one other : List Printed) → printed_marks (one ++ other) ≡ printed_marks one ++ printed_marks other
+marks_both [] other = refl
+marks_both (line ∷ one) other =
+    ap (λ (marks : List Mark). marks_in line ++ marks) (marks_both one other)
+    ∙ sym (append_assoc (marks_in line) (printed_marks one) (printed_marks other))
+
+-- what stands behind the first marks
+behind : (marks more : List Mark) → drop (length marks) (marks ++ more) ≡ more
+behind [] more = refl
+behind (one ∷ marks) more = behind marks more
+
+-- a world after another, whose new marks are those that are printed, in so many lines that are no Ends
+record IsPrinted (w next : World) (outcome : Outcome) (most : ℕ) : Type 0 where
+  marks : next.marks ≡ w.marks ++ printed_marks (lines_of outcome (new_marks w next))
+  few : others (lines_of outcome (new_marks w next)) ≤ most
+
+-- marks were made
+printed_more : (w next : World) (more : List Mark) (most : ℕ) → next.marks ≡ w.marks ++ more → others (map OfMark more) ≤ most
+    → IsPrinted w next Marks most
+printed_more w next more most is few =
+    let new : new_marks w next ≡ more = ap (λ (l : List Mark). drop (length w.marks) l) is ∙ behind w.marks more in
+    record {
+      marks = is ∙ ap (λ (l : List Mark). w.marks ++ l) (sym (marks_among (new_marks w next) ∙ new));
+      few = subst (λ (l : List Mark). others (map OfMark l) ≤ most) (sym new) few;
+    }
+
+-- no mark was made
+printed_none : (w next : World) (most : ℕ) → next.marks ≡ w.marks → IsPrinted w next Marks most
+printed_none w next most same = printed_more w next [] most (same ∙ sym (append-nil w.marks)) (omega arith)
+
+-- the line was idle
+printed_idle : (w : World) → IsPrinted w w Idle 1
+printed_idle w = record { marks = sym (append-nil w.marks); few = omega arith }
+
+-- the operation was refused
+printed_refused : (w : World) (refusal : Refusal) → IsPrinted w w (Refused refusal) 1
+printed_refused w refusal = record { marks = sym (append-nil w.marks); few = omega arith }
+
+-- where something is done, or the line is idle
+done_or_not : (w next : World) (t : Bool) → IsPrinted w next Marks 1 → IsPrinted w (if t then next else w) (if t then Marks else Idle) 1
+done_or_not w next true printed = printed
+done_or_not w next false printed = printed_idle w
+
+-- an answer is a mark, and nothing else that a step does is
+told_marks : (setting : Setting) (w : World) (brick : BrickId) (told : List Told) → (world_tells setting w brick told).marks ≡ w.marks
+told_marks setting w brick [] = refl
+told_marks setting w brick (told.Made seq t base ∷ more) = told_marks setting (world_told setting w brick (told.Made seq t base)) brick more
+told_marks setting w brick (told.Seen seq t ∷ more) = told_marks setting (world_told setting w brick (told.Seen seq t)) brick more
+
+-- answers are Ends
+answer_marks : (w : World) (brick : BrickId) (answers : List Answered)
+    → (more : List Mark) × ((world_answers w brick answers).marks ≡ w.marks ++ more) × (others (map OfMark more) ≡ 0)
+answer_marks w brick [] = ([], sym (append-nil w.marks), refl)
+answer_marks w brick (one ∷ answers) =
+    let here : Mark = mark.End (length w.marks) (number_of w brick.0 one.seq) one.answer in
+    let rest = answer_marks (world_answered w brick one) brick answers in
+    (here ∷ rest.0, rest.1 ∙ append_assoc w.marks (here ∷ []) rest.0, (let none = rest.2 in omega (arith, none)))
+
+-- a step prints Ends alone
+stepped_printed : (setting : Setting) (w before : World) (brick : BrickId) (step : NodeStep) → before.marks ≡ w.marks
+    → IsPrinted w (world_stepped setting before brick step) Marks 0
+stepped_printed setting w before brick step same =
+    let told : World = world_tells setting before brick step.told in
+    let more = answer_marks told brick step.answers in
+    printed_more w (world_stepped setting before brick step) more.0 0
+    (more.1 ∙ ap (λ (l : List Mark). l ++ more.0) (told_marks setting before brick step.told ∙ same)) (omega (arith, more.2))
+
+-- no other line is at most one
+printed_fewer : (w next : World) (outcome : Outcome) → IsPrinted w next outcome 0 → IsPrinted w next outcome 1
+printed_fewer w next outcome printed = record { marks = printed.marks; few = (let few = printed.few in omega arith) }
+
+-- a message that is delivered prints Ends alone
+handled_printed : (setting : Setting) (w : World) (number : ℕ) (packet : Packet)
+    → (let step : NodeStep = received setting packet.to (w.clocks packet.to.0) (w.nodes packet.to.0) packet in
+    let counted : World = record w { replies = replies_with setting w packet; reached = put w.reached number true } in
+    IsPrinted w (world_stepped setting counted packet.to step) Marks 0)
+handled_printed setting w number packet =
+    let step : NodeStep = received setting packet.to (w.clocks packet.to.0) (w.nodes packet.to.0) packet in
+    let counted : World = record w { replies = replies_with setting w packet; reached = put w.reached number true } in
+    stepped_printed setting w counted packet.to step refl
+
+-- a delivery prints Ends, or that it is idle
+delivered_printed : (setting : Setting) (w : World) (number : ℕ) (packet : Option Packet)
+    → IsPrinted w (delivered setting w number packet) (marks_if (is_deliverable setting w packet)) 1
+delivered_printed setting w number None = printed_idle w
+delivered_printed setting w number (Some packet) =
+    let step : NodeStep = received setting packet.to (w.clocks packet.to.0) (w.nodes packet.to.0) packet in
+    let counted : World = record w { replies = replies_with setting w packet; reached = put w.reached number true } in
+    done_or_not w (world_stepped setting counted packet.to step) (is_up setting.layout w packet.to)
+    (printed_fewer w (world_stepped setting counted packet.to step) Marks (handled_printed setting w number packet))
+
+-- an operation begins exactly where no refusal is printed
+invoked_printed : (w next : World) (up : Bool) (refusal : Option Refusal) → IsPrinted w next Marks 1
+    → IsPrinted w (if up && not (is_some refusal) then next else w) (refused_or_begun (if up then refusal else Some Down)) 1
+invoked_printed w next false refusal printed = printed_refused w Down
+invoked_printed w next true None printed = printed
+invoked_printed w next true (Some refusal) printed = printed_refused w refusal
+
+-- a start prints nothing
+started_printed : (w : World) (brick : BrickId) (openings : ℕ) (found : Found)
+    → IsPrinted w (world_started (world_found w brick found) brick openings) Marks 1
+started_printed w brick openings Before = printed_none w (world_started w brick openings) 1 refl
+started_printed w brick openings After = printed_none w (world_started (world_found w brick After) brick openings) 1 refl
+
+-- the marks that an event makes are those that it prints
+event_printed : (setting : Setting) (w : World) (event : Event) → IsPrinted w (happens setting w event) (outcome_of setting w event) 1
+unfolding happens
+event_printed setting w (Invokes brick ask) =
+    let step : NodeStep = invoked setting brick (w.clocks brick.0) (w.nodes brick.0) ask in
+    invoked_printed w (world_began w brick ask step) (is_up setting.layout w brick)
+    (refusal_of setting.layout (w.nodes brick.0) ask) (printed_more w (world_began w brick ask step)
+    (mark.Begin (length w.marks) (w.begun + 1) brick ask ∷ []) 1 refl (omega arith))
+event_printed setting w (Delivers number) = delivered_printed setting w number (packet_of w.packets number)
+event_printed setting w (Sets brick time) =
+    done_or_not w (record w { clocks = put w.clocks brick.0 time }) (is_brick setting.layout brick)
+    (printed_none w (record w { clocks = put w.clocks brick.0 time }) 1 refl)
+event_printed setting w (Ticks brick) =
+    done_or_not w (world_ticked setting w brick) (is_up setting.layout w brick) (printed_none w (world_ticked setting w brick) 1 refl)
+event_printed setting w (Stops brick during) =
+    done_or_not w (world_stopped setting w brick during) (is_up setting.layout w brick)
+    (printed_more w (world_stopped setting w brick during) (mark.Crash (length w.marks) brick ∷ []) 1 refl (omega arith))
+event_printed setting w (Starts brick openings found) =
+    done_or_not w (world_started (world_found w brick found) brick openings) (may_start setting.layout w brick openings)
+    (started_printed w brick openings found)
+
+-- A text is that of printed lines, and the marks among them are those that a world has after another; and so many of the lines at most
+-- are no Ends.
+pub record IsPrintedAs (w next : World) (text : List ℕ) (most : ℕ) : Type 0 where
+  pub printed : List Printed
+  pub text_is : text ≡ printed_texts printed
+  pub marks_are : next.marks ≡ w.marks ++ printed_marks printed
+  pub few : others printed ≤ most
+
+-- nothing
+nothing_printed : (w : World) (most : ℕ) → IsPrintedAs w w [] most
+nothing_printed w most = record { printed = []; text_is = refl; marks_are = sym (append-nil w.marks); few = omega arith }
+
+-- one text, and then another
+both_printed : (w mid next : World) (first second : List ℕ) (one_most other_most : ℕ) → IsPrintedAs w mid first one_most
+    → IsPrintedAs mid next second other_most → IsPrintedAs w next (first ++ second) (one_most + other_most)
+both_printed w mid next first second one_most other_most one other = record {
+  printed = one.printed ++ other.printed;
+  text_is = ap (λ (text : List ℕ). text ++ second) one.text_is ∙ ap (λ (text : List ℕ). printed_texts one.printed ++ text) other.text_is
+      ∙ sym (texts_both one.printed other.printed);
+  marks_are = other.marks_are ∙ ap (λ (marks : List Mark). marks ++ printed_marks other.printed) one.marks_are
+      ∙ append_assoc w.marks (printed_marks one.printed) (printed_marks other.printed)
+      ∙ ap (λ (marks : List Mark). w.marks ++ marks) (sym (marks_both one.printed other.printed));
+  few = omega (arith, others_both one.printed other.printed, one.few, other.few);
+}
+
+-- so many are at most as many as more
+most_printed : (w next : World) (text : List ℕ) (most more : ℕ) → most ≤ more → IsPrintedAs w next text most → IsPrintedAs w next text more
+most_printed w next text most more le printed = record {
+  printed = printed.printed;
+  text_is = printed.text_is;
+  marks_are = printed.marks_are;
+  few = omega (arith, printed.few);
+}
+
+-- what an event prints
+event_lines : (setting : Setting) (w : World) (event : Event) (most : ℕ) → IsPrinted w (happens setting w event) (outcome_of setting w event) most
+    → IsPrintedAs w (happens setting w event) (event_text setting w event) most
+event_lines setting w event most printed =
+    let next : World = happens setting w event in
+    record {
+      printed = lines_of (outcome_of setting w event) (new_marks w next);
+      text_is = outcome_printed (outcome_of setting w event) (new_marks w next);
+      marks_are = printed.marks;
+      few = printed.few;
+    }
+
+-- a line that is one event
+one_printed : (setting : Setting) (w : World) (line : Line) (event : Event)
+    → IsPrintedAs w (run setting (event ∷ []) w) (line_text setting w line (event ∷ [])) 1
+one_printed setting w line event =
+    both_printed w (happens setting w event) (happens setting w event) (event_text setting w event) [] 1 0
+    (event_lines setting w event 1 (event_printed setting w event)) (nothing_printed (happens setting w event) 0)
+
+-- The deliveries of an operation that runs alone are of messages that can be delivered: one that could not would be the next for ever.
+
+-- nothing happens then
+idle_stays : (setting : Setting) (w : World) (number : ℕ) (packet : Option Packet) → is_deliverable setting w packet ≡ false
+    → delivered setting w number packet ≡ w
+idle_stays setting w number None idle = refl
+idle_stays setting w number (Some packet) idle =
+    ap (λ (b : Bool). cond b (world_stepped setting
+    (record w { replies = replies_with setting w packet; reached = put w.reached number true }) packet.to
+    (received setting packet.to (w.clocks packet.to.0) (w.nodes packet.to.0) packet)) w) idle
+
+-- what a delivery is
+delivers_is : (setting : Setting) (w : World) (number : ℕ)
+    → happens setting w (Delivers number) ≡ delivered setting w number (packet_of w.packets number)
+unfolding happens
+delivers_is setting w number = refl
+
+-- where the next message cannot be delivered
+module _ (setting : Setting) (n : ℕ) (bricks : List BrickId) (w : World) (number : ℕ) (open_is : is_some (open_call w n) ≡ true)
+    (next_is : next_delivery w n bricks ≡ Some number) (idle : is_deliverable setting w (packet_of w.packets number) ≡ false) where
+  no_end : (v last : World) (events : List Event) → RunsAlone setting n bricks v events last → v ≡ w → ⊥
+  no_end _ _ _ (Ended v ended) same =
+      let never : is_some (open_call w n) ≡ false = ap (λ (x : World). is_some (open_call x n)) (sym same)
+      ∙ ap (λ (o : Option Coordinator). is_some o) ended in
+      (let bad : true ≡ false = sym open_is ∙ never in cc)
+  no_end _ _ _ (Stuck v opens none) same =
+      (let bad : None ≡ Some number = sym none ∙ ap (λ (x : World). next_delivery x n bricks) same ∙ next_is in cc)
+  no_end _ _ _ (Next v last other events opens next more) same =
+      let number_same : other ≡ number = same_Some other number (sym next ∙ ap (λ (x : World). next_delivery x n bricks) same ∙ next_is) in
+      no_end (happens setting v (Delivers other)) last events more
+      (ap (λ (x : World). happens setting x (Delivers other)) same ∙ ap (λ (k : ℕ). happens setting w (Delivers k)) number_same
+      ∙ delivers_is setting w number ∙ idle_stays setting w number (packet_of w.packets number) idle)
+
+-- a message that can be delivered prints Ends alone
+handled_alone : (setting : Setting) (w : World) (number : ℕ) (packet : Option Packet) → is_deliverable setting w packet ≡ true
+    → IsPrinted w (delivered setting w number packet) (marks_if (is_deliverable setting w packet)) 0
+handled_alone setting w number None up = absurd (let never : false ≡ true = up in cc)
+handled_alone setting w number (Some packet) up =
+    let step : NodeStep = received setting packet.to (w.clocks packet.to.0) (w.nodes packet.to.0) packet in
+    let counted : World = record w { replies = replies_with setting w packet; reached = put w.reached number true } in
+    subst (λ (b : Bool). IsPrinted w (if b then world_stepped setting counted packet.to step else w) (if b then Marks else Idle) 0) (sym up)
+    (handled_printed setting w number packet)
+
+-- the same of the event
+delivers_alone : (setting : Setting) (w : World) (number : ℕ) → is_deliverable setting w (packet_of w.packets number) ≡ true
+    → IsPrinted w (happens setting w (Delivers number)) (outcome_of setting w (Delivers number)) 0
+delivers_alone setting w number up =
+    subst (λ (v : World). IsPrinted w v (outcome_of setting w (Delivers number)) 0) (sym (delivers_is setting w number))
+    (handled_alone setting w number (packet_of w.packets number) up)
+
+-- the message that is delivered next can be delivered
+next_up : (setting : Setting) (n : ℕ) (bricks : List BrickId) (w last : World) (number : ℕ) (events : List Event) → is_some (open_call w n) ≡ true
+    → next_delivery w n bricks ≡ Some number → RunsAlone setting n bricks (happens setting w (Delivers number)) events last
+    → is_deliverable setting w (packet_of w.packets number) ≡ true
+next_up setting n bricks w last number events open_is next more = by (is_deliverable setting w (packet_of w.packets number)) refl
+  where
+    by : (b : Bool) → is_deliverable setting w (packet_of w.packets number) ≡ b → b ≡ true
+    by true is = refl
+    by false idle =
+        absurd (no_end setting n bricks w number open_is next idle (happens setting w (Delivers number)) last events more
+        (delivers_is setting w number ∙ idle_stays setting w number (packet_of w.packets number) idle))
+
+-- an operation that runs alone prints Ends alone
+alone_printed : (setting : Setting) (n : ℕ) (bricks : List BrickId) (w last : World) (events : List Event) → RunsAlone setting n bricks w events last
+    → IsPrintedAs w (run setting events w) (text_of setting w events) 0
+alone_printed setting n bricks _ _ _ (Ended w ended) = nothing_printed w 0
+alone_printed setting n bricks _ _ _ (Stuck w opens none) = nothing_printed w 0
+alone_printed setting n bricks _ _ _ (Next w last number events opens next more) =
+    both_printed w (happens setting w (Delivers number)) (run setting events (happens setting w (Delivers number)))
+    (event_text setting w (Delivers number)) (text_of setting (happens setting w (Delivers number)) events) 0 0
+    (event_lines setting w (Delivers number) 0
+    (delivers_alone setting w number (next_up setting n bricks w last number events opens next more)))
+    (alone_printed setting n bricks (happens setting w (Delivers number)) last events more)
+
+-- where nothing is delivered, that it is idle
+idle_printed : (setting : Setting) (n : ℕ) (numbers : List ℕ) (w : World)
+    → IsPrintedAs w (run setting [] w) (line_text setting w (Calm n numbers) []) 1
+idle_printed setting n numbers w = record {
+  printed = OfNothing ∷ [];
+  text_is = sym (append-nil (printed_text OfNothing));
+  marks_are = sym (append-nil w.marks);
+  few = omega arith;
+}
+
+-- a line of no event, and one of one event
+of_none : (setting : Setting) (w : World) (line : Line) (events : List Event) → events ≡ []
+    → IsPrintedAs w (run setting [] w) (line_text setting w line []) 1 → IsPrintedAs w (run setting events w) (line_text setting w line events) 1
+of_none setting w line events are printed =
+    subst (λ (l : List Event). IsPrintedAs w (run setting l w) (line_text setting w line l) 1) (sym are) printed
+
+-- or of one event
+of_one : (setting : Setting) (w : World) (line : Line) (event : Event) (events : List Event) → events ≡ event ∷ []
+    → IsPrintedAs w (run setting events w) (line_text setting w line events) 1
+of_one setting w line event events are =
+    subst (λ (l : List Event). IsPrintedAs w (run setting l w) (line_text setting w line l) 1) (sym are) (one_printed setting w line event)
+
+-- so its line prints one other line at most
+calm_printed : (setting : Setting) (n : ℕ) (numbers : List ℕ) (w last : World) (events : List Event)
+    → RunsAlone setting n (map brick_of numbers) w events last → IsPrintedAs w (run setting events w) (line_text setting w (Calm n numbers) events) 1
+calm_printed setting n numbers w last [] runs = idle_printed setting n numbers w
+calm_printed setting n numbers w last (event ∷ events) runs =
+    most_printed w (run setting (event ∷ events) w) (text_of setting w (event ∷ events)) 0 1 (omega arith)
+    (alone_printed setting n (map brick_of numbers) w last (event ∷ events) runs)
+
+-- What the events of a line print.
+line_printed : (layout : Layout) (w : World) (old new : List MemDisk) (line : Line) (events : List Event) → IsEventsOf layout w old new line events
+    → IsPrintedAs w (run (coding layout) events w) (line_text (coding layout) w line events) 1
+line_printed layout w old new Nothing events are = of_none (coding layout) w Nothing events are (nothing_printed w 1)
+line_printed layout w old new (Invoke b g s access) events are = of_one (coding layout) w (Invoke b g s access) _ events are
+line_printed layout w old new (Deliver k fault) events (inl midway) = of_one (coding layout) w (Deliver k fault) _ events midway.events_are
+line_printed layout w old new (Deliver k fault) events (inr whole) = of_one (coding layout) w (Deliver k fault) _ events whole.events_are
+line_printed layout w old new (SetClock b v) events are = of_one (coding layout) w (SetClock b v) _ events are
+line_printed layout w old new (Tick b) events are = of_one (coding layout) w (Tick b) _ events are
+line_printed layout w old new (Crash b) events are = of_one (coding layout) w (Crash b) _ events are.0
+line_printed layout w old new (Start b fault) events (inl down) = of_one (coding layout) w (Start b fault) _ events down.events_are
+line_printed layout w old new (Start b fault) events (inr (inl started)) = of_one (coding layout) w (Start b fault) _ events started.events_are
+line_printed layout w old new (Start b fault) events (inr (inr none)) = of_one (coding layout) w (Start b fault) _ events none.events_are
+line_printed layout w old new (Calm n numbers) events (inl calm) =
+    calm_printed (coding layout) n numbers w (run (coding layout) events w) events calm.runs
+line_printed layout w old new (Calm n numbers) events (inr none) =
+    of_none (coding layout) w (Calm n numbers) events none.1 (idle_printed (coding layout) n numbers w)
+
+-- the world that a step leaves
+pub after_step : (before after : Run) (line : Line) (step : Step) → Runs before after line step
+    → world_of after ≡ run (coding before.layout) step.events (world_of before)
+after_step before after line step runs = ap world_of runs.run ∙ world_of-with_step before step after.disks
+
+-- What steps print that were taken one after another.
+steps_printed : (r last : Run) (steps : List Step) → LeadsTo r steps last
+    → IsPrintedAs (world_of r) (run (coding r.layout) (all_events steps) (world_of r)) (steps_text (coding r.layout) (world_of r) steps)
+    (length steps)
+steps_printed r last [] leads = nothing_printed (world_of r) 0
+steps_printed r last (step ∷ steps) leads =
+    let setting : Setting = coding r.layout in
+    let w : World = world_of r in
+    let next : World = run setting step.events w in
+    let there : world_of leads.0 ≡ next = after_step r leads.0 step.line step leads.1 in
+    let layout : leads.0.layout ≡ r.layout = ap (λ (x : Run). x.layout) leads.1.run in
+    let rest : IsPrintedAs next (run setting (all_events steps) next) (steps_text setting next steps) (length steps) =
+    subst (λ (v : World). IsPrintedAs v (run setting (all_events steps) v) (steps_text setting v steps) (length steps)) there
+    (subst (λ (l : Layout). IsPrintedAs (world_of leads.0) (run (coding l) (all_events steps) (world_of leads.0))
+    (steps_text (coding l) (world_of leads.0) steps) (length steps)) layout (steps_printed leads.0 last steps leads.2))
+    in
+    subst (λ (v : World). IsPrintedAs w v (steps_text setting w (step ∷ steps)) (suc (length steps)))
+    (sym (run-append setting w step.events (all_events steps)))
+    (most_printed w (run setting (all_events steps) next) (steps_text setting w (step ∷ steps)) (1 + length steps) (suc (length steps)) (omega arith)
+    (both_printed w next (run setting (all_events steps) next) (step_text setting w step) (steps_text setting next steps) 1 (length steps)
+    (line_printed r.layout w r.disks leads.0.disks step.line step.events leads.1.events_are) rest))
+
+-- What the steps of a whole schedule print, from fresh bricks on.
+pub schedule_printed : (layout : Layout) (schedule : List (List ℕ)) (steps : List Step) → AreStepsOf layout schedule steps
+    → IsPrintedAs (first_world layout) (left_by layout steps) (steps_text (coding layout) (first_world layout) steps) (length steps)
+schedule_printed layout schedule steps are =
+    subst (λ (v : World). IsPrintedAs v (run (coding layout) (all_events steps) v) (steps_text (coding layout) v steps) (length steps))
+    (ap world_of are.first_is)
+    (subst (λ (l : Layout). IsPrintedAs (world_of are.first) (run (coding l) (all_events steps) (world_of are.first))
+    (steps_text (coding l) (world_of are.first) steps) (length steps)) (ap (λ (r : Run). r.layout) are.first_is)
+    (steps_printed are.first are.last steps are.leads))

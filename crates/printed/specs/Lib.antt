@@ -1,0 +1,4 @@
+pub mod Outputs
+pub mod Printed
+pub mod LineSteps
+pub mod Sound

@@ -1,0 +1,32 @@
+-- The lines that a run prints, one by one, before those that close its output.
+use Rattle.std.specs.Prelude.{ℕ, List, [], ◌∷◌, ◌++◌}
+use Rattle.fab_base.specs.declared.answers.Refusal.{Refusal}
+use Rattle.reg_model.specs.declared.marks.Mark.{Mark}
+use Rattle.world.specs.Texts.{mark_text, refusal_text, idle_text}
+
+-- a printed line: a mark, or why an operation was not begun, or that a line of the schedule found nothing to do
+pub data Printed : Type 0 where
+  OfMark : (mark : Mark) → Printed
+  OfRefusal : (refusal : Refusal) → Printed
+  OfNothing : Printed
+
+abbrev pub printed_text : Printed → List ℕ
+printed_text (OfMark mark) = mark_text mark
+printed_text (OfRefusal refusal) = refusal_text refusal
+printed_text OfNothing = idle_text
+
+-- the text of printed lines, in order
+abbrev pub printed_texts : List Printed → List ℕ
+printed_texts [] = []
+printed_texts (line ∷ printed) = printed_text line ++ printed_texts printed
+
+-- the marks that a printed line is
+abbrev pub marks_in : Printed → List Mark
+marks_in (OfMark mark) = mark ∷ []
+marks_in (OfRefusal refusal) = []
+marks_in OfNothing = []
+
+-- the marks among printed lines, in order
+abbrev pub printed_marks : List Printed → List Mark
+printed_marks [] = []
+printed_marks (line ∷ printed) = marks_in line ++ printed_marks printed
