@@ -14,7 +14,8 @@ use Rattle.replay.specs.declared.endings.Verdict.{Verdict}
 use Rattle.replay.specs.declared.endings.Verdict.TheVariants as verdict
 use Rattle.replay.specs.declared.endings.Halt.{Halt}
 use Rattle.replay.specs.Inputs.{Input, Parted, TooLong, Endless, most_layout_bytes, input_of, IsInput}
-use Rattle.replay.specs.Outputs.{left_by, steps_text, onto, output_behind, output_of, bad_layout}
+use Rattle.printed.specs.Outputs.{left_by, steps_text}
+use Rattle.replay.specs.Outputs.{onto, output_behind, output_of, bad_layout}
 use Rattle.replay.specs.Turns.{Prints, AreLinesOf, PrintsRest, PrintsHeaded, PrintsInput}
 use Rattle.replay.proofs.LayoutTexts.{within}
 use Rattle.replay.proofs.LeftLines.{some_lines}

@@ -8,7 +8,6 @@ pub mod OpenEnds
 pub mod StripeTexts
 pub mod LayoutTexts
 pub mod Successions
-pub mod PrintedMarks
 pub mod Linearity
 pub mod Statuses
 pub mod Steppings

@@ -1,5 +1,5 @@
 -- What was printed of a whole schedule is strict.
-use Rattle.std.proofs.Common.{◌≡◌, ℕ, ◌+◌, Bool, true, false, List, [], ◌∷◌, ◌++◌, length, Option, Some, None, Result, Ok, inl, inr, refl, sym, ap, ◌∙◌, append-nil}
+use Rattle.std.proofs.Common.{◌≡◌, ℕ, ◌+◌, ◌≤◌, Bool, true, false, List, [], ◌∷◌, ◌++◌, length, Option, Some, None, Result, Ok, inl, inr, refl, sym, ap, ◌∙◌, subst, append-nil}
 use Rattle.std.specs.Prelude.{nat_lt}
 use Rattle.lines.specs.declared.forms.Line.{Line}
 use Rattle.lines.specs.Grammar.{line_of}
@@ -17,11 +17,14 @@ use Rattle.replay.specs.declared.endings.Verdict.{Verdict}
 use Rattle.replay.specs.declared.endings.Verdict.TheVariants.{Whole, BadLine, TooManyLines}
 use Rattle.replay.specs.declared.endings.Halt.{Halt}
 use Rattle.replay.specs.Inputs.{Input, Parted}
-use Rattle.replay.specs.Outputs.{Output, left_by, onto, output_line, output_behind, output_of, steps_text, most_lines}
+use Rattle.printed.specs.Outputs.{left_by, steps_text, closing_text, most_lines}
+use Rattle.printed.specs.Sound.{IsSoundText}
+use Rattle.printed.proofs.PrintedMarks.{schedule_printed}
+use Rattle.printed.proofs.Sound.{what_is_printed_audits}
+use Rattle.replay.specs.Outputs.{Output, onto, output_line, output_behind, output_of}
 use Rattle.replay.specs.LineSteps.{BeginsWith, AreStepsIn}
 use Rattle.replay.specs.Replays.{IsStrictWorld, IsLinearizable, StaysStrict}
 use Rattle.replay.proofs.OutputLines.{output_behind-end, output_of-steps}
-use Rattle.replay.proofs.PrintedMarks.{steps_printed}
 use Rattle.replay.proofs.Successions.{follows_steps}
 
 -- the world that steps leave is strict
@@ -54,19 +57,24 @@ pub linearizable : (input : Input) (steps : List Step) (ending : Result Verdict 
     → (output_of steps input).verdict ≡ Some Whole → IsLinearizable input (output_of steps input).text
 linearizable input steps ending all are whole =
     elim are [
-      | inl some ↦ begun some.0 some.1
+      | inl some ↦ begun some.0 some.1 some.2
       | inr none ↦ absurd (none.1 all)
     ]
   where
-    begun : (layout : Layout) → BeginsWith input layout steps → IsLinearizable input (output_of steps input).text
-    begun layout b =
+    begun : (layout : Layout) → BeginsWith input layout steps → length steps ≤ most_lines → IsLinearizable input (output_of steps input).text
+    begun layout b few =
         let world : World = left_by layout steps in
         let text : List ℕ = steps_text (coding layout) (first_world layout) steps in
-        let shown = steps_printed (coding layout) (first_world layout) steps in
+        let shown = schedule_printed layout b.schedule steps b.steps_are in
         let same : output_of steps input ≡ onto text (output_behind layout world (length steps) b.rest) =
         ap (output_of steps) b.input_is ∙ output_of-steps b.head layout b.schedule b.rest steps b.layout_is b.steps_are.lines
         in
         let none : b.rest ≡ [] = none_left layout world (length steps) b.rest (ap (λ (o : Output). o.verdict) (sym same) ∙ whole) in
+        let text_is : (output_of steps input).text ≡ text ++ closing_text layout world (length steps) =
+        ap (λ (o : Output). o.text) same
+        ∙ ap (λ (rest : List (List ℕ)). text ++ (output_behind layout world (length steps) rest).text) none
+        ∙ ap (λ (o : Output). text ++ o.text) (output_behind-end layout world (length steps))
+        in
         record {
           printed = shown.printed;
           steps_text_is = shown.text_is;
@@ -80,8 +88,7 @@ linearizable input steps ending all are whole =
           layout_is = b.layout_is;
           steps_are = b.steps_are;
           world_is = refl;
-          text_is = ap (λ (o : Output). o.text) same
-              ∙ ap (λ (rest : List (List ℕ)). text ++ (output_behind layout world (length steps) rest).text) none
-              ∙ ap (λ (o : Output). text ++ o.text) (output_behind-end layout world (length steps));
+          text_is = text_is;
           is_strict = strict_world layout (accepted_is b.head layout b.layout_is) steps;
+          audits = subst (IsSoundText layout) (sym text_is) (what_is_printed_audits b.head layout b.schedule steps b.layout_is b.steps_are few);
         }

@@ -9,7 +9,7 @@ use Rattle.layout.specs.Texts.{layout_of}
 use Rattle.stripe_code.specs.Codes.{coding}
 use Rattle.world.specs.Runs.{Run, world_of}
 use Rattle.world.specs.Disks.{ShowsDisks}
-use Rattle.replay.specs.Outputs.{steps_text}
+use Rattle.printed.specs.Outputs.{steps_text}
 use Rattle.lines.specs.Lines.{is_line_feed, raw_lines, content, ends_layout, parts, parts_of_lines, whole_lines}
 use Rattle.lines.specs.Reading.{AreWhole, IsNeeded}
 use Rattle.lines.proofs.WholeLines.{AreWhole-both, whole_firsts, lines_of}

@@ -17,8 +17,10 @@ use Rattle.replay.specs.declared.endings.Verdict.{Verdict}
 use Rattle.replay.specs.declared.endings.Verdict.TheVariants.{Whole, BadLayout, BadLine, TooManyLines}
 use Rattle.replay.specs.declared.endings.Halt.{Halt}
 use Rattle.replay.specs.Inputs.{Input, Parted, TooLong, Endless}
-use Rattle.replay.specs.Outputs.{Output, left_by, steps_text, onto, output_line, output_behind, output_with, output_of, finished, bad_line, too_many_lines, most_lines, verdict_line, verdict_behind, verdict_with, verdict_of}
-use Rattle.replay.specs.LineSteps.{AreLinesOfSteps, AreStepsIn}
+use Rattle.printed.specs.Outputs.{left_by, steps_text, most_lines}
+use Rattle.replay.specs.Outputs.{Output, onto, output_line, output_behind, output_with, output_of, finished, bad_line, too_many_lines, verdict_line, verdict_behind, verdict_with, verdict_of}
+use Rattle.printed.specs.LineSteps.{AreLinesOfSteps}
+use Rattle.replay.specs.LineSteps.{AreStepsIn}
 
 -- a line that there may be
 within : (n : ℕ) → n < most_lines → nat_lt n most_lines ≡ true

@@ -26,13 +26,15 @@ use Rattle.fab_io.proofs.Content.{AppendsFront-none, AppendsFront-more}
 use Rattle.replay.specs.declared.endings.Verdict.{Verdict}
 use Rattle.replay.specs.declared.endings.Verdict.TheVariants as verdict
 use Rattle.replay.specs.declared.endings.Halt.{Halt}
-use Rattle.replay.specs.Outputs.{Output, onto, output_behind, finished, bad_line, too_many_lines, most_lines, steps_text}
-use Rattle.replay.specs.LineSteps.{LeadsTo, AreLinesOfSteps}
+use Rattle.printed.specs.Outputs.{most_lines, steps_text}
+use Rattle.replay.specs.Outputs.{Output, onto, output_behind, finished, bad_line, too_many_lines}
+use Rattle.printed.specs.LineSteps.{LeadsTo, AreLinesOfSteps}
+use Rattle.printed.proofs.PrintedMarks.{after_step}
 use Rattle.replay.specs.Turns.{Prints, AreLinesOf, PrintsRest, PrintsLine, LineRuns, LineBegins, LineTurnMeans, PieceMeans, TurnMeans, IsTheEnd}
 use Rattle.replay.specs.Readings.{LinesSoFar, ReadsPart}
 use Rattle.replay.proofs.HeadReading.{unread_more}
 use Rattle.replay.proofs.OutputLines.{output_behind-end, output_behind-bad, output_behind-many}
-use Rattle.replay.proofs.Steppings.{after_steps, after_step, leads_none, leads_one, leads_both, lines_both, steps_text-append}
+use Rattle.replay.proofs.Steppings.{after_steps, leads_none, leads_one, leads_both, lines_both, steps_text-append}
 use Rattle.replay.proofs.Printing.{Prints-after, Prints-kept, Prints-nothing, Prints-same}
 use Rattle.replay.proofs.LeftLines.{some_lines, no_lines, taken_lines, first_line, long_line}
 

@@ -11,9 +11,9 @@ use Rattle.world.specs.Runs.{Run, Step, world_of, all_events}
 use Rattle.world.specs.Steps.{Runs}
 use Rattle.world.specs.Texts.{step_text}
 use Rattle.calm_laws.proofs.Schedules.{run-append}
-use Rattle.world.proofs.RunLemmas.{world_of-with_step}
-use Rattle.replay.specs.Outputs.{steps_text}
-use Rattle.replay.specs.LineSteps.{LeadsTo, AreLinesOfSteps}
+use Rattle.printed.proofs.PrintedMarks.{after_step}
+use Rattle.printed.specs.Outputs.{steps_text}
+use Rattle.printed.specs.LineSteps.{LeadsTo, AreLinesOfSteps}
 
 -- the world that steps leave
 abbrev pub after_steps : Setting → World → List Step → World
@@ -25,11 +25,7 @@ after_steps-all setting w [] = refl
 after_steps-all setting w (step ∷ steps) =
     run-append setting w step.events (all_events steps) ∙ after_steps-all setting (run setting step.events w) steps
 
--- the world that a step leaves
-pub after_step : (before after : Run) (line : Line) (step : Step) → Runs before after line step
-    → world_of after ≡ run (coding before.layout) step.events (world_of before)
-after_step before after line step runs = ap world_of runs.run ∙ world_of-with_step before step after.disks
-
+-- a step keeps the layout
 pub same_layout_step : (before after : Run) (line : Line) (step : Step) → Runs before after line step → after.layout ≡ before.layout
 same_layout_step before after line step runs = ap (λ (r : Run). r.layout) runs.run
 

@@ -3,7 +3,7 @@ use Rattle.std.proofs.Common.{◌≡◌, ℕ, ◌+◌, [], ◌++◌, refl, add-o
 use Rattle.fab_base.specs.Layouts.{Layout, group_of}
 use Rattle.protocol.specs.Worlds.{World}
 use Rattle.protocol.specs.Happenings.{happenings_of}
-use Rattle.replay.specs.Outputs.{happened_text, stripes_text, groups_text, stripes_of}
+use Rattle.printed.specs.Outputs.{happened_text, stripes_text, groups_text, stripes_of}
 
 -- one more stripe
 pub stripes_text-more : (w : World) (g s : ℕ) → stripes_text w g (s + 1) ≡ stripes_text w g s ++ happened_text g s (happenings_of w g s)

@@ -9,7 +9,7 @@ use Rattle.protocol_laws.proofs.ViewLaws.{never_lowers, never_surfaces, follows_
 use Rattle.world.specs.Runs.{Step, all_events}
 use Rattle.calm_laws.proofs.Schedules.{run-append}
 use Rattle.replay.specs.Histories.{Succeeds}
-use Rattle.replay.specs.Outputs.{left_by}
+use Rattle.printed.specs.Outputs.{left_by}
 
 -- the events of steps, and then of further ones
 all_events-both : (steps more : List Step) → all_events (steps ++ more) ≡ all_events steps ++ all_events more

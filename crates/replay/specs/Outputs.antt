@@ -1,108 +1,21 @@
 -- What is printed for an input: the texts of its lines, and what closes them; or why it has no layout, or
 -- where it is no schedule.
-use Rattle.std.specs.Prelude.{ℕ, zero, suc, ◌+◌, Bool, true, false, nat_lt, List, [], ◌∷◌, ◌++◌, length, drop, codes, count_by, Option, Some, None, Result, Ok, Err}
+use Rattle.std.specs.Prelude.{ℕ, ◌+◌, Bool, true, false, nat_lt, List, [], ◌∷◌, ◌++◌, length, drop, codes, Option, Some, None, Result, Ok, Err}
 use Rattle.std.specs.Fmt.{decimal}
-use Rattle.fab_base.specs.declared.answers.Answer.TheVariants.{Data, Done, Aborted}
-use Rattle.reg_model.specs.declared.marks.Mark.{Mark}
-use Rattle.reg_model.specs.declared.marks.Mark.TheVariants.{Begin, End, Crash}
-use Rattle.reg_model.specs.declared.marks.Happening.{Happening}
 use Rattle.lines.specs.declared.forms.Line.{Line}
 use Rattle.lines.specs.Grammar.{line_of}
-use Rattle.fab_base.specs.Layouts.{Layout, Group, group_of}
-use Rattle.protocol.specs.Settings.{Setting}
-use Rattle.protocol.specs.Worlds.{World, first_world, run}
-use Rattle.protocol.specs.Happenings.{happenings_of}
+use Rattle.fab_base.specs.Layouts.{Layout}
+use Rattle.protocol.specs.Worlds.{World, first_world}
 use Rattle.stripe_code.specs.Codes.{coding}
 use Rattle.layout.specs.declared.faults.LayoutFault.{LayoutFault}
 use Rattle.layout.specs.Names.{fault_text}
 use Rattle.layout.specs.Texts.{layout_of}
-use Rattle.world.specs.Runs.{Step, all_events}
+use Rattle.world.specs.Runs.{Step}
 use Rattle.replay.specs.declared.endings.Verdict.{Verdict}
 use Rattle.replay.specs.declared.endings.Verdict.TheVariants.{Whole, BadLayout, BadLine, TooManyLines}
-use Rattle.world.specs.Texts.{step_text, newline}
+use Rattle.world.specs.Texts.{newline}
+use Rattle.printed.specs.Outputs.{most_lines, closing_text, left_by, steps_text}
 use Rattle.replay.specs.Inputs.{Input, Parted, TooLong, Endless}
-
--- the most lines of a schedule
-abbrev pub most_lines : ℕ
-most_lines = 1048576
-
--- one happening
-abbrev pub happening_text : Happening → List ℕ
-happening_text h = codes " " ++ (decimal h.operation ++ (codes "@" ++ decimal h.position))
-
-abbrev pub happenings_text : List Happening → List ℕ
-happenings_text [] = newline
-happenings_text (h ∷ happenings) = happening_text h ++ happenings_text happenings
-
--- the line of a stripe with happenings; a stripe without has none
-abbrev pub happened_text : ℕ → ℕ → List Happening → List ℕ
-happened_text g s [] = []
-happened_text g s (h ∷ happenings) =
-    codes "happened " ++ (decimal g ++ (codes " " ++ (decimal s ++ happenings_text (h ∷ happenings))))
-
--- the lines of a group's stripes below a number
-abbrev pub stripes_text : World → ℕ → ℕ → List ℕ
-stripes_text w g zero = []
-stripes_text w g (suc s) = stripes_text w g s ++ happened_text g s (happenings_of w g s)
-
--- how many stripes a group has, where there is one
-abbrev pub stripes_of : Option Group → ℕ
-stripes_of None = 0
-stripes_of (Some group) = group.stripes
-
--- the lines of the groups below a number
-unfoldable pub groups_text : Layout → World → ℕ → List ℕ
-groups_text layout w zero = []
-groups_text layout w (suc g) = groups_text layout w g ++ stripes_text w g (stripes_of (group_of layout g))
-
--- the most groups of a layout
-abbrev pub most_groups : ℕ
-most_groups = 64
-
--- kinds of marks
-abbrev pub is_begin : Mark → Bool
-is_begin (Begin p n b ask) = true
-is_begin (End p n answer) = false
-is_begin (Crash p b) = false
-
-abbrev pub is_answered : Mark → Bool
-is_answered (Begin p n b ask) = false
-is_answered (End p n (Data bytes)) = true
-is_answered (End p n Done) = true
-is_answered (End p n (Aborted cause)) = false
-is_answered (Crash p b) = false
-
-abbrev pub is_aborted : Mark → Bool
-is_aborted (Begin p n b ask) = false
-is_aborted (End p n (Data bytes)) = false
-is_aborted (End p n Done) = false
-is_aborted (End p n (Aborted cause)) = true
-is_aborted (Crash p b) = false
-
-abbrev pub is_crash : Mark → Bool
-is_crash (Begin p n b ask) = false
-is_crash (End p n answer) = false
-is_crash (Crash p b) = true
-
--- the last line: how many lines of the schedule, and marks of each kind
-abbrev pub count_text : ℕ → List Mark → List ℕ
-count_text lines marks =
-    codes "count lines " ++ (decimal lines ++ (codes " begun " ++ (decimal (count_by is_begin marks)
-    ++ (codes " answered " ++ (decimal (count_by is_answered marks) ++ (codes " aborted " ++ (decimal (count_by is_aborted marks)
-    ++ (codes " crashes " ++ (decimal (count_by is_crash marks) ++ newline)))))))))
-
--- what closes the output after this many lines
-abbrev pub closing_text : Layout → World → ℕ → List ℕ
-closing_text layout w lines = groups_text layout w most_groups ++ count_text lines w.marks
-
--- the world that steps leave over the disk of a layout
-abbrev pub left_by : Layout → List Step → World
-left_by layout steps = run (coding layout) (all_events steps) (first_world layout)
-
--- the texts of steps, one after another
-abbrev pub steps_text : Setting → World → List Step → List ℕ
-steps_text setting w [] = []
-steps_text setting w (step ∷ steps) = step_text setting w step ++ steps_text setting (run setting step.events w) steps
 
 -- what is printed, and how the input ends that; not yet, where a next line is left to be run
 pub record Output : Type 0 where

@@ -14,8 +14,8 @@ use Rattle.replay.specs.declared.endings.Halt.TheVariants.{Source}
 use Rattle.replay.specs.declared.heads.Head.{Head}
 use Rattle.replay.specs.declared.heads.Head.TheVariants.{Text, Alone, TooLong, Endless}
 use Rattle.replay.specs.Inputs.{most_layout_bytes}
-use Rattle.replay.specs.Outputs.{most_lines, steps_text}
-use Rattle.replay.specs.LineSteps.{LeadsTo, AreLinesOfSteps}
+use Rattle.printed.specs.Outputs.{most_lines, steps_text}
+use Rattle.printed.specs.LineSteps.{LeadsTo, AreLinesOfSteps}
 
 -- What a part of a run read, behind the bytes that were unread: no more than left it open how the run ends. Where the source
 -- failed it is open still, and the sink took the text of what was read.

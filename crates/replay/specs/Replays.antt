@@ -23,9 +23,12 @@ use Rattle.replay.specs.declared.endings.Verdict.TheVariants.{Whole, BadLayout, 
 use Rattle.replay.specs.declared.endings.Halt.{Halt}
 use Rattle.replay.specs.declared.endings.Halt.TheVariants.{Source, Sink, Memory}
 use Rattle.replay.specs.Inputs.{Input, Parted, TooLong, Endless, most_layout_bytes, input_of, IsInput}
-use Rattle.replay.specs.Outputs.{left_by, output_of, verdict_of, closing_text, steps_text, most_lines}
-use Rattle.replay.specs.LineSteps.{AreStepsOf, BeginsWith, AreStepsIn}
-use Rattle.replay.specs.Printed.{Printed, printed_texts, printed_marks}
+use Rattle.printed.specs.Outputs.{left_by, closing_text, steps_text, most_lines}
+use Rattle.replay.specs.Outputs.{output_of, verdict_of}
+use Rattle.printed.specs.LineSteps.{AreStepsOf}
+use Rattle.replay.specs.LineSteps.{BeginsWith, AreStepsIn}
+use Rattle.printed.specs.Sound.{IsSoundText}
+use Rattle.printed.specs.Printed.{Printed, printed_texts, printed_marks}
 use Rattle.replay.specs.Turns.{Prints}
 use Rattle.replay.specs.Histories.{Succeeds}
 
@@ -87,6 +90,7 @@ pub record IsLinearizable (input : Input) (text : List ℕ) : Type 0 where
   pub steps_text_is : steps_text (coding layout) (first_world layout) steps ≡ printed_texts printed
   pub marks_are : printed_marks printed ≡ world.marks
   pub is_strict : IsStrictWorld layout world
+  pub audits : IsSoundText layout text
 
 -- However far a run comes, what its steps left by then is strict, and what further steps leave follows it: no
 -- brick takes anything below what it took nothing below, and no version that was lost has surfaced.

@@ -16,8 +16,10 @@ use Rattle.replay.specs.declared.endings.Halt.{Halt}
 use Rattle.replay.specs.declared.heads.Head.{Head}
 use Rattle.replay.specs.declared.heads.Head.TheVariants.{Text, Alone}
 use Rattle.replay.specs.Inputs.{Input, Parted, TooLong, Endless, most_layout_bytes, IsInput}
-use Rattle.replay.specs.Outputs.{Output, most_lines, steps_text, onto, output_behind, output_of}
-use Rattle.replay.specs.LineSteps.{LeadsTo, AreLinesOfSteps, AreStepsIn}
+use Rattle.printed.specs.Outputs.{most_lines, steps_text}
+use Rattle.replay.specs.Outputs.{Output, onto, output_behind, output_of}
+use Rattle.printed.specs.LineSteps.{LeadsTo, AreLinesOfSteps}
+use Rattle.replay.specs.LineSteps.{AreStepsIn}
 
 -- the sink took the whole output, which ends so; or a run that was stopped gave it some of the output, from
 -- its front

@@ -38,6 +38,9 @@ use std::alloc::Global;
 /// for its marks, `IsStrict` (`specs/Strict.antt` of `reg_model`). The schedules that are accepted are those
 /// that end with status 0.
 ///
+/// What is printed at status 0 is a text that an audit finds sound under the input's layout (`IsSoundText`, `specs/Sound.antt` of
+/// `printed`): read as anyone may read it, it says just the marks and happenings that it was printed from.
+///
 /// At every status the steps that were run are those of the first lines of the input (`AreStepsIn`, `specs/LineSteps.antt`), and
 /// what is printed is their texts and then what the lines behind them end it with.
 ///

@@ -4,7 +4,8 @@ ghost use Rattle.std.specs.Prelude.{◌≡◌, ◌++◌, IfOk, codes, count_by, 
 ghost use Rattle.fab_base.specs.Layouts.{group_of};
 ghost use Rattle.world.specs.Runs.{world_of};
 ghost use Rattle.world.specs.Walks.{AreEntriesOf};
-ghost use Rattle.replay.specs.Outputs.{happened_text, stripes_text, stripes_of, groups_text, most_groups, count_text, closing_text, is_begin, is_answered, is_aborted, is_crash};
+ghost use Rattle.transcript.specs.Kinds.{is_begin, is_answered, is_aborted, is_crash};
+ghost use Rattle.printed.specs.Outputs.{happened_text, stripes_text, stripes_of, groups_text, most_groups, count_text, closing_text};
 
 use fab_base::{Answer, GroupId, NoMem, StripeNo};
 use reg_model::{Happening, Mark};

@@ -6,7 +6,8 @@ ghost use Rattle.fab_io.specs.Ends.{Kept, WriteTakes};
 ghost use Rattle.lines.specs.Lines.{content};
 ghost use Rattle.lines.specs.Reading.{Says, LineReads, taken_by};
 ghost use Rattle.world.specs.Runs.{world_of};
-ghost use Rattle.replay.specs.Outputs.{finished, bad_line, most_lines};
+ghost use Rattle.printed.specs.Outputs.{most_lines};
+ghost use Rattle.replay.specs.Outputs.{finished, bad_line};
 ghost use Rattle.replay.specs.Turns.{Prints, LineMeans, LineTurnMeans, PieceMeans, TurnMeans, IsTheEnd};
 
 use crate::endings::{Halt, Verdict};

@@ -3,7 +3,7 @@ use Rattle.std.specs.Io.KnownBytes.{prepend_known}
 use Rattle.std.proofs.lemmas.Result.{err_from_is_err_and}
 use Rattle.replay.specs.declared.endings.Halt.{Halt}
 use Rattle.fab_io.proofs.Keeping.{Kept-refl, Kept-trans, Kept-calm}
-use Rattle.replay.specs.Outputs.{most_lines}
+use Rattle.printed.specs.Outputs.{most_lines}
 use Rattle.replay.specs.Turns.{PrintsRest}
 use Rattle.replay.proofs.Printing.{at_err, same_error}
 use Rattle.replay.proofs.Rests.{PrintsRest-stopped, PrintsRest-number, PrintsRest-halt, HasRun-start, HasRun-turn, HasRun-rest, ReadsPart-ended, ReadsPart-failed, at_the_end, whole_turn}

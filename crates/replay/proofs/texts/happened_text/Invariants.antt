@@ -1,6 +1,6 @@
 use Rattle.std.proofs.Common.{◌≡◌, ◌++◌, drop, codes, string_bytes}
 use Rattle.std.specs.Fmt.{decimal}
-use Rattle.replay.specs.Outputs.{happenings_text}
+use Rattle.printed.specs.Outputs.{happenings_text}
 use Rattle.replay.proofs.texts.happened_text.Given as goal
 
 abbrev pub invariant-loop-happening : goal.invariant-loop-happening

@@ -1,6 +1,6 @@
 use Rattle.std.proofs.Common.{◌≡◌, string_bytes}
 use Rattle.world.specs.Runs.{world_of}
-use Rattle.replay.specs.Outputs.{stripes_text}
+use Rattle.printed.specs.Outputs.{stripes_text}
 use Rattle.replay.proofs.texts.stripes_text.Given as goal
 
 abbrev pub invariant-loop-number : goal.invariant-loop-number
