@@ -1,0 +1,95 @@
+#!/usr/bin/env python3
+"""Whole-stripe operations a second of `brick local`, next to a bare UDP echo.
+
+    bench/local/run.py PROGRAM [FOLDER]
+
+PROGRAM is the program `brick`. The stores lie in FOLDER, a new folder of /dev/shm where it isn't given: a memory file system, so that the
+syncs of a disk are not what is measured. For each layout it writes and reads whole stripes, then sends datagrams of the same number and
+sizes over a bare UDP socket, and prints both rates and their ratio. The project asks for at least a fifth.
+"""
+
+import os
+import subprocess
+import sys
+import tempfile
+import time
+
+OPERATIONS = 2000
+HEAD = 6
+CALL, STAMP = 28, 18
+CLIENT, REPLY = HEAD + 22, HEAD + 9
+
+LAYOUT = """block = {block}
+bricks = {n}
+records = 4000
+port = {port}
+[[group]]
+m = {m}
+members = [{members}]
+stripes = 64
+[[volume]]
+name = "v"
+segments = [[0, 0, 64]]
+"""
+
+
+def sizes(write, m, n, block):
+    """The datagrams of an operation: of the client, of each phase with its replies, and of a write's Collect."""
+    data = m * block
+    if not write:
+        found = HEAD + CALL + STAMP + 1 + STAMP + 2
+        replies = [found + block] * m + [found] * (n - m)
+        return [CLIENT] + [HEAD + CALL + 1] * n + replies + [REPLY + 4 + data]
+    order = [HEAD + CALL + STAMP] * n + [HEAD + CALL] * n
+    store = [HEAD + CALL + STAMP + 2 + block] * n + [HEAD + CALL] * n
+    return [CLIENT + data] + order + store + [REPLY] + [HEAD + CALL + STAMP] * n
+
+
+def local(program, folder, write, m, n, block):
+    """Seconds for the operations by `brick local`, the start of the program left out."""
+    port = 20000 + 64 * (os.getpid() % 512)
+    layout = os.path.join(folder, "layout")
+    with open(layout, "w") as text:
+        text.write(LAYOUT.format(block=block, n=n, m=m, port=port, members=", ".join(map(str, range(n)))))
+    stores = os.path.join(folder, "store")
+    for brick in range(n):
+        subprocess.run([program, "format", layout, f"{stores}.{brick}", str(brick)], check=True, stdout=subprocess.DEVNULL)
+    data = m * block
+
+    def run(operations):
+        lines = [f"write {k % n} v {k % 64 * data} {'5a' * data}\n" if write else f"read {k % n} v {k % 64 * data} {data}\n"
+                 for k in range(operations)]
+        began = time.monotonic()
+        ended = subprocess.run([program, "local", layout, stores, str(10**12)], input="".join(lines), text=True, capture_output=True)
+        seconds = time.monotonic() - began
+        answers = ended.stdout.splitlines()
+        good = sum(answer == "done" if write else answer.startswith("data ") for answer in answers)
+        if ended.returncode != 0 or good != operations:
+            raise SystemExit(f"local ended with {ended.returncode}: {good} of {operations} answered, last {answers[-1:]}")
+        return seconds
+
+    return run(OPERATIONS) - run(1)
+
+
+def main(words):
+    if not 1 <= len(words) <= 2:
+        print(__doc__, file=sys.stderr)
+        return 2
+    here = os.path.dirname(os.path.abspath(__file__))
+    with tempfile.TemporaryDirectory() as built:
+        echo = os.path.join(built, "echo")
+        subprocess.run(["rustc", "-O", "-o", echo, os.path.join(here, "echo.rs")], check=True)
+        print("operation m n block | local/s | echo/s | ratio")
+        for m, n in ((1, 3), (4, 6)):
+            for block in (1024, 4096):
+                for write in (True, False):
+                    with tempfile.TemporaryDirectory(dir=words[1] if len(words) == 2 else "/dev/shm") as folder:
+                        ours = OPERATIONS / local(words[0], folder, write, m, n, block)
+                    datagrams = map(str, sizes(write, m, n, block))
+                    told = subprocess.run([echo, str(OPERATIONS), *datagrams], check=True, capture_output=True, text=True)
+                    bare = OPERATIONS / float(told.stdout)
+                    print(f"{'write' if write else 'read'} {m} {n} {block} | {ours:.0f} | {bare:.0f} | {ours / bare:.2f}")
+    return 0
+
+
+sys.exit(main(sys.argv[1:]))
