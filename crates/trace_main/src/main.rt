@@ -9,7 +9,7 @@ use std::{env, io};
 use trace::trace;
 
 /// The command line.
-fn command(alloc: Global) -> Result<Command<'static>, AllocError> {
+fn command<'a>(alloc: Global) -> Result<Command<'a>, AllocError> {
     let text = Command::new(alloc, "text").about("Writes what each line did, and what all left");
     let svg = Command::new(alloc, "svg").about("Draws the first 2,000 lines as SVG 1.1");
     Command::new(alloc, "trace")
