@@ -1,0 +1,183 @@
+//! Runs the program `brick` over files and ports of this machine, and over things in memory, and prints how each command ends.
+//!
+//! A line of standard input is the words of a command. A word that begins with `@` is a name in a folder of this process; `@layout` is the
+//! layout of `data/` with a port of this process before it. The line `empty NAME` makes an empty file.
+//!
+//! A line `memory WORDS..` runs a command over a host in memory, which keeps what it holds from line to line, and holds the layout of `data/`
+//! as `layout`. Behind ` < ` stands the name of a file in `data/`: its lines `PORT HEX` are the datagrams that wait at the link of brick 0.
+//!
+//! For each command its line, its status and what it printed are printed, and behind ` < ` the datagrams that were sent.
+#![tactic(auto)]
+
+use brick::brick;
+use fab_base::Bytes;
+use fab_host::{MemHost, OsHost};
+use fab_io::{Datagram, MemClock, MemLink, MemSink, MemSource};
+use std::alloc::Global;
+use std::env::Env;
+use std::fs::File;
+use std::net::Net;
+use std::rt::Files;
+use std::{env, fs, io, process, str, time};
+
+/// Ports below those that the system gives out: 64 for each of so many processes.
+const FIRST_PORT: u32 = 10_000;
+
+const PROCESSES: u32 = 300;
+
+/// The port of brick 0 of the layout in `data/`.
+const PORT: u16 = 17_000;
+
+/// What a command ends with: its status, and what it printed.
+#[derive(Drop)]
+struct Ending {
+    status: u8,
+    sink: MemSink,
+}
+
+impl Ending {
+    /// Prints it behind its line.
+    fn print(&self, rt: &impl Print, line: &str) -> io::Result<()> {
+        let printed = str::from_utf8(self.sink.taken()).unwrap_or("no text\n");
+        println!(rt; "{line}: {}\n{printed}", self.status)
+    }
+}
+
+/// The error of a host or a text that found no memory, or of a line of datagrams that is none.
+fn refused() -> io::Error {
+    io::Error::from(io::ErrorKind::InvalidData)
+}
+
+/// The folder of this process.
+#[derive(Drop)]
+struct Place {
+    folder: String,
+}
+
+impl Place {
+    /// A new folder for the process of this number, with a layout in it.
+    fn new(rt: &(impl Files + Env + AllocGlobal), number: u32) -> io::Result<Place> {
+        let alloc = rt.alloc();
+        let above = env::temp_dir(rt)?;
+        let folder = format!(in alloc; "{}/brick-cases-{number}", above.as_str())?;
+        fs::create_dir(rt, folder.as_str())?;
+        let place = Place { folder };
+        let port = FIRST_PORT + number % PROCESSES * 64;
+        let rest = fs::read_to_string(rt, "layout")?;
+        let layout = format!(in alloc; "port = {port}\n{rest}")?;
+        let name = place.name(alloc, "@layout")?;
+        fs::write(rt, name.as_str(), layout.as_bytes())?;
+        Ok(place)
+    }
+
+    /// What a word stands for.
+    fn name(&self, alloc: Global, word: &str) -> io::Result<String> {
+        let Some(name) = word.strip_prefix('@') else {
+            return Ok(String::from_str(alloc, word)?);
+        };
+        Ok(format!(in alloc; "{}/{name}", self.folder)?)
+    }
+
+    /// The words of a command.
+    fn words(&self, alloc: Global, command: &str) -> io::Result<Vec<String>> {
+        let mut words = Vec::new(alloc);
+        for word in command.split(' ') {
+            words.push(self.name(alloc, word)?)?;
+        }
+        Ok(words)
+    }
+
+    /// Runs a command over the system.
+    fn run(
+        &self,
+        rt: &(impl Files<File = File> + Net + time::Clock + AllocGlobal),
+        command: &str,
+    ) -> io::Result<Ending> {
+        let alloc = rt.alloc();
+        let words = self.words(alloc, command)?;
+        let input = MemSource::new(Vec::new(alloc));
+        let Ok(mut host) = OsHost::new(alloc, rt, input) else {
+            return Err(refused());
+        };
+        let mut sink = MemSink::new(alloc);
+        let status = brick(alloc, words.as_slice(), &mut host, &mut sink);
+        Ok(Ending { status, sink })
+    }
+
+    /// Runs a command over a host in memory, with these datagrams at the link of brick 0.
+    fn run_in_memory(
+        &self,
+        rt: &(impl Files + AllocGlobal),
+        host: &mut MemHost,
+        command: &str,
+        datagrams: &str,
+    ) -> io::Result<Ending> {
+        let alloc = rt.alloc();
+        let words = self.words(alloc, command)?;
+        let waiting = if datagrams.is_empty() {
+            Vec::new(alloc)
+        } else {
+            read_datagrams(alloc, fs::read_to_string(rt, datagrams)?.as_str())?
+        };
+        let layout = MemSource::new(fs::read(rt, "layout")?);
+        if host.add_source("layout", layout).is_err()
+            || host.add_link(PORT, MemLink::new(waiting)).is_err()
+        {
+            return Err(refused());
+        }
+        let mut sink = MemSink::new(alloc);
+        let status = brick(alloc, words.as_slice(), host, &mut sink);
+        Ok(Ending { status, sink })
+    }
+}
+
+/// The datagrams of a file: a port and the bytes in HEX on each line.
+fn read_datagrams(alloc: Global, text: &str) -> io::Result<Vec<Datagram>> {
+    let mut datagrams = Vec::new(alloc);
+    for line in text.lines() {
+        let (port, digits) = line.split_once(' ').unwrap_or((line, ""));
+        let Ok(port) = port.parse::<u16>() else {
+            return Err(refused());
+        };
+        let Ok(bytes) = hex::decode(alloc, digits.as_bytes()) else {
+            return Err(refused());
+        };
+        datagrams.push(Datagram {
+            port,
+            bytes: Bytes::from_vec(bytes),
+        })?;
+    }
+    Ok(datagrams)
+}
+
+/// Prints the datagrams that were sent over the link of brick 0.
+fn print_sent(rt: &(impl Print + AllocGlobal), host: &MemHost) -> io::Result<()> {
+    if let Some(link) = host.link_at(PORT) {
+        for datagram in link.sent() {
+            let digits = hex::encode(rt.alloc(), datagram.bytes.as_slice())?;
+            println!(rt; "{} {digits}", datagram.port)?;
+        }
+    }
+    Ok(())
+}
+
+fn main(rt: HostRuntime) -> io::Result<()> {
+    let alloc = rt.alloc();
+    let place = Place::new(&rt, process::id(rt.process()))?;
+    let mut host = MemHost::new(alloc, MemClock::new(Vec::new(alloc)));
+    for line in rt.lines(alloc) {
+        let line = line?;
+        let line = line.as_str();
+        if let Some(name) = line.strip_prefix("empty ") {
+            fs::write(&rt, place.name(alloc, name)?.as_str(), b"".as_slice())?;
+        } else if let Some(rest) = line.strip_prefix("memory ") {
+            let (command, datagrams) = rest.split_once(" < ").unwrap_or((rest, ""));
+            let ending = place.run_in_memory(&rt, &mut host, command, datagrams)?;
+            ending.print(&rt, line)?;
+            print_sent(&rt, &host)?;
+        } else {
+            place.run(&rt, line)?.print(&rt, line)?;
+        }
+    }
+    fs::remove_dir_all(&rt, place.folder.as_str())
+}
