@@ -18,7 +18,7 @@ use Rattle.world.specs.Runs.{Run, Step, world_of}
 use Rattle.world.specs.Disks.{ShowsDisks}
 use Rattle.world.specs.Steps.{Ran, Runs}
 use Rattle.world.specs.Texts.{step_text}
-use Rattle.replay.specs.Outputs.{steps_text}
+use Rattle.printed.specs.Outputs.{steps_text}
 use Rattle.replay.proofs.Steppings.{leads_none, leads_one, leads_both, leads_layout, leads_world, lines_both, steps_text-append, after_steps}
 use Rattle.trace_runs.specs.declared.endings.Verdict.{Verdict}
 use Rattle.trace_runs.specs.declared.endings.Verdict.TheVariants.{Whole, BadLayout}

@@ -11,8 +11,8 @@ use Rattle.stripe_code.specs.Codes.{coding}
 use Rattle.world.specs.Runs.{Run, Step, world_of}
 use Rattle.world.specs.Disks.{ShowsDisks}
 use Rattle.world.specs.Steps.{Ran}
-use Rattle.replay.specs.Outputs.{steps_text}
-use Rattle.replay.specs.LineSteps.{LeadsTo, AreLinesOfSteps, AreStepsOf}
+use Rattle.printed.specs.Outputs.{steps_text}
+use Rattle.printed.specs.LineSteps.{LeadsTo, AreLinesOfSteps, AreStepsOf}
 use Rattle.trace_runs.specs.declared.endings.Verdict.{Verdict}
 use Rattle.trace_runs.specs.declared.endings.Verdict.TheVariants.{Whole}
 use Rattle.trace_runs.specs.declared.endings.Halt.{Halt}
