@@ -153,19 +153,19 @@ module _ {D L C : Type 0} (d : on_disk.Ghosts D) (l : on_link.Ghosts L) (c : on_
       → IsSound d l c before → c.sound clock → IsSound d l c after × c.sound clock_after
   sound_turn before after clock clock_after malformed turn sound at = (
     record { runs = turn.runs (λ e. cc); disk = turn.disk.stays sound.disk; link = turn.link.stays sound.link },
-    turn.clock.stays at,
+    turn.times.stays at,
   )
 
   sound_stop : (fault : ServeFault) (before after : Hosted D L) (clock clock_after : C) → IsTurn d l c before after clock clock_after (Err fault)
       → IsSound d l c before → c.sound clock → IsSound d l c after × c.sound clock_after × (fault_of fault ≡ NoMemory)
   sound_stop serving.NoMemory before after clock clock_after turn sound at = (
     record { runs = turn.runs (λ e. cc); disk = turn.disk.stays sound.disk; link = turn.link.stays sound.link },
-    turn.clock.stays at,
+    turn.times.stays at,
     refl,
   )
   sound_stop serving.Disk before after clock clock_after turn sound at = absurd (turn.disk.never sound.disk refl)
   sound_stop serving.Link before after clock clock_after turn sound at = absurd (turn.link.never sound.link refl)
-  sound_stop serving.Clock before after clock clock_after turn sound at = absurd (turn.clock.never at refl)
+  sound_stop serving.Clock before after clock clock_after turn sound at = absurd (turn.times.never at refl)
   sound_stop serving.Halted before after clock clock_after turn sound at = absurd (let never : false ≡ true = sym sound.runs ∙ turn.0 in cc)
 
   pub sound_taken : (bricks bricks_after : List (Hosted D L)) (clock clock_after : C) → TakeTurns d l c bricks bricks_after clock clock_after

@@ -1,6 +1,9 @@
 -- Bricks that a process hosts, and the turns that they take.
 use Rattle.std.specs.Prelude.{◌≡◌, ◌≢◌, ◌⊎◌, ℕ, true, false, List, [], ◌∷◌, ◌++◌, Option, Some, None, Result, Ok, Err}
+use Rattle.std.specs.BTreeMap.{is_at}
 use Rattle.std.specs.List.{AllByRecursion}
+use Rattle.std.specs.Map.{lookup}
+use Rattle.std.specs.Ordering.{nat_cmp}
 use Rattle.fab_disk.specs.declared.disk.Disk as on_disk
 use Rattle.fab_disk.specs.Disk as disks
 use Rattle.fab_io.specs.Ends.{Kept}
@@ -8,6 +11,7 @@ use Rattle.fab_io.specs.declared.clocks.Clock as on_clock
 use Rattle.fab_io.specs.declared.links.Link as on_link
 use Rattle.node.specs.Running.{Running, state_of, IsSameBrick}
 use Rattle.stripe_code.specs.Codes.{coding}
+use Rattle.serving.specs.declared.clients.Client.{Client}
 use Rattle.serving.specs.declared.faults.ServeFault.{ServeFault}
 use Rattle.serving.specs.declared.faults.ServeFault.TheVariants.{Disk, Halted, Link, Clock, NoMemory}
 use Rattle.serving.specs.declared.servers.Server.{Server}
@@ -15,15 +19,16 @@ use Rattle.serving.specs.Serves.{outside, TakesTurn}
 use Rattle.serving.specs.Servings.{Serving, HasNoClient, begun}
 use Rattle.serving.specs.Views.{serving_of, IsServerOf}
 
--- a brick that a process hosts: what it knows beside its node, its node, and its link
+-- a brick that a process hosts: the clients that wait, by the numbers of their operations' calls, the moment of the last tick, its node, and its link
 pub record Hosted (D L : Type 0) : Type 0 where
-  pub server : Server
+  pub waiting : List (ℕ × Client)
+  pub ticked : ℕ
   pub node : Running D
   pub link : L
 
 -- the serving brick that it is
 abbrev pub serving_at : {D L : Type 0} → Hosted D L → Serving
-serving_at brick = serving_of brick.server brick.node
+serving_at brick = record { node = state_of brick.node; waiting = λ seq. lookup (is_at (nat_cmp seq)) brick.waiting; ticked = brick.ticked }
 
 -- this is known beside this node, and no client waits for a call that was not made yet
 pub record IsHosted {D : Type 0} (server : Server) (node : Running D) : Type 0 where
@@ -59,7 +64,7 @@ module _ {D L C : Type 0} (d : on_disk.Ghosts D) (l : on_link.Ghosts L) (c : on_
     pub disk : disks.Kept (d.faults before.node.brick.disk) (d.faults after.node.brick.disk) (d.sound before.node.brick.disk)
         (d.sound after.node.brick.disk) (result ≡ Err Disk)
     pub link : Kept (l.faults before.link) (l.faults after.link) (l.sound before.link) (l.sound after.link) (result ≡ Err Link)
-    pub clock : Kept (c.faults clock) (c.faults clock_after) (c.sound clock) (c.sound clock_after) (result ≡ Err Clock)
+    pub times : Kept (c.faults clock) (c.faults clock_after) (c.sound clock) (c.sound clock_after) (result ≡ Err Clock)
 
   -- the same; and one whose disk failed in an earlier turn takes none
   abbrev pub IsTurn : Hosted D L → Hosted D L → C → C → Result ℕ ServeFault → Type 0

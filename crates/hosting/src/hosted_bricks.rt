@@ -25,7 +25,7 @@ impl<D: Disk, L: Link> Model for HostedBrick<D, L> {
 
     ghost Value = { Hosted D L };
 
-    ghost view = { λ b. record { server = b.server; node = b.node; link = b.link } };
+    ghost view = { λ b. record { waiting = b.server.clients.waiting.entries; ticked = b.server.ticked; node = b.node; link = b.link } };
 
     ghost invariant = { λ b. IsHosted b.server b.node };
 }

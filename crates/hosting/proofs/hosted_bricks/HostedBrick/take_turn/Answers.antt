@@ -17,10 +17,10 @@ invariant_of-self g c = record { knows = c.take_turn.ensures.server; fresh = c.t
 pub returns : goal.returns
 returns g c =
     let x = c.self.inside in
-    let before : Hosted g.row.D.Denot g.row.L.Denot = record { server = x.server; node = x.node; link = x.link } in
-    let after : Hosted g.row.D.Denot g.row.L.Denot = record { server = c.take_turn.new.self; node = c.take_turn.new.node; link = c.take_turn.new.link } in
+    let before : Hosted g.row.D.Denot g.row.L.Denot = record { waiting = x.server.clients.waiting.entries; ticked = x.server.ticked; node = x.node; link = x.link } in
+    let after : Hosted g.row.D.Denot g.row.L.Denot = record { waiting = c.take_turn.new.self.clients.waiting.entries; ticked = c.take_turn.new.self.ticked; node = c.take_turn.new.node; link = c.take_turn.new.link } in
     let said = c.take_turn.ensures in
     subst (λ (b : Hosted g.row.D.Denot g.row.L.Denot). IsTurn g.D.Disk g.L.Link g.C.Clock b after c.args.clock.now c.take_turn.new.clock c.take_turn.result)
     c.self.view_is
     (IsTurn-taken g.D.Disk g.L.Link g.C.Clock before after c.args.clock.now c.take_turn.new.clock c.take_turn.result
-    (record { turn = said.turn; same = said.same; runs = said.runs; disk = said.disk; link = said.link; clock = said.clock }))
+    (record { turn = said.turn; same = said.same; runs = said.runs; disk = said.disk; link = said.link; times = said.clock }))
