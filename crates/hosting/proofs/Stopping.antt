@@ -58,9 +58,9 @@ pub at_met : {T : Type 0} (r : Result T HostFault) (met : HostFault) (P : HostFa
 at_met {T} r met P is h = let at : IfErr (let s : Result T HostFault = Err met in s) P = subst (λ (s : Result T HostFault). IfErr s P) is h in at
 
 -- what was written before a fault
-pub written_front : {T : Type 0} {old new : Option (List ℕ)} {text : List ℕ} (r : Result T HostFault) (met : HostFault) → r ≡ Err met → WriteTakes old new r text
-    → AppendsFront old new text
-written_front {T} {old} {new} {text} r met is h =
+pub written_front : {T : Type 0} (old new : Option (List ℕ)) (text : List ℕ) (r : Result T HostFault) (met : HostFault) → r ≡ Err met
+    → WriteTakes old new r text → AppendsFront old new text
+written_front {T} old new text r met is h =
     let at : WriteTakes old new (let s : Result T HostFault = Err met in s) text = subst (λ (s : Result T HostFault). WriteTakes old new s text) is h in at
 
 -- what holds at a fault that was met holds at the exit that answers it

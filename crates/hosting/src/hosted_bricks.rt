@@ -1,7 +1,7 @@
 //! The bricks that a process hosts: each with its node and its link, and all with one clock.
 
 ghost use Rattle.std.specs.Prelude.{◌≡◌, ◌∷◌, [], ◌++◌, ◌<◌, length, IfOk, MatchResult};
-ghost use Rattle.hosting.specs.Hosted.{Hosted, Begins, TakesLast, IsTurn, TakeTurns, StopTurns};
+ghost use Rattle.hosting.specs.Hosted.{Hosted, Begins, IsTurn, TakeTurns, StopTurns};
 
 use crate::faults::HostFault;
 use crate::rounds::Bricks;
@@ -112,24 +112,6 @@ impl<D: Disk, L: Link> HostedBricks<D, L> {
     {
         let brick = HostedBrick::new(self.alloc, node, link);
         self.bricks.push_reserved(brick);
-    }
-
-    /// Takes the last brick away, and gives its node and its link back. `None` exactly where there is none.
-    pub fn pop(&mut self) -> Option<(Node<D>, L)>
-        ensures bricks { TakesLast self.old.bricks self.new.bricks result }
-        ensures room { self.new.room ≡ self.old.room }
-    {
-        match self.bricks.pop() {
-            Some(brick) => {
-                let HostedBrick {
-                    server: _,
-                    node,
-                    link,
-                } = brick;
-                Some((node, link))
-            }
-            None => None,
-        }
     }
 
     /// Has each brick take a turn over its link and this clock, in order.

@@ -21,6 +21,6 @@ returns-in_err-write-in-Some-clause-content g c =
     let q = err_from_is_err_and c.from_residual-in_err-write-in-Some.result c.from_residual-in_err-write-in-Some.ensures.1 in
     let old = g.K.Sink.told c.args.sink.now in
     let new = g.K.Sink.told c.write.new.sink in
-    let text = c.as_bytes.ensures ∙ c.in_ok-text-in-Some.ensures ∙ ap (printed c.args.reading) (sym c.in-Some.is) in
+    let text = c.as_bytes.ensures.value ∙ c.in_ok-text-in-Some.ensures ∙ ap (printed c.args.reading) (sym c.in-Some.is) in
     at_exit c.from_residual-in_err-write-in-Some.result c.in_err-write-in-Some.field-0.0 (λ r. WriteTakes old new r (printed c.args.reading c.args.answer.now))
     q.0 q.1 q.2 (subst (AppendsFront old new) text c.in_err-write-in-Some.ensures.content)

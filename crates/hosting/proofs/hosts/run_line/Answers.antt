@@ -1,11 +1,12 @@
-use Rattle.std.proofs.Common.{Err, Some, IfErr, sym, ap, ◌∙◌}
+use Rattle.std.proofs.Common.{Bool, Err, Some, IfErr, sym, ap, ◌∙◌, subst}
 use Rattle.std.proofs.lemmas.Result.{err_from_is_err_and}
+use Rattle.fab_io.specs.Ends.{AppendsFront}
 use Rattle.fab_io.proofs.Keeping.{Kept-narrower}
 use Rattle.hosting.specs.declared.faults.HostFault.TheVariants.{ClientLink, Sink, NoMemory}
 use Rattle.lines.specs.Lines.{content}
 use Rattle.hosting.specs.Commands.{line_of}
 use Rattle.hosting.specs.Faults.{AtSink}
-use Rattle.hosting.specs.Hosting.{StopsLine}
+use Rattle.hosting.specs.Hosting.{printed, StopsLine}
 use Rattle.hosting.specs.Rounds.{KeepsBricks, told}
 use Rattle.hosting.proofs.Exits.{kept_other, sink-not_link, command-not_sink, sink_call}
 use Rattle.hosting.proofs.Running.{RunsLine-bad, RunsLine-nothing}
@@ -102,7 +103,9 @@ returns-in_ok-answer-in-Some-Run-clause-stopped g c =
     (λ met is. StopsLine-answer g.B.Bricks.takes g.B.Bricks.stops c.args.layout.now c.in-Some-Run.command c.args.number c.args.sent.now _ _ _ before after c.args.bricks.now
     c.run_command.new.bricks (g.K.Sink.told c.args.sink.now) (g.K.Sink.told c.print_answer.new.sink) (line_of (content c.args.line.now)) c.in_ok-answer-in-Some-Run.answer runs.0 met
     (ap line_of (sym c.content_of.ensures) ∙ sym c.in_ok-parse.ensures ∙ c.in-Some-Run.is ∙ ap Some c.in-Some-Run.field-0-is) runs.1 runs.2
-    (sink-other met (at_met c.print_answer.result met AtSink is c.print_answer.ensures.only)) (written_front c.print_answer.result met is c.print_answer.ensures.content))
+    (sink-other met (at_met c.print_answer.result met AtSink is c.print_answer.ensures.only)) (subst (λ (b : Bool). AppendsFront (g.K.Sink.told c.args.sink.now) (g.K.Sink.told c.print_answer.new.sink) (printed b c.in_ok-answer-in-Some-Run.answer)) c.reads.ensures
+    (written_front (g.K.Sink.told c.args.sink.now) (g.K.Sink.told c.print_answer.new.sink) (printed c.reads.result c.in_ok-answer-in-Some-Run.answer) c.print_answer.result met is
+    c.print_answer.ensures.content)))
 
 pub returns-in_ok-answer-in-Some-Run-clause-bricks : goal.returns-in_ok-answer-in-Some-Run-clause-bricks
 returns-in_ok-answer-in-Some-Run-clause-bricks g c =
