@@ -64,8 +64,8 @@ written_front {T} old new text r met is h =
     let at : WriteTakes old new (let s : Result T HostFault = Err met in s) text = subst (λ (s : Result T HostFault). WriteTakes old new s text) is h in at
 
 -- what holds at a fault that was met holds at the exit that answers it
-pub at_exit : {T : Type 0} (r : Result T HostFault) (met : HostFault) (P : Result T HostFault → Type 0) (y : HostFault) → r ≡ Err y → y ≡ met → P (Err met) → P r
-at_exit r met P y is same p = subst P (sym (is ∙ ap (λ (e : HostFault). Err e) same)) p
+pub at_exit : {T E : Type 0} (r : Result T E) (met : E) (P : Result T E → Type 0) (y : E) → r ≡ Err y → y ≡ met → P (Err met) → P r
+at_exit {T} {E} r met P y is same p = subst P (sym (is ∙ ap (λ (e : E). Err e) same)) p
 
 -- ---- sound bricks
 

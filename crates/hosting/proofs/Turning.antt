@@ -1,16 +1,16 @@
 -- Turns of the bricks that a process hosts, one after another.
-use Rattle.std.proofs.Common.{◌≡◌, ℕ, ◌+◌, ◌<◌, ◌≤◌, true, false, List, [], ◌∷◌, ◌++◌, length, get_or, set, Result, Ok, Err, IfErr, refl, sym, ap, ◌∙◌, subst, append_assoc, append-nil, length-append, inl, inr, arith}
+use Rattle.std.proofs.Common.{◌≡◌, ℕ, ◌+◌, ◌<◌, ◌≤◌, true, false, List, [], ◌∷◌, ◌++◌, length, get_or, set, Option, Some, None, Result, Ok, Err, IfErr, refl, sym, ap, ◌∙◌, subst, append_assoc, append-nil, length-append, inl, inr, arith}
 use Rattle.std.specs.List.{AllByRecursion}
 use Rattle.std.proofs.Math.Seq.{set-append_seam, get_or-append_seam}
 use Rattle.fab_disk.specs.declared.disk.Disk as on_disk
 use Rattle.fab_io.specs.declared.clocks.Clock as on_clock
 use Rattle.fab_io.specs.declared.links.Link as on_link
+use Rattle.node.specs.Running.{Running}
 use Rattle.serving.specs.declared.faults.ServeFault.{ServeFault}
 use Rattle.serving.specs.declared.faults.ServeFault.TheVariants as serving
-use Rattle.hosting.specs.declared.faults.HostFault.{HostFault}
 use Rattle.hosting.specs.declared.faults.HostFault.TheVariants.{NoMemory}
 use Rattle.hosting.specs.Faults.{AtBricks, fault_of}
-use Rattle.hosting.specs.Hosted.{Hosted, TurnsAs, IsTurn, TakeTurns, StopTurns, IsSound, AreSound}
+use Rattle.hosting.specs.Hosted.{Hosted, TakesLast, TurnsAs, IsTurn, TakeTurns, StopTurns, IsSound, AreSound}
 
 -- each fault of a turn is one of the bricks
 pub of_bricks : (met : ServeFault) → AtBricks (fault_of met)
@@ -19,6 +19,20 @@ of_bricks serving.Halted = tt
 of_bricks serving.Link = tt
 of_bricks serving.Clock = tt
 of_bricks serving.NoMemory = tt
+
+-- the last brick was taken away, or there was none
+pub TakesLast-some : {D L : Type 0} (before after : List (Hosted D L)) (brick : Hosted D L) (gone : Option (Running D × L)) → before ≡ after ++ (brick ∷ [])
+    → gone ≡ Some (brick.node, brick.link) → TakesLast before after gone
+TakesLast-some {D} {L} before after brick gone are is =
+    subst (λ (o : Option (Running D × L)). TakesLast {D = D} {L = L} before after o) (sym is) (brick, are, refl)
+
+pub TakesLast-none : {D L : Type 0} (before after : List (Hosted D L)) (gone : Option (Running D × L)) → length before ≡ 0 → length after ≡ 0
+    → gone ≡ None → TakesLast before after gone
+TakesLast-none {D} {L} [] [] gone none none_after is =
+    subst (λ (o : Option (Running D × L)). TakesLast {D = D} {L = L} [] [] o) (sym is) (refl, refl)
+TakesLast-none [] (brick ∷ after) gone none none_after is = absurd (omega (arith, none_after))
+TakesLast-none (brick ∷ before) [] gone none none_after is = absurd (omega (arith, none))
+TakesLast-none (brick ∷ before) (other ∷ after) gone none none_after is = absurd (omega (arith, none))
 
 module _ {D L C : Type 0} (d : on_disk.Ghosts D) (l : on_link.Ghosts L) (c : on_clock.Ghosts C) where
   -- what a turn was is what a brick did that is not halted

@@ -1,5 +1,5 @@
 -- Bricks that a process hosts, and the turns that they take.
-use Rattle.std.specs.Prelude.{◌≡◌, ◌≢◌, ◌⊎◌, ℕ, true, false, List, [], ◌∷◌, Result, Ok, Err}
+use Rattle.std.specs.Prelude.{◌≡◌, ◌≢◌, ◌⊎◌, ℕ, true, false, List, [], ◌∷◌, ◌++◌, Option, Some, None, Result, Ok, Err}
 use Rattle.std.specs.BTreeMap.{is_at}
 use Rattle.std.specs.List.{AllByRecursion}
 use Rattle.std.specs.Map.{lookup}
@@ -45,6 +45,11 @@ pub record Begins {D L : Type 0} (brick : Hosted D L) (node : Running D) (link :
   pub node_is : brick.node ≡ node
   pub link_is : brick.link ≡ link
   pub begins : serving_at brick ≡ begun (state_of node)
+
+-- the last brick was taken away, and this node and link are its; or there was none
+abbrev pub TakesLast : {D L : Type 0} → List (Hosted D L) → List (Hosted D L) → Option (Running D × L) → Type 0
+TakesLast before after None = (before ≡ []) × (after ≡ [])
+TakesLast before after (Some gone) = (brick : _) × (before ≡ after ++ brick ∷ []) × (gone ≡ (brick.node, brick.link))
 
 -- ---- turns
 

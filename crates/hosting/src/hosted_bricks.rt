@@ -1,7 +1,7 @@
 //! The bricks that a process hosts: each with its node and its link, and all with one clock.
 
 ghost use Rattle.std.specs.Prelude.{◌≡◌, ◌∷◌, [], ◌++◌, ◌<◌, length, IfOk, MatchResult};
-ghost use Rattle.hosting.specs.Hosted.{Hosted, Begins, IsTurn, TakeTurns, StopTurns};
+ghost use Rattle.hosting.specs.Hosted.{Hosted, Begins, TakesLast, IsTurn, TakeTurns, StopTurns};
 
 use crate::faults::HostFault;
 use crate::rounds::Bricks;
@@ -37,6 +37,18 @@ impl<D: Disk, L: Link> HostedBrick<D, L> {
     {
         let server = Server::new(alloc, &node);
         HostedBrick { server, node, link }
+    }
+
+    /// Its node and its link.
+    fn into_parts(self) -> (Node<D>, L)
+        ensures { result ≡ (self.node, self.link) }
+    {
+        let HostedBrick {
+            server: _,
+            node,
+            link,
+        } = self;
+        (node, link)
     }
 
     /// Takes a turn. `Halted` exactly where its disk failed in an earlier one.
@@ -112,6 +124,15 @@ impl<D: Disk, L: Link> HostedBricks<D, L> {
     {
         let brick = HostedBrick::new(self.alloc, node, link);
         self.bricks.push_reserved(brick);
+    }
+
+    /// Takes the last brick away, and gives its node and its link back. `None` exactly where there is none.
+    pub fn pop(&mut self) -> Option<(Node<D>, L)>
+        ensures bricks { TakesLast self.old.bricks self.new.bricks result }
+        ensures room { self.new.room ≡ self.old.room }
+    {
+        let brick = self.bricks.pop()?;
+        Some(brick.into_parts())
     }
 
     /// Has each brick take a turn over its link and this clock, in order.

@@ -1,8 +1,8 @@
 -- The bricks that took their turns so far.
 use Rattle.std.proofs.Common.{Ok, Err, MatchResult, set, sym, subst, arith}
 use Rattle.std.proofs.lemmas.Result.{err_from_is_err_and}
-use Rattle.serving.proofs.Ends.{at_exit}
 use Rattle.hosting.specs.Hosted.{Hosted, TurnsAs, IsTurn, TakeTurns, StopTurns}
+use Rattle.hosting.proofs.Stopping.{at_exit}
 use Rattle.hosting.proofs.Turning.{HaveTaken-none, HaveTaken-more, HaveTaken-stop, HaveTaken-all}
 use Rattle.hosting.proofs.hosted_bricks.take_turns.Goals as goal
 
