@@ -1,5 +1,5 @@
 -- What a run does to bricks, and what was done where it was stopped.
-use Rattle.std.proofs.Common.{◌≡◌, ◌≢◌, ◌⊎◌, ◌≤◌, ℕ, ◌+◌, false, List, [], ◌∷◌, ◌++◌, length, take, Option, Some, None, Result, Ok, Err, IsOk, IfErr, refl, sym, ap, ◌∙◌, subst, append-nil, inl, inr, arith}
+use Rattle.std.proofs.Common.{◌≡◌, ◌⊎◌, ◌≤◌, ℕ, ◌+◌, false, List, [], ◌++◌, length, take, Option, Some, None, Result, Ok, Err, IsOk, IfErr, refl, sym, ap, ◌∙◌, subst, append-nil, inl, inr, arith}
 use Rattle.std.specs.Io.KnownBytes.{Consumes}
 use Rattle.std.proofs.KnownBytes.{Consumes-trans, Keeps-refl}
 use Rattle.fab_base.specs.Layouts.{Layout}
@@ -11,19 +11,19 @@ use Rattle.fab_io.proofs.Told.{Stays-refl}
 use Rattle.front.specs.Ranges.{Progress, next_of}
 use Rattle.front.specs.declared.steps.RangeAnswer.{RangeAnswer}
 use Rattle.lines.specs.Lines.{content}
-use Rattle.serving.specs.Datagrams.{GrowsFront, Looked}
+use Rattle.serving.specs.Datagrams.{Looked}
 use Rattle.serving.proofs.Carried.{GrowsFront-none}
 use Rattle.serving.proofs.Looks.{Grows-quiet, Looked-none, Looked-trans}
 use Rattle.hosting.specs.declared.commands.Command.{Command}
 use Rattle.hosting.specs.declared.commands.Line.{Line}
 use Rattle.hosting.specs.declared.commands.Line.TheVariants.{Nothing, Run}
 use Rattle.hosting.specs.declared.faults.HostFault.{HostFault}
-use Rattle.hosting.specs.declared.faults.HostFault.TheVariants.{Disk, Link, ClientLink, Clock, Source, Sink, NoMemory}
+use Rattle.hosting.specs.declared.faults.HostFault.TheVariants.{ClientLink, Source, Sink, NoMemory}
 use Rattle.hosting.specs.Answers.{bad_line_text}
 use Rattle.hosting.specs.Commands.{line_of}
 use Rattle.hosting.specs.Commanded.{Asking, opened, asking, asks_by}
 use Rattle.hosting.specs.Faults.{AtClientLink, AtSource, AtSink, IsOther}
-use Rattle.hosting.specs.Hosting.{Progression, beginning, reads, printed, outcome_of, HasRounds, after_lines, bytes_of, rounds_of, StopsLine, HostsUntil}
+use Rattle.hosting.specs.Hosting.{Progression, beginning, reads, printed, outcome_of, HasRounds, after_lines, bytes_of, StopsLine, HostsUntil}
 use Rattle.hosting.specs.Reading.{most_kept, Reads}
 use Rattle.hosting.specs.Rounds.{Heard, after_rounds, asks_in, came_in, Told, port_of, RunsCommand, Took, AreStopped, KeepsBricks, StopsCommand}
 use Rattle.hosting.proofs.Hearing.{IsRunning}

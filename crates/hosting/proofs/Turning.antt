@@ -1,5 +1,5 @@
 -- Turns of the bricks that a process hosts, one after another.
-use Rattle.std.proofs.Common.{◌≡◌, ℕ, ◌+◌, ◌<◌, ◌≤◌, true, false, List, [], ◌∷◌, ◌++◌, length, get_or, set, Option, Some, None, Result, Ok, Err, IfErr, refl, sym, ap, ◌∙◌, subst, append_assoc, append-nil, length-append, inl, inr, arith}
+use Rattle.std.proofs.Common.{◌≡◌, ℕ, ◌+◌, ◌<◌, ◌≤◌, true, false, List, [], ◌∷◌, ◌++◌, length, get_or, set, Option, Some, None, Result, Ok, Err, refl, sym, ap, ◌∙◌, subst, append_assoc, append-nil, length-append, inl, inr, arith}
 use Rattle.std.specs.List.{AllByRecursion}
 use Rattle.std.proofs.Math.Seq.{set-append_seam, get_or-append_seam}
 use Rattle.fab_disk.specs.declared.disk.Disk as on_disk
@@ -21,18 +21,18 @@ of_bricks serving.Clock = tt
 of_bricks serving.NoMemory = tt
 
 -- the last brick was taken away, or there was none
-pub TakesLast-some : {D L : Type 0} (before after : List (Hosted D L)) (brick : Hosted D L) (gone : Option (Running D × L)) → before ≡ after ++ (brick ∷ [])
-    → gone ≡ Some (brick.node, brick.link) → TakesLast before after gone
-TakesLast-some {D} {L} before after brick gone are is =
+pub TakesLast-some : {D L : Type 0} (before after : List (Hosted D L)) (brick : Hosted D L) (taken : Option (Running D × L)) → before ≡ after ++ (brick ∷ [])
+    → taken ≡ Some (brick.node, brick.link) → TakesLast before after taken
+TakesLast-some {D} {L} before after brick taken are is =
     subst (λ (o : Option (Running D × L)). TakesLast {D = D} {L = L} before after o) (sym is) (brick, are, refl)
 
-pub TakesLast-none : {D L : Type 0} (before after : List (Hosted D L)) (gone : Option (Running D × L)) → length before ≡ 0 → length after ≡ 0
-    → gone ≡ None → TakesLast before after gone
-TakesLast-none {D} {L} [] [] gone none none_after is =
+pub TakesLast-none : {D L : Type 0} (before after : List (Hosted D L)) (taken : Option (Running D × L)) → length before ≡ 0 → length after ≡ 0
+    → taken ≡ None → TakesLast before after taken
+TakesLast-none {D} {L} [] [] taken none none_after is =
     subst (λ (o : Option (Running D × L)). TakesLast {D = D} {L = L} [] [] o) (sym is) (refl, refl)
-TakesLast-none [] (brick ∷ after) gone none none_after is = absurd (omega (arith, none_after))
-TakesLast-none (brick ∷ before) [] gone none none_after is = absurd (omega (arith, none))
-TakesLast-none (brick ∷ before) (other ∷ after) gone none none_after is = absurd (omega (arith, none))
+TakesLast-none [] (brick ∷ after) taken none none_after is = absurd (omega (arith, none_after))
+TakesLast-none (brick ∷ before) [] taken none none_after is = absurd (omega (arith, none))
+TakesLast-none (brick ∷ before) (other ∷ after) taken none none_after is = absurd (omega (arith, none))
 
 module _ {D L C : Type 0} (d : on_disk.Ghosts D) (l : on_link.Ghosts L) (c : on_clock.Ghosts C) where
   -- what a turn was is what a brick did that is not halted

@@ -13,7 +13,7 @@ use Rattle.node.specs.Running.{Running, state_of, IsSameBrick}
 use Rattle.stripe_code.specs.Codes.{coding}
 use Rattle.serving.specs.declared.clients.Client.{Client}
 use Rattle.serving.specs.declared.faults.ServeFault.{ServeFault}
-use Rattle.serving.specs.declared.faults.ServeFault.TheVariants.{Disk, Halted, Link, Clock, NoMemory}
+use Rattle.serving.specs.declared.faults.ServeFault.TheVariants.{Disk, Halted, Link, Clock}
 use Rattle.serving.specs.declared.servers.Server.{Server}
 use Rattle.serving.specs.Serves.{outside, TakesTurn}
 use Rattle.serving.specs.Servings.{Serving, HasNoClient, begun}
@@ -49,7 +49,7 @@ pub record Begins {D L : Type 0} (brick : Hosted D L) (node : Running D) (link :
 -- the last brick was taken away, and this node and link are its; or there was none
 abbrev pub TakesLast : {D L : Type 0} → List (Hosted D L) → List (Hosted D L) → Option (Running D × L) → Type 0
 TakesLast before after None = (before ≡ []) × (after ≡ [])
-TakesLast before after (Some gone) = (brick : _) × (before ≡ after ++ brick ∷ []) × (gone ≡ (brick.node, brick.link))
+TakesLast before after (Some taken) = (brick : _) × (before ≡ after ++ brick ∷ []) × (taken ≡ (brick.node, brick.link))
 
 -- ---- turns
 

@@ -9,8 +9,8 @@ returns-in_err-brick-clause-bricks g c =
     let old = c.self.inside.bricks in
     let new = c.pop.new.self in
     let none : (vec_len old ≡ 0) × (vec_len new ≡ 0) =
-        subst (λ (o : Option (Hosted g.row.D.Denot g.row.L.Denot)). MatchOption o ((vec_len old ≡ 0) × (vec_len new ≡ 0)) (λ _. vec_len new + 1 ≡ vec_len old))
-        c.in_err-brick.was c.pop.ensures.cases in
+    subst (λ (o : Option (Hosted g.row.D.Denot g.row.L.Denot)). MatchOption o ((vec_len old ≡ 0) × (vec_len new ≡ 0)) (λ _. vec_len new + 1 ≡ vec_len old))
+    c.in_err-brick.was c.pop.ensures.cases in
     TakesLast-none _ _ _ (ap (λ (h : Hosting g.row.D.Denot g.row.L.Denot). length h.bricks) (sym c.self.view_is) ∙ sym old.ok.0 ∙ none.0)
     (sym new.ok.0 ∙ none.1) c.from_residual.ensures
 
