@@ -14,28 +14,9 @@ use Rattle.hosting.specs.Asks.{wanted_in, Hears}
 use Rattle.hosting.specs.declared.clients.Standing.TheVariants.{Waits}
 use Rattle.hosting.specs.declared.replies.Wanted.{Wanted}
 use Rattle.hosting.specs.Commanded.{Asking, opened, asking, sent_by, asks_by, after_round, asks_after, Stands}
-use Rattle.hosting.specs.Looks.{Looked}
+use Rattle.serving.specs.Datagrams.{Looked}
 use Rattle.hosting.specs.Rounds.{Heard, IsOpen, AreHeard, after_rounds, asks_in, came_in, Took, Told, HearsOnce, port_of, EndsAs, RunsCommand}
-use Rattle.hosting.proofs.Looking.{Looked-none, Looked-trans}
-
--- looks stay what they were where nothing is done to the link
-pub Looked-kept : (a b c : Option (List Datagram)) (came : List (Option Datagram)) → Looked a b came → Stays b c → Looked a c came
-Looked-kept None b c came looked stays = tt
-Looked-kept (Some x) None c came looked stays = absurd looked
-Looked-kept (Some x) (Some y) None came looked stays = absurd stays
-Looked-kept (Some x) (Some y) (Some z) came looked stays = (looked.0, stays ∙ looked.1)
-
-pub Stays-trans : (a b c : Option (List Datagram)) → Stays a b → Stays b c → Stays a c
-Stays-trans None b c p q = tt
-Stays-trans (Some x) None c p q = absurd p
-Stays-trans (Some x) (Some y) None p q = absurd q
-Stays-trans (Some x) (Some y) (Some z) p q = q ∙ p
-
-pub Grows-kept : (a b c : Option (List Datagram)) (more : List Datagram) → Stays a b → Grows b c more → Grows a c more
-Grows-kept None b c more p q = tt
-Grows-kept (Some x) None c more p q = absurd p
-Grows-kept (Some x) (Some y) None more p q = absurd q
-Grows-kept (Some x) (Some y) (Some z) more p q = q ∙ ap (λ l. l ++ more) p
+use Rattle.serving.proofs.Looks.{Grows-stays, Looked-none, Looked-stays, Looked-trans}
 
 -- ---- a round
 
@@ -53,9 +34,9 @@ HearsOnce-end (Ok x) port sent sent_after range mid range_after wanted link betw
       record {
         waits = stands.0;
         hears = subst (λ (w : Wanted). Hears port sent w came (Some end)) stands.1 hears;
-        looked = Looked-kept link.waiting between.waiting after.waiting (came ∷ []) looked waiting;
+        looked = Looked-stays link.waiting between.waiting after.waiting (came ∷ []) looked waiting;
         left = (λ i. record { sent = number i; range = left i });
-        asked = Grows-kept link.sent between.sent after.sent (asks_by port sent (next_of (after_end range end))) unsent
+        asked = Grows-stays link.sent between.sent after.sent (asks_by port sent (next_of (after_end range end))) unsent
             (subst (λ (p : Progress). Grows between.sent after.sent (asks_by port sent (next_of p))) ended asks);
       },
     )

@@ -21,12 +21,12 @@ use Rattle.hosting.specs.declared.commands.Line.TheVariants.{Nothing, Run}
 use Rattle.hosting.specs.Answers.{bad_line_text}
 use Rattle.hosting.specs.Commands.{line_of}
 use Rattle.hosting.specs.Hosting.{Played, Progression, beginning, Outcome, reads, text_of, printed, is_none, is_waiting, outcome_of, HasRounds, after_line, IsPlayed, after_lines, ArePlayed, bytes_of, rounds_of, RunsLine, Hosts}
-use Rattle.hosting.specs.Looks.{Looked}
+use Rattle.serving.specs.Datagrams.{Looked}
 use Rattle.hosting.specs.Reading.{most_kept, AreTurnsOf, HasNoFeed, IsWhole, Reads}
 use Rattle.hosting.specs.Commanded.{opened, asking}
 use Rattle.hosting.specs.Rounds.{Heard, IsOpen, after_rounds, came_in, Took, Told, EndsAs, RunsCommand}
 use Rattle.hosting.proofs.CommandLines.{line_of-long}
-use Rattle.hosting.proofs.Looking.{Looked-none, Looked-trans}
+use Rattle.serving.proofs.Looks.{Looked-none, Looked-trans}
 
 -- what is kept of a line says what the line says
 pub line_of-kept : (line : List ℕ) → line_of (content (take most_kept line)) ≡ line_of (content line)
@@ -48,7 +48,7 @@ ends_text reading next answer e = ap (text_of reading) e
 waits_text : (reading : Bool) (range : Progress) → IsOpen range → text_of reading (next_of range) ≡ printed reading None
 waits_text reading range open_is = ap (text_of reading) open_is.1
 
-text_is : (reading : Bool) (range : Progress) (turns : ℕ) (answer : Option RangeAnswer) → EndsAs range turns answer
+pub text_is : (reading : Bool) (range : Progress) (turns : ℕ) (answer : Option RangeAnswer) → EndsAs range turns answer
     → printed reading answer ≡ text_of reading (next_of range)
 text_is reading range turns None ends = sym (waits_text reading range ends.0)
 text_is reading range turns (Some answer) ends = sym (ends_text reading (next_of range) answer ends)

@@ -1,6 +1,8 @@
 -- Which faults a call on one thing has.
 use Rattle.hosting.specs.declared.faults.HostFault.{HostFault}
 use Rattle.hosting.specs.declared.faults.HostFault.TheVariants.{Disk, Link, ClientLink, Clock, Source, Sink, NoMemory}
+use Rattle.serving.specs.declared.faults.ServeFault.{ServeFault}
+use Rattle.serving.specs.declared.faults.ServeFault.TheVariants as serving
 
 -- the client's link failed, or no memory was left
 abbrev pub AtClientLink : HostFault → Type 0
@@ -49,3 +51,11 @@ IsOther Source = Unit {0}
 IsOther Sink = Unit {0}
 IsOther NoMemory = Unit {0}
 IsOther other = ⊥
+
+-- what a fault of a brick's turn is to the process that hosts it
+abbrev pub fault_of : ServeFault → HostFault
+fault_of serving.Disk = Disk
+fault_of serving.Halted = Disk
+fault_of serving.Link = Link
+fault_of serving.Clock = Clock
+fault_of serving.NoMemory = NoMemory

@@ -5,6 +5,7 @@ use Rattle.std.specs.Io.KnownBytes.{Appends, Consumes, IsAtEnd}
 use Rattle.fab_base.specs.Layouts.{Layout}
 use Rattle.fab_io.specs.declared.links.Datagram.{Datagram}
 use Rattle.fab_io.specs.Datagrams.{Grows}
+use Rattle.fab_io.specs.Ends.{AppendsFront}
 use Rattle.front.specs.Ranges.{next_of}
 use Rattle.front.specs.declared.steps.RangeAnswer.{RangeAnswer}
 use Rattle.front.specs.declared.steps.RangeStep.{RangeStep}
@@ -15,11 +16,12 @@ use Rattle.hosting.specs.declared.commands.Access.TheVariants.{Read, Write}
 use Rattle.hosting.specs.declared.commands.Command.{Command}
 use Rattle.hosting.specs.declared.commands.Line.{Line}
 use Rattle.hosting.specs.declared.commands.Line.TheVariants.{Nothing, Run}
+use Rattle.hosting.specs.declared.faults.HostFault.{HostFault}
 use Rattle.hosting.specs.Answers.{answer_text, unanswered_text, bad_line_text}
 use Rattle.hosting.specs.Commands.{line_of}
 use Rattle.hosting.specs.Commanded.{opened, asking, asks_by}
-use Rattle.hosting.specs.Looks.{Looked}
-use Rattle.hosting.specs.Rounds.{Heard, AreHeard, after_rounds, asks_in, came_in, Took, Told, port_of}
+use Rattle.serving.specs.Datagrams.{GrowsFront, Looked}
+use Rattle.hosting.specs.Rounds.{Heard, AreHeard, AreStopped, after_rounds, asks_in, came_in, Took, Told, port_of}
 use Rattle.hosting.specs.Reading.{AreTurnsOf, HasNoFeed, IsWhole}
 
 -- ---- lines
@@ -154,6 +156,21 @@ pub record RunsLine {A : Type 0} (takes : A → A → Type 0) (layout : Layout) 
   pub waits_is : waits ≡ (outcome_of layout number sent rounds line).waits
   pub used : waits ≡ true → turns_after ≡ 0
 
+-- A line of this number was stopped by this fault, after so many datagrams: its command had these rounds, and there may have been one more look.
+-- The client asked for a front of what the line asks, and the sink took a front of its text.
+pub record StopsLine {A : Type 0} (takes : A → A → Type 0) (stops : A → A → HostFault → Type 0) (layout : Layout) (number sent : ℕ)
+    (link link_after : Told) (bricks bricks_after : A) (sink sink_after : Option (List ℕ)) (line : Option Line) (fault : HostFault) : Type 0 where
+  pub rounds : List Heard
+  pub lost : List (Option Datagram)
+  pub mid : A
+  pub has : HasRounds layout sent rounds line
+  pub one_look : length lost ≤ 1
+  pub looked : Looked link.waiting link_after.waiting (came_in rounds ++ lost)
+  pub asked : GrowsFront link.sent link_after.sent (outcome_of layout number sent rounds line).asks
+  pub took : Took takes rounds bricks mid
+  pub stopped : AreStopped takes stops mid bricks_after fault
+  pub printed : AppendsFront sink sink_after (outcome_of layout number sent rounds line).text
+
 -- The run is over: the source is at its end, or what was read of the next line used the turns up. A command waits only where no turn is left.
 pub record IsOver (run : Progression) (told_after : Option (List ℕ)) (rest : List ℕ) (rest_turns : ℕ) : Type 0 where
   pub used : run.waits ≡ true → run.left ≡ 0
@@ -175,3 +192,20 @@ pub record Hosts {A : Type 0} (takes : A → A → Type 0) (layout : Layout) (tu
   pub asked : Grows link.sent link_after.sent (after_lines layout (beginning turns) played).asks
   pub took : Took takes (rounds_of played) bricks bricks_after
   pub printed : Appends sink sink_after (after_lines layout (beginning turns) played).text
+
+-- The same until a fault: these lines were run, and this was read of the next one, which was not run to its end.
+pub record HostsUntil {A : Type 0} (takes : A → A → Type 0) (stops : A → A → HostFault → Type 0) (layout : Layout) (turns : ℕ)
+    (source source_after : Option (List ℕ)) (link link_after : Told) (bricks bricks_after : A) (sink sink_after : Option (List ℕ)) (fault : HostFault) : Type 0 where
+  pub played : List Played
+  pub begun : List ℕ
+  pub link_then : Told
+  pub bricks_then : A
+  pub sink_then : Option (List ℕ)
+  pub are : ArePlayed layout (beginning turns) played
+  pub consumed : Consumes source source_after (bytes_of played ++ begun)
+  pub looked : Looked link.waiting link_then.waiting (came_in (rounds_of played))
+  pub asked : Grows link.sent link_then.sent (after_lines layout (beginning turns) played).asks
+  pub took : Took takes (rounds_of played) bricks bricks_then
+  pub printed : Appends sink sink_then (after_lines layout (beginning turns) played).text
+  pub stopped : (let run = after_lines layout (beginning turns) played in
+      StopsLine takes stops layout (run.lines + 1) run.sent link_then link_after bricks_then bricks_after sink_then sink_after (line_of (content begun)) fault)

@@ -1,9 +1,9 @@
 pub mod Commands
 pub mod Answers
 pub mod Faults
-pub mod Looks
 pub mod Asks
 pub mod Commanded
 pub mod Rounds
 pub mod Reading
 pub mod Hosting
+pub mod Hosted

@@ -1,5 +1,5 @@
 -- The rounds of a command: in each, every brick takes a turn, and then the client looks at its link.
-use Rattle.std.specs.Prelude.{◌≡◌, ℕ, ◌+◌, nat_lt, if◌then◌else◌, List, [], ◌∷◌, ◌++◌, length, map, Option, Some, None, Result}
+use Rattle.std.specs.Prelude.{◌≡◌, ◌⊎◌, ◌≤◌, ℕ, ◌+◌, nat_lt, if◌then◌else◌, List, [], ◌∷◌, ◌++◌, length, map, Option, Some, None, Result, IfErr}
 use Rattle.fab_base.specs.declared.answers.Answer.{Answer}
 use Rattle.fab_base.specs.declared.answers.Refusal.{Refusal}
 use Rattle.fab_base.specs.declared.asks.Ask.{Ask}
@@ -11,8 +11,10 @@ use Rattle.front.specs.declared.steps.RangeAnswer.{RangeAnswer}
 use Rattle.front.specs.declared.steps.RangeStep.TheVariants as step
 use Rattle.hosting.specs.declared.commands.Command.{Command}
 use Rattle.hosting.specs.Asks.{wanted_in, Hears}
+use Rattle.hosting.specs.declared.faults.HostFault.{HostFault}
 use Rattle.hosting.specs.Commanded.{Asking, opened, asking, asks_by, after_round, asks_after}
-use Rattle.hosting.specs.Looks.{Looked}
+use Rattle.hosting.specs.Faults.{IsOther}
+use Rattle.serving.specs.Datagrams.{GrowsFront, Looked}
 
 -- what the look at the client's link gave in a round, and how the operation ended that the client waits for, if it did
 pub record Heard : Type 0 where
@@ -47,6 +49,15 @@ came_in rounds = map (λ heard. heard.came) rounds
 abbrev pub Took : {A : Type 0} → (A → A → Type 0) → List Heard → A → A → Type 0
 Took takes [] before after = after ≡ before
 Took takes (round ∷ more) before after = (mid : _) × takes before mid × Took takes more mid after
+
+-- The bricks were stopped in their turns by this fault; or it is none of theirs, and they took the turns of one more round, or none.
+abbrev pub AreStopped : {A : Type 0} → (A → A → Type 0) → (A → A → HostFault → Type 0) → A → A → HostFault → Type 0
+AreStopped takes stops before after fault = stops before after fault ⊎ (IsOther fault × ((after ≡ before) ⊎ takes before after))
+
+-- what a run does to bricks: sound ones stay sound, and none of their faults but want of memory ends it
+pub record KeepsBricks {A T : Type 0} (sound : A → Type 0) (before after : A) (result : Result T HostFault) : Type 0 where
+  pub stays : sound before → sound after
+  pub never : sound before → IfErr result IsOther
 
 -- what a client's link tells, where it does: the datagrams that wait, and those that were sent
 pub record Told : Type 0 where
@@ -90,3 +101,18 @@ pub record RunsCommand (layout : Layout) (command : Command) (sent sent_after tu
       (asks_by (port_of layout command.brick) sent (next_of (opened layout command)) ++ asks_in (port_of layout command.brick) (asking sent (opened layout command)) rounds)
   pub sent_is : sent_after ≡ (after_rounds (asking sent (opened layout command)) rounds).sent
   pub ends : EndsAs (after_rounds (asking sent (opened layout command)) rounds).range turns_after answer
+
+-- A command was stopped by this fault: it had these rounds, and there may have been one more look. Of the datagrams that its client asks by a
+-- front was sent, and the bricks took their turns in each of the rounds.
+pub record StopsCommand {A : Type 0} (takes : A → A → Type 0) (stops : A → A → HostFault → Type 0) (layout : Layout) (command : Command) (sent : ℕ)
+    (link link_after : Told) (bricks bricks_after : A) (fault : HostFault) : Type 0 where
+  pub rounds : List Heard
+  pub lost : List (Option Datagram)
+  pub mid : A
+  pub heard : AreHeard (port_of layout command.brick) (asking sent (opened layout command)) rounds
+  pub one_look : length lost ≤ 1
+  pub looked : Looked link.waiting link_after.waiting (came_in rounds ++ lost)
+  pub asked : GrowsFront link.sent link_after.sent
+      (asks_by (port_of layout command.brick) sent (next_of (opened layout command)) ++ asks_in (port_of layout command.brick) (asking sent (opened layout command)) rounds)
+  pub took : Took takes rounds bricks mid
+  pub stopped : AreStopped takes stops mid bricks_after fault

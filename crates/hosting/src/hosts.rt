@@ -1,14 +1,13 @@
 //! The lines of a source are run over the bricks that a process hosts.
 
-ghost use Rattle.std.specs.Prelude.{◌≡◌, ◌+◌, ◌<◌, ◌≤◌, ◌^◌, length, IfOk, IfErr, OnOk, string_bytes};
+ghost use Rattle.std.specs.Prelude.{◌≡◌, ◌⊎◌, ◌+◌, ◌<◌, ◌≤◌, ◌^◌, length, IsOk, IfOk, IfErr, OnOk, string_bytes};
 ghost use Rattle.fab_io.specs.Ends.{Kept, WriteTakes};
 ghost use Rattle.lines.specs.Lines.{content};
-ghost use Rattle.std.specs.Io.KnownBytes.{Appends};
 ghost use Rattle.hosting.specs.Answers.{bad_line_text};
 ghost use Rattle.hosting.specs.Commands.{line_of};
 ghost use Rattle.hosting.specs.Faults.{AtSink, AtLine};
-ghost use Rattle.hosting.specs.Hosting.{reads, printed, is_none, RunsLine, Hosts};
-ghost use Rattle.hosting.specs.Rounds.{told};
+ghost use Rattle.hosting.specs.Hosting.{reads, printed, is_none, RunsLine, StopsLine, Hosts, HostsUntil};
+ghost use Rattle.hosting.specs.Rounds.{KeepsBricks, told};
 
 use crate::answers::{answer_text, bad_line_text};
 use crate::commands::{Access, Line, parse};
@@ -19,10 +18,8 @@ use fab_io::{IoFault, Link, Sink, Source};
 use front::RangeAnswer;
 use layout::Layout;
 use lines::content_of;
+use serving::MOST_BYTES;
 use std::alloc::Global;
-
-/// The most bytes of a datagram that are looked at.
-const MOST_BYTES: usize = 65_535;
 
 /// Writes a text.
 fn write<K: Sink>(sink: &mut K, text: &[u8]) -> Result<(), HostFault>
@@ -39,7 +36,7 @@ fn write<K: Sink>(sink: &mut K, text: &[u8]) -> Result<(), HostFault>
 
 /// Answers a line that is no command.
 fn refuse_line<K: Sink>(alloc: Global, sink: &mut K, number: u64) -> Result<(), HostFault>
-    ensures content { OnOk result (Appends (K.told sink.old) (K.told sink.new) (bad_line_text number)) }
+    ensures content { WriteTakes (K.told sink.old) (K.told sink.new) result (bad_line_text number) }
     ensures only { IfErr result AtSink }
     ensures kept { Kept (K.faults sink.old) (K.faults sink.new) (K.sound sink.old) (K.sound sink.new) (result ≡ Err HostFault.Sink) }
 {
@@ -64,7 +61,7 @@ fn print_answer<K: Sink>(
     reading: bool,
     answer: &Option<RangeAnswer>,
 ) -> Result<bool, HostFault>
-    ensures content { OnOk result (Appends (K.told sink.old) (K.told sink.new) (printed reading answer.now)) }
+    ensures content { WriteTakes (K.told sink.old) (K.told sink.new) result (printed reading answer.now) }
     ensures waits { IfOk result (λ waits. waits ≡ is_none answer.now) }
     ensures only { IfErr result AtSink }
     ensures kept { Kept (K.faults sink.old) (K.faults sink.new) (K.sound sink.old) (K.sound sink.new) (result ≡ Err HostFault.Sink) }
@@ -100,6 +97,9 @@ fn run_line<B: Bricks, L: Link, K: Sink>(
     ensures runs { IfOk result (RunsLine B.takes layout.now number sent.old sent.new turns.old turns.new (told (L.waiting link.old) (L.sent link.old))
         (told (L.waiting link.new) (L.sent link.new)) bricks.old bricks.new (K.told sink.old) (K.told sink.new) (line_of (content line.now))) }
     ensures few { OnOk result (sent.new + turns.new ≤ sent.old + turns.old + 1) }
+    ensures stopped { IfErr result (StopsLine B.takes B.stops layout.now number sent.old (told (L.waiting link.old) (L.sent link.old))
+        (told (L.waiting link.new) (L.sent link.new)) bricks.old bricks.new (K.told sink.old) (K.told sink.new) (line_of (content line.now))) }
+    ensures bricks { KeepsBricks B.sound bricks.old bricks.new result }
     ensures only { IfErr result AtLine }
     ensures link { Kept (L.faults link.old) (L.faults link.new) (L.sound link.old) (L.sound link.new) (result ≡ Err HostFault.ClientLink) }
     ensures sink { Kept (K.faults sink.old) (K.faults sink.new) (K.sound sink.old) (K.sound sink.new) (result ≡ Err HostFault.Sink) }
@@ -131,6 +131,9 @@ fn run_lines<B: Bricks, L: Link, S: Source, K: Sink>(
     requires { length room.old ≡ 65535 }
     ensures hosts { OnOk result (Hosts B.takes layout.now turns (S.told source.old) (S.told source.new) (told (L.waiting link.old) (L.sent link.old))
         (told (L.waiting link.new) (L.sent link.new)) bricks.old bricks.new (K.told sink.old) (K.told sink.new)) }
+    ensures stopped { IfErr result (HostsUntil B.takes B.stops layout.now turns (S.told source.old) (S.told source.new)
+        (told (L.waiting link.old) (L.sent link.old)) (told (L.waiting link.new) (L.sent link.new)) bricks.old bricks.new (K.told sink.old) (K.told sink.new)) }
+    ensures bricks { KeepsBricks B.sound bricks.old bricks.new result }
     ensures link { Kept (L.faults link.old) (L.faults link.new) (L.sound link.old) (L.sound link.new) (result ≡ Err HostFault.ClientLink) }
     ensures source { Kept (S.faults source.old) (S.faults source.new) (S.sound source.old) (S.sound source.new) (result ≡ Err HostFault.Source) }
     ensures sink { Kept (K.faults sink.old) (K.faults sink.new) (K.sound sink.old) (K.sound sink.new) (result ≡ Err HostFault.Sink) }
@@ -188,8 +191,8 @@ fn run_lines<B: Bricks, L: Link, S: Source, K: Sink>(
 ///
 /// # Errors
 ///
-/// `Disk`, `Link` and `Clock` where the bricks say so; `ClientLink`, `Source` and `Sink` only where that thing's count of faults rose;
-/// `NoMemory` where no memory was left.
+/// `Disk`, `Link` and `Clock` only where the bricks were stopped by that fault; `ClientLink`, `Source` and `Sink` only where that thing's count
+/// of faults rose; `NoMemory` where no memory was left. What was done until then stays done: the bricks took their turns in each round before.
 pub fn host<B: Bricks, L: Link, S: Source, K: Sink>(
     alloc: Global,
     layout: &Layout,
@@ -201,9 +204,14 @@ pub fn host<B: Bricks, L: Link, S: Source, K: Sink>(
 ) -> Result<(), HostFault>
     ensures hosts { OnOk result (Hosts B.takes layout.now turns (S.told source.old) (S.told source.new) (told (L.waiting link.old) (L.sent link.old))
         (told (L.waiting link.new) (L.sent link.new)) bricks.old bricks.new (K.told sink.old) (K.told sink.new)) }
+    ensures stopped { IfErr result (HostsUntil B.takes B.stops layout.now turns (S.told source.old) (S.told source.new)
+        (told (L.waiting link.old) (L.sent link.old)) (told (L.waiting link.new) (L.sent link.new)) bricks.old bricks.new (K.told sink.old) (K.told sink.new)) }
+    ensures bricks { KeepsBricks B.sound bricks.old bricks.new result }
     ensures link { Kept (L.faults link.old) (L.faults link.new) (L.sound link.old) (L.sound link.new) (result ≡ Err HostFault.ClientLink) }
     ensures source { Kept (S.faults source.old) (S.faults source.new) (S.sound source.old) (S.sound source.new) (result ≡ Err HostFault.Source) }
     ensures sink { Kept (K.faults sink.old) (K.faults sink.new) (K.sound sink.old) (K.sound sink.new) (result ≡ Err HostFault.Sink) }
+    // Over sound bricks and ends it comes to its end, or finds no memory.
+    ensures sound { B.sound bricks.old → L.sound link.old → S.sound source.old → K.sound sink.old → IsOk result ⊎ (result ≡ Err HostFault.NoMemory) }
 {
     let mut room = vec![in alloc; 0u8; MOST_BYTES]?;
     run_lines(

@@ -5,6 +5,7 @@ mod answers;
 mod clients;
 mod commands;
 mod faults;
+mod hosted_bricks;
 mod hosts;
 mod reading;
 mod replies;
@@ -13,5 +14,6 @@ mod tokens;
 
 pub use commands::{Access, Command, Line, parse};
 pub use faults::HostFault;
+pub use hosted_bricks::{HostedBricks, TimedBricks};
 pub use hosts::host;
 pub use rounds::Bricks;

@@ -6,7 +6,7 @@ ghost use Rattle.fab_io.specs.Datagrams.{Stays};
 ghost use Rattle.fab_io.specs.Ends.{Kept};
 ghost use Rattle.hosting.specs.Asks.{end_of, answers, ends, Hears};
 ghost use Rattle.hosting.specs.Faults.{AtClientLink};
-ghost use Rattle.hosting.specs.Looks.{Looked};
+ghost use Rattle.serving.specs.Datagrams.{Looked};
 
 use crate::faults::HostFault;
 use fab_base::{Answer, NoMem, Refusal};

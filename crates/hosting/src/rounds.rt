@@ -7,8 +7,8 @@ ghost use Rattle.fab_io.specs.Ends.{Kept};
 ghost use Rattle.hosting.specs.declared.clients.Standing.TheVariants.{Waits};
 ghost use Rattle.hosting.specs.Commanded.{opened, asking, IsRangeOf, Stands};
 ghost use Rattle.hosting.specs.Faults.{AtClientLink, AtCommand};
-ghost use Rattle.hosting.specs.Looks.{Looked};
-ghost use Rattle.hosting.specs.Rounds.{Heard, HearsOnce, Took, told, port_of, RunsCommand};
+ghost use Rattle.serving.specs.Datagrams.{Looked};
+ghost use Rattle.hosting.specs.Rounds.{Heard, HearsOnce, KeepsBricks, Took, told, port_of, RunsCommand, StopsCommand};
 
 use crate::clients::{Standing, ask_next, open};
 use crate::commands::Command;
@@ -105,6 +105,9 @@ pub(crate) fn run_command<B: Bricks, L: Link>(
     ensures runs { IfOk result (λ answer. (rounds : List Heard) × RunsCommand layout.now command.now sent.old sent.new turns.old turns.new
         (told (L.waiting link.old) (L.sent link.old)) (told (L.waiting link.new) (L.sent link.new)) rounds answer × Took B.takes rounds bricks.old bricks.new) }
     ensures few { OnOk result (sent.new + turns.new ≤ sent.old + turns.old + 1) }
+    ensures stopped { IfErr result (StopsCommand B.takes B.stops layout.now command.now sent.old (told (L.waiting link.old) (L.sent link.old))
+        (told (L.waiting link.new) (L.sent link.new)) bricks.old bricks.new) }
+    ensures bricks { KeepsBricks B.sound bricks.old bricks.new result }
     ensures only { IfErr result AtCommand }
     ensures kept { Kept (L.faults link.old) (L.faults link.new) (L.sound link.old) (L.sound link.new) (result ≡ Err HostFault.ClientLink) }
 {

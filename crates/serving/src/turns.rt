@@ -80,6 +80,8 @@ pub fn serve<D: Disk, L: Link, C: Clock>(
     ensures served { node.old.brick.halted ≡ false → IsServed (coding node.old.layout) node.old.me (state_of node.old) (state_of node.new)
         (outside (L.waiting link.old) (L.sent link.old) (C.coming clock.old)) (outside (L.waiting link.new) (L.sent link.new) (C.coming clock.new)) turns result }
     ensures same { IsSameBrick node.old node.new }
+    // A brick that is not halted is not, unless its disk failed.
+    ensures runs { node.old.brick.halted ≡ false → result ≢ Err ServeFault.Disk → node.new.brick.halted ≡ false }
     // Unless the disk failed, a crash leaves only what shows the brick as it is now.
     ensures durable { D.tells → result ≢ Err ServeFault.Disk → result ≢ Err ServeFault.Halted
         → LeavesBrick node.new.layout node.new.me (state_of node.new) (D.may_leave node.new.brick.disk) }

@@ -1,16 +1,19 @@
-use Rattle.std.proofs.Common.{Err, ap, ◌∙◌, arith, inl, inr}
+use Rattle.std.proofs.Common.{Err, IfErr, ap, ◌∙◌, arith, inl, inr}
 use Rattle.std.proofs.lemmas.Result.{err_from_is_err_and}
 use Rattle.fab_io.proofs.Keeping.{Kept-refl, Kept-trans, Kept-calm, Kept-narrower}
 use Rattle.hosting.specs.declared.faults.HostFault.{HostFault}
 use Rattle.hosting.specs.declared.faults.HostFault.TheVariants.{ClientLink, Source, Sink}
-use Rattle.hosting.specs.Rounds.{told}
+use Rattle.hosting.specs.Hosting.{HostsUntil}
+use Rattle.hosting.specs.Rounds.{KeepsBricks, told}
 use Rattle.hosting.proofs.Exits.{was_met, not_said, ok_not, source-not_link, source-not_sink, line-not_source}
 use Rattle.hosting.proofs.Running.{HasRun-none, HasRun-whole, Hosts-line, Hosts-ended, Hosts-out, some_turn, some_byte}
+use Rattle.hosting.proofs.Stopping.{source-other, at_exit, Keeps, Keeps-later, Keeps-moved, HostsUntil-read, HostsUntil-line}
 use Rattle.hosting.proofs.hosts.run_lines.Goals as goal
 
 pub loop-line-init : goal.loop-line-init
 loop-line-init g c = record {
   run = HasRun-none _ _ _ _ (told (g.L.Link.waiting c.args.link.now) (g.L.Link.sent c.args.link.now)) _ _;
+  stays = λ s. s;
   sent_few = omega arith;
   few = omega arith;
   link = Kept-refl _ _;
@@ -79,6 +82,7 @@ loop-line-preserved g c =
     record {
       run = HasRun-whole _ _ _ _ _ _ (told (g.L.Link.waiting c.args.link.now) (g.L.Link.sent c.args.link.now)) _ _ _ _ _ _ _ _ _ _ _ _ _ _ _ _ _ _ c.loop-line.invariant.run read.reads
           (c.as_slice.ensures.value ∙ read.answers.0) read.answers.1 runs c.if-waits.false;
+      stays = λ s. c.run_line.ensures.bricks.stays (c.loop-line.invariant.stays s);
       sent_few = omega (arith, c.loop-line.invariant.sent_few, c.in_ok-waits-in-Whole.ensures.few, read.reads.counted, turn);
       few = omega (arith, c.loop-line.invariant.few, read.reads.counted, runs.counted, turn);
       link = Kept-trans c.loop-line.invariant.link (Kept-calm c.run_line.ensures.link);
@@ -152,3 +156,81 @@ returns-in-OutOfTurns-clause-source g c =
 
 pub returns-in-OutOfTurns-clause-sink : goal.returns-in-OutOfTurns-clause-sink
 returns-in-OutOfTurns-clause-sink g c = Kept-narrower (ok_not _ Sink) c.loop-line.invariant.sink
+
+-- ---- where it is stopped
+
+pub returns-in_err-line-clause-stopped : goal.returns-in_err-line-clause-stopped
+returns-in_err-line-clause-stopped g c =
+    let q = err_from_is_err_and c.from_residual.result c.from_residual.ensures.1 in
+    let before = told (g.L.Link.waiting c.args.link.now) (g.L.Link.sent c.args.link.now) in
+    let now = told (g.L.Link.waiting c.loop-line.link) (g.L.Link.sent c.loop-line.link) in
+    let reads = c.in_err-line.ensures.reads in
+    let met = c.in_err-line.field-0.0 in
+    at_exit c.from_residual.result met
+    (λ r. IfErr r (HostsUntil g.B.Bricks.takes g.B.Bricks.stops c.args.layout.now c.args.turns (g.S.Source.told c.args.source.now) (g.S.Source.told c.read_line.new.source)
+    before now c.args.bricks.now c.loop-line.bricks (g.K.Sink.told c.args.sink.now) (g.K.Sink.told c.loop-line.sink))) q.0 q.1 q.2
+    (HostsUntil-read g.B.Bricks.takes g.B.Bricks.stops c.args.layout.now c.args.turns _ _ _ before now _ _ _ _ _ _ _ reads.line met c.loop-line.invariant.run
+    reads.reads.consumes (source-other met c.in_err-line.ensures.only))
+
+pub returns-in_err-line-clause-bricks : goal.returns-in_err-line-clause-bricks
+returns-in_err-line-clause-bricks g c =
+    let q = err_from_is_err_and c.from_residual.result c.from_residual.ensures.1 in
+    let met = c.in_err-line.field-0.0 in
+    at_exit c.from_residual.result met (KeepsBricks g.B.Bricks.sound c.args.bricks.now c.loop-line.bricks) q.0 q.1 q.2
+    (Keeps g.B.Bricks.sound _ _ (Err met) c.loop-line.invariant.stays (source-other met c.in_err-line.ensures.only))
+
+pub returns-in_err-waits-in-Whole-clause-stopped : goal.returns-in_err-waits-in-Whole-clause-stopped
+returns-in_err-waits-in-Whole-clause-stopped g c =
+    let q = err_from_is_err_and c.from_residual-in_err-waits-in-Whole.result c.from_residual-in_err-waits-in-Whole.ensures.1 in
+    let read = rw c.in-Whole.is at c.in_ok-line.ensures.reads in
+    let before = told (g.L.Link.waiting c.args.link.now) (g.L.Link.sent c.args.link.now) in
+    let now = told (g.L.Link.waiting c.loop-line.link) (g.L.Link.sent c.loop-line.link) in
+    let after = told (g.L.Link.waiting c.run_line.new.link) (g.L.Link.sent c.run_line.new.link) in
+    let met = c.in_err-waits-in-Whole.field-0.0 in
+    at_exit c.from_residual-in_err-waits-in-Whole.result met
+    (λ r. IfErr r (HostsUntil g.B.Bricks.takes g.B.Bricks.stops c.args.layout.now c.args.turns (g.S.Source.told c.args.source.now) (g.S.Source.told c.read_line.new.source)
+    before after c.args.bricks.now c.run_line.new.bricks (g.K.Sink.told c.args.sink.now) (g.K.Sink.told c.run_line.new.sink))) q.0 q.1 q.2
+    (HostsUntil-line g.B.Bricks.takes g.B.Bricks.stops c.args.layout.now c.args.turns _ _ _ before now after _ _ _ _ _ _ _ _ _ _ _ _ _ met c.loop-line.invariant.run
+    read.reads (c.as_slice.ensures.value ∙ read.answers.0) c.in_err-waits-in-Whole.ensures.stopped)
+
+pub returns-in_err-waits-in-Whole-clause-bricks : goal.returns-in_err-waits-in-Whole-clause-bricks
+returns-in_err-waits-in-Whole-clause-bricks g c =
+    let q = err_from_is_err_and c.from_residual-in_err-waits-in-Whole.result c.from_residual-in_err-waits-in-Whole.ensures.1 in
+    let met = c.in_err-waits-in-Whole.field-0.0 in
+    at_exit c.from_residual-in_err-waits-in-Whole.result met (KeepsBricks g.B.Bricks.sound c.args.bricks.now c.run_line.new.bricks) q.0 q.1 q.2
+    (Keeps-later g.B.Bricks.sound _ c.loop-line.bricks _ (Err met) c.loop-line.invariant.stays (Keeps-moved g.B.Bricks.sound _ _ met c.in_err-waits-in-Whole.ensures.bricks))
+
+pub returns-then-waits-clause-bricks : goal.returns-then-waits-clause-bricks
+returns-then-waits-clause-bricks g c =
+    Keeps g.B.Bricks.sound _ _ _ (λ s. c.run_line.ensures.bricks.stays (c.loop-line.invariant.stays s)) tt
+
+pub returns-in_err-_waits-in-Last-clause-stopped : goal.returns-in_err-_waits-in-Last-clause-stopped
+returns-in_err-_waits-in-Last-clause-stopped g c =
+    let q = err_from_is_err_and c.from_residual-in_err-_waits-in-Last.result c.from_residual-in_err-_waits-in-Last.ensures.1 in
+    let read = rw c.in-Last.is at c.in_ok-line.ensures.reads in
+    let before = told (g.L.Link.waiting c.args.link.now) (g.L.Link.sent c.args.link.now) in
+    let now = told (g.L.Link.waiting c.loop-line.link) (g.L.Link.sent c.loop-line.link) in
+    let after = told (g.L.Link.waiting c.run_line-in-Last.new.link) (g.L.Link.sent c.run_line-in-Last.new.link) in
+    let met = c.in_err-_waits-in-Last.field-0.0 in
+    at_exit c.from_residual-in_err-_waits-in-Last.result met
+    (λ r. IfErr r (HostsUntil g.B.Bricks.takes g.B.Bricks.stops c.args.layout.now c.args.turns (g.S.Source.told c.args.source.now) (g.S.Source.told c.read_line.new.source)
+    before after c.args.bricks.now c.run_line-in-Last.new.bricks (g.K.Sink.told c.args.sink.now) (g.K.Sink.told c.run_line-in-Last.new.sink))) q.0 q.1 q.2
+    (HostsUntil-line g.B.Bricks.takes g.B.Bricks.stops c.args.layout.now c.args.turns _ _ _ before now after _ _ _ _ _ _ _ _ _ _ _ _ _ met c.loop-line.invariant.run
+    read.reads (c.as_slice-in-Last.ensures.value ∙ read.answers.0) c.in_err-_waits-in-Last.ensures.stopped)
+
+pub returns-in_err-_waits-in-Last-clause-bricks : goal.returns-in_err-_waits-in-Last-clause-bricks
+returns-in_err-_waits-in-Last-clause-bricks g c =
+    let q = err_from_is_err_and c.from_residual-in_err-_waits-in-Last.result c.from_residual-in_err-_waits-in-Last.ensures.1 in
+    let met = c.in_err-_waits-in-Last.field-0.0 in
+    at_exit c.from_residual-in_err-_waits-in-Last.result met (KeepsBricks g.B.Bricks.sound c.args.bricks.now c.run_line-in-Last.new.bricks) q.0 q.1 q.2
+    (Keeps-later g.B.Bricks.sound _ c.loop-line.bricks _ (Err met) c.loop-line.invariant.stays (Keeps-moved g.B.Bricks.sound _ _ met c.in_err-_waits-in-Last.ensures.bricks))
+
+pub returns-in-Last-clause-bricks : goal.returns-in-Last-clause-bricks
+returns-in-Last-clause-bricks g c =
+    Keeps g.B.Bricks.sound _ _ _ (λ s. c.run_line-in-Last.ensures.bricks.stays (c.loop-line.invariant.stays s)) tt
+
+pub returns-in-Ended-clause-bricks : goal.returns-in-Ended-clause-bricks
+returns-in-Ended-clause-bricks g c = Keeps g.B.Bricks.sound _ _ _ c.loop-line.invariant.stays tt
+
+pub returns-in-OutOfTurns-clause-bricks : goal.returns-in-OutOfTurns-clause-bricks
+returns-in-OutOfTurns-clause-bricks g c = Keeps g.B.Bricks.sound _ _ _ c.loop-line.invariant.stays tt

@@ -9,6 +9,7 @@ invariant-loop-line g l = record {
   run : HasRun g.B.Bricks.takes l.layout l.turns (g.S.Source.told l.fn.source) (g.S.Source.told l.source)
       (told (g.L.Link.waiting l.fn.link) (g.L.Link.sent l.fn.link)) (told (g.L.Link.waiting l.link) (g.L.Link.sent l.link)) l.fn.bricks l.bricks
       (g.K.Sink.told l.fn.sink) (g.K.Sink.told l.sink) l.left l.number l.sent false false;
+  stays : g.B.Bricks.sound l.fn.bricks → g.B.Bricks.sound l.bricks;
   sent_few : l.sent + l.left ≤ l.turns;
   few : l.number + l.left ≤ l.turns;
   link : Kept (g.L.Link.faults l.fn.link) (g.L.Link.faults l.link) (g.L.Link.sound l.fn.link) (g.L.Link.sound l.link) ⊥;

@@ -1,6 +1,6 @@
 use Rattle.std.proofs.Common.{◌∷◌, [], take, Some, arith}
 use Rattle.hosting.proofs.Exits.{on_err}
-use Rattle.hosting.proofs.Looking.{Looked-one}
+use Rattle.serving.proofs.Looks.{Looked-one}
 use Rattle.hosting.proofs.replies.hear.Goals as goal
 
 pub returns-in_err-reply-in-Ok-Some-clause-lost : goal.returns-in_err-reply-in-Ok-Some-clause-lost

@@ -11,6 +11,7 @@ invariant-loop-standing g l = record {
       (told (g.L.Link.waiting l.fn.link) (g.L.Link.sent l.fn.link)) (told (g.L.Link.waiting l.link) (g.L.Link.sent l.link)) l.fn.bricks l.bricks;
   stands : Stands l.range l.standing;
   parts : IsRangeOf l.layout l.range;
+  stays : g.B.Bricks.sound l.fn.bricks → g.B.Bricks.sound l.bricks;
   few : l.sent + l.turns ≤ l.fn.sent + l.fn.turns + 1;
   kept : Kept (g.L.Link.faults l.fn.link) (g.L.Link.faults l.link) (g.L.Link.sound l.fn.link) (g.L.Link.sound l.link) ⊥;
 }

@@ -5,6 +5,9 @@ use Rattle.serving.proofs.turns.serve.Goals as goal
 pub returns-clause-durable : goal.returns-clause-durable
 returns-clause-durable g c = λ told not_disk not. c.is_halted-2.ensures.durable told (c.serve_turns-served.ensures.runs not_disk)
 
+pub returns-clause-runs : goal.returns-clause-runs
+returns-clause-runs g c = λ runs not_disk. c.serve_turns-served.ensures.runs not_disk
+
 pub returns-clause-only_halted : goal.returns-clause-only_halted
 returns-clause-only_halted g c = λ e. absurd (not_halted _ _ _ _ _ _ _ _ c.serve_turns-served.ensures.served e)
 
