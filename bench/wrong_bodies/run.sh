@@ -11,6 +11,7 @@ if [ ${#crates[@]} -eq 0 ]; then
     mapfile -t crates < <(cd "$here" && ls -d */ | tr -d /)
 fi
 for crate in "${crates[@]}"; do
+    mkdir -p "$copy/repository/crates/$crate/must-fail"
     rm -f "$copy/repository/crates/$crate/must-fail/"*.edit
     cp "$here/$crate/"*.edit "$copy/repository/crates/$crate/must-fail/"
 done
