@@ -5,7 +5,9 @@ pub mod LineTexts
 pub mod Reading
 pub mod PrintedMarks
 pub mod Clocks
-pub mod Stamped
+pub mod StampedMessages
+pub mod StampedSteps
+pub mod StampedWorlds
 pub mod Standing
 pub mod Counts
 pub mod MarksSound

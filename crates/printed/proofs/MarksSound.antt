@@ -35,7 +35,7 @@ use Rattle.protocol_laws.proofs.SaidAlways.{always_said}
 use Rattle.audit.specs.Checks.{GroupFits, BeginFits, WordFits, AnswerFits, MarksHold}
 use Rattle.printed.proofs.Clocks.{EventsFit}
 use Rattle.printed.proofs.MarkLines.{IsSmall, IsTold, OpReads, AskReads, CauseReads, AnswerReads, MarkReads, most_told}
-use Rattle.printed.proofs.Stamped.{WorldFits, run_fits, first_world_fits}
+use Rattle.printed.proofs.StampedWorlds.{WorldFits, run_fits, first_world_fits}
 use Rattle.printed.proofs.Standing.{MarkStands, AllStand, run_stands}
 
 -- bytes, by a test

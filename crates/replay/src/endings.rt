@@ -50,7 +50,7 @@ impl From<AllocError> for Halt {
 }
 
 /// The exit status of an end.
-pub(crate) fn status_of(ending: Result<Verdict, Halt>) -> u8
+pub fn status_of(ending: Result<Verdict, Halt>) -> u8
     ensures { result ≡ status_of ending }
 {
     match ending {

@@ -15,7 +15,7 @@ use std::alloc::Global;
 
 /// What stands before the schedule of an input.
 #[derive(Drop)]
-pub(crate) enum Head {
+pub enum Head {
     /// The text before the first line `---`, which was read too.
     Text(Vec<u8>),
     /// The text before a line `---` that lacks its line feed: the input ends there.
@@ -27,7 +27,11 @@ pub(crate) enum Head {
 }
 
 /// Reads the text before the line `---`, and that line.
-pub(crate) fn read_head<S: Source>(
+///
+/// # Errors
+///
+/// `Source` where the source failed, `Memory` where no memory was left. What was read by then decides nothing.
+pub fn read_head<S: Source>(
     alloc: Global,
     source: &mut S,
     unread: &mut Unread,

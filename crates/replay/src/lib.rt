@@ -1,5 +1,7 @@
 //! The program `replay`: runs a layout and a recorded schedule over a simulated disk, and prints each answer
 //! and when each request took effect; or audits such a text, of whatever origin, under a layout.
+//!
+//! The program `trace` takes its input from here: how it is read, what ends a run of it, and with which status.
 #![tactic(auto)]
 
 mod audits;
@@ -10,4 +12,7 @@ mod schedules;
 mod texts;
 mod turns;
 
-pub use programs::replay;
+pub use endings::{Halt, Verdict, status_of};
+pub use heads::{Head, read_head};
+pub use programs::{is_word, replay};
+pub use turns::{MOST_LINES, next, write};

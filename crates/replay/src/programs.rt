@@ -109,7 +109,7 @@ pub fn replay<S: Source, K: Sink>(
 }
 
 /// Whether the words are this one word.
-fn is_word(words: &[String], text: &str) -> bool
+pub fn is_word(words: &[String], text: &str) -> bool
     ensures { result ≡ is_word text.now (map string_bytes words.now) }
 {
     match words {

@@ -18,14 +18,14 @@ use std::alloc::Global;
 use world::{StepFault, World};
 
 /// The most lines of a schedule.
-pub(crate) const MOST_LINES: u64 = 1_048_576;
+pub const MOST_LINES: u64 = 1_048_576;
 
-/// The next piece of the input.
-pub(crate) fn next<S: Source>(
-    source: &mut S,
-    unread: &mut Unread,
-    limit: usize,
-) -> Result<Piece, Halt>
+/// The next piece of the input: a line of at most so many bytes, or what comes in its place.
+///
+/// # Errors
+///
+/// `Source` where the source failed, `Memory` where no memory was left.
+pub fn next<S: Source>(source: &mut S, unread: &mut Unread, limit: usize) -> Result<Piece, Halt>
     ensures says { IfOk result (λ piece. Says limit (prepend_known unread.old (S.told source.old))
         (prepend_known unread.new (S.told source.new)) piece) }
     ensures reads { LineReads limit unread.old unread.new (S.told source.old) (S.told source.new) (S.came source.new)
@@ -41,8 +41,12 @@ pub(crate) fn next<S: Source>(
     }
 }
 
-/// Writes a text. An empty one is not written. Want of memory leaves what was taken as it was.
-pub(crate) fn write<K: Sink>(sink: &mut K, text: &[u8]) -> Result<(), Halt>
+/// Writes a text. An empty one is not written.
+///
+/// # Errors
+///
+/// `Sink` where the sink failed, which took some of the text then, from its front; `Memory` where no memory was left, and then it took nothing.
+pub fn write<K: Sink>(sink: &mut K, text: &[u8]) -> Result<(), Halt>
     ensures content { WriteTakes (K.told sink.old) (K.told sink.new) result text.now }
     ensures kept { Kept (K.faults sink.old) (K.faults sink.new) (K.sound sink.old) (K.sound sink.new)
         (result ≡ Err Halt.Sink) }

@@ -20,7 +20,6 @@ use std::marker::Model;
 /// The whole disk of a layout over simulated bricks. It stands for the run of the steps that it took.
 ///
 /// A clause sees the layout, the steps, and the disk of each brick. The steps themselves are not kept.
-#[derive(Drop)]
 pub struct World {
     alloc: Global,
     layout: Layout,
@@ -43,6 +42,18 @@ impl Model for World {
     ghost view = { run_of };
 
     ghost invariant = { IsStanding };
+}
+
+impl Drop for World {
+    // Written out, it is proved once: a derived one is proved anew, with that of each part, in each crate above that lets a world go.
+    fn drop(self) {
+        let Self {
+            alloc: _,
+            layout: _,
+            simulation: _,
+            trail: _,
+        } = self;
+    }
 }
 
 /// Why a line was not run to its end.
