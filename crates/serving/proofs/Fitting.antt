@@ -21,7 +21,7 @@ use Rattle.serving.specs.Spellings.{has_spelling, reply_fits, answer_fits}
 abbrev pub AreBricks : Layout → List BrickId → Type 0
 AreBricks layout members = AllByRecursion (λ member. member.0 < layout.bricks) members
 
--- the versions have blocks of at most the layout's length
+-- a version has a block of at most so many bytes
 abbrev pub IsShort : ℕ → Version → Type 0
 IsShort block version = length version.block ≤ block
 

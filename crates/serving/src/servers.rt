@@ -41,7 +41,7 @@ impl Server {
     pub fn new<D: Disk>(alloc: Global, node: &Node<D>) -> Server
         ensures server { IsServerOf result node.now }
         ensures begins { serving_of result node.now ≡ begun (state_of node.now) }
-        // Of a brick that was just started each message can be sent, whatever comes in the turns that follow.
+        // Where an image of a disk shows the brick, and no operation of it is open, each message of the turns that follow can be sent.
         ensures spelled { SendsAll node.now }
     {
         Server {

@@ -63,8 +63,8 @@ impl Server {
 /// came, there is a tick if the reading is at least 100 above that of the last tick, 0 at first. The sender of a message is the brick whose
 /// port it came from; a message from another port, and a client's answer, are dropped. A client's invocation may come from any port, and is
 /// answered there: at once where the brick refuses it, else when its operation ends. Each message that the brick sends goes to the port of
-/// its receiver as one datagram. One without a spelling, or for a port past 65,535, would not be sent: a brick that was just started has none,
-/// whatever comes.
+/// its receiver as one datagram. One without a spelling, or for a port past 65,535, would not be sent: a brick that an image of a disk shows,
+/// and that has no operation open when it is called, has none, whatever comes.
 ///
 /// # Errors
 ///
@@ -80,7 +80,7 @@ pub fn serve<D: Disk, L: Link, C: Clock>(
 ) -> Result<u64, ServeFault>
     ensures served { node.old.brick.halted ≡ false → IsServed (coding node.old.layout) node.old.me (state_of node.old) (state_of node.new)
         (outside (L.waiting link.old) (L.sent link.old) (C.coming clock.old)) (outside (L.waiting link.new) (L.sent link.new) (C.coming clock.new)) turns result }
-    // Of a brick that was just started each message can be sent, whatever datagrams come.
+    // Where an image of a disk shows the brick, and no operation of it is open, each message can be sent, whatever datagrams come.
     ensures spelled { node.old.brick.halted ≡ false → SendsAll node.old }
     ensures same { IsSameBrick node.old node.new }
     // A brick that is not halted is not, unless its disk failed.
