@@ -267,7 +267,7 @@ host_link-returns g t c =
     subst (λ bs. AreSame (first ++ (brick ∷ [])) bs) more_after (subst (λ bs. AreSame bs hosted.result.0.bricks) more inner.same) in
     let both = same_last first first_after brick brick_after same in
     let still : hosted.result.1 ≢ Disk → AreRunning first_after × (brick_after.node.brick.halted ≡ false) = λ not.
-        all_last (λ b. b.node.brick.halted ≡ false) first_after brick_after (subst (λ bs. AreRunning bs) more_after (inner.runs_still not)) in
+    all_last (λ b. b.node.brick.halted ≡ false) first_after brick_after (subst (λ bs. AreRunning bs) more_after (inner.runs_still not)) in
     let standing : l.sound c.in-Ok.link → AllByRecursion (IsSound d l k) first → d.sound c.args.node.brick.disk
     → AllByRecursion (IsSound d l k) c.with_brick-bricks.result.bricks = λ linked sound whole.
     subst (AllByRecursion (IsSound d l k)) (sym more) (all_more (IsSound d l k) first brick sound (record {

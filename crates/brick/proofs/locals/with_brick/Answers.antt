@@ -1,4 +1,4 @@
-use Rattle.std.proofs.Common.{◌≡◌, ◌+◌, arith, false, [], ◌∷◌, length, length-append, sym, ap, subst}
+use Rattle.std.proofs.Common.{◌≡◌, arith, false, [], ◌∷◌, length, length-append, sym, ap, subst}
 use Rattle.brick.specs.Locals.{AreRunning}
 use Rattle.brick.proofs.SameBricks.{all_more}
 use Rattle.brick.proofs.locals.with_brick.Goals as goal
