@@ -7,7 +7,7 @@ use Rattle.fab_base.specs.declared.identities.BrickId.{BrickId}
 use Rattle.fab_base.specs.Layouts.{Layout}
 use Rattle.layout.specs.Texts.{layout_of}
 use Rattle.fab_host.specs.Held.{Held, absent, lent, here, IsMissing}
-use Rattle.fab_host.specs.Holdings.{Holdings, with_disk, IsFree}
+use Rattle.fab_host.specs.Holdings.{Holdings, with_disk, with_link, IsFree}
 use Rattle.fab_host.specs.Opening.{WhereTold}
 use Rattle.serving.specs.Ports.{ports_of, port_of}
 use Rattle.brick.specs.declared.endings.Ending.{Ending}
@@ -19,8 +19,8 @@ use Rattle.brick.specs.Endings.{IsDone}
 use Rattle.brick.specs.Formats.{FormatsBrick}
 use Rattle.brick.specs.Hosts.{HostSeen, Told, Has, ReturnsSource}
 use Rattle.brick.specs.Layouts.{most_layout_bytes, Says, ReadsSource, FindsLayout, HoldsLayout, brick_of}
-use Rattle.brick.specs.Serves.{MayStart, HasDisk, HasLink}
-use Rattle.brick.proofs.Lending.{has_apart}
+use Rattle.brick.specs.Serves.{MayStart, HasClock, HasDisk, HasLink}
+use Rattle.brick.proofs.Lending.{has_after, has_apart}
 
 -- what is here is one thing
 pub here_same : {T : Type 0} (held : Held T) (a b : T) → held ≡ here a → held ≡ here b → a ≡ b
@@ -221,3 +221,10 @@ lent_starts tells seen layout me (Some h) (Some n) name thing (is, now) has = (
 pub disk_there : {S D L C : Type 0} (tells : Type 0) (seen : D → List ℕ) (layout : Layout) (me : BrickId) (name : List ℕ) (h : Holdings S D L C)
     → HasDisk tells seen layout me name h → IsMissing (h.disks name) → ⊥
 disk_there tells seen layout me name h has gone = here_missing (h.disks name) has.disk has.held gone
+
+-- once the link was lent the clock is there
+pub link_clock : {S D L C : Type 0} (before mid : Option (Holdings S D L C)) (port : ℕ) (thing : L) → Told before mid (λ h now. (h.links port ≡ here thing) × (now ≡ with_link h port lent))
+    → Has before (HasLink port) → Has mid HasClock
+link_clock {S} {D} {L} {C} before mid port thing lends has =
+    has_after {P = λ (h now : Holdings S D L C). (h.links port ≡ here thing) × (now ≡ with_link h port lent)} {Q = HasLink port} {R = HasClock} before mid lends has
+    (λ h now p q. λ missing. q.clock (subst IsMissing (ap (λ z. z.clock) p.1) missing))

@@ -17,7 +17,7 @@ use Rattle.brick.specs.Endings.{status_of, Prints}
 use Rattle.brick.specs.Formats.{FormatsBrick, MakesStore}
 use Rattle.brick.specs.Hosts.{HostSeen, IsRefused}
 use Rattle.brick.specs.Layouts.{FindsLayout, brick_of}
-use Rattle.brick.specs.Locals.{standard_input, timed, disk_name, HostsBySource, HostsByClient, HostsByClock, HostsByDisk, HostsByLink, HostsOver, HostsBricks, HostsLayout}
+use Rattle.brick.specs.Locals.{standard_input, timed, disk_name, HostsBySource, HostsByClient, HostsByClock, HostsByLink, HostsOver, HostsBricks, HostsLayout}
 use Rattle.brick.specs.Serves.{ServesByClock, ServesByLink, ServesOver, ServesByDisk, ServesBrick, RefusesStore}
 use Rattle.brick.specs.Views.{Views}
 use Rattle.brick.specs.Words.{Wanted}

@@ -1,5 +1,4 @@
 mod Lending
-mod Lent
 mod Hosts
 mod Places
 mod Found

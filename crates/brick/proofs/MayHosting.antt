@@ -1,5 +1,5 @@
 -- Over a host that holds what `brick local` wants, each thing is there to be lent, and the work is done.
-use Rattle.std.proofs.Common.{◌≡◌, ◌≢◌, ◌⊎◌, ℕ, ◌+◌, ◌<◌, ◌≤◌, ◌^◌, arith, List, ◌++◌, codes, Option, Some, None, IfSome, Result, Ok, Err, IsOk, inl, inr, refl, sym, ap, ◌∙◌, subst}
+use Rattle.std.proofs.Common.{◌≡◌, ◌⊎◌, ℕ, ◌+◌, ◌<◌, ◌≤◌, ◌^◌, arith, List, ◌++◌, codes, Option, Some, None, IfSome, Result, Ok, Err, IsOk, inl, inr, refl, sym, ap, ◌∙◌, subst}
 use Rattle.std.proofs.lemmas.Bool.{cases_Bool}
 use Rattle.std.proofs.lemmas.Fmt.{decimal_injective}
 use Rattle.std.proofs.lemmas.List.{append_cancel_left}
@@ -8,8 +8,8 @@ use Rattle.std.specs.Fmt.{decimal}
 use Rattle.std.specs.Str.{bytes_eq}
 use Rattle.fab_base.specs.declared.identities.BrickId.{BrickId}
 use Rattle.fab_base.specs.Layouts.{Layout}
-use Rattle.fab_host.specs.Held.{Held, lent, here, IsMissing}
-use Rattle.fab_host.specs.Holdings.{Holdings, with_source, with_disk, with_link, with_clock}
+use Rattle.fab_host.specs.Held.{lent, here, IsMissing}
+use Rattle.fab_host.specs.Holdings.{Holdings, with_disk, with_link, with_clock}
 use Rattle.fab_host.proofs.Known.{at_name-other, at_port-other}
 use Rattle.fab_io.specs.Ends.{Rose}
 use Rattle.hosting.specs.declared.faults.HostFault.{HostFault}

@@ -1,17 +1,19 @@
--- The bricks that a process hosts stay the same bricks, in order, whatever turns they take.
-use Rattle.std.proofs.Common.{◌≡◌, ℕ, ◌<◌, arith, List, [], ◌∷◌, ◌++◌, length, Option, Err, inl, inr, refl, sym, ap, ◌∙◌, subst}
+-- The bricks that a process hosts stay the same bricks, in order, whatever turns they take, and none is halted unless its disk failed.
+use Rattle.std.proofs.Common.{◌≡◌, ℕ, ◌<◌, arith, false, List, [], ◌∷◌, ◌++◌, length, Option, Err, inl, inr, refl, sym, ap, ◌∙◌, subst}
 use Rattle.std.specs.List.{AllByRecursion}
 use Rattle.node.specs.Running.{IsSameBrick}
 use Rattle.fab_base.specs.Layouts.{Layout}
 use Rattle.serving.specs.declared.faults.ServeFault.{ServeFault}
 use Rattle.serving.specs.declared.faults.ServeFault.TheVariants as serving
 use Rattle.hosting.specs.declared.faults.HostFault.{HostFault}
+use Rattle.hosting.specs.declared.faults.HostFault.TheVariants as faults
+use Rattle.hosting.specs.Faults.{fault_of}
 use Rattle.hosting.specs.declared.hosted_bricks.TimedBricks.{TimedBricks}
 use Rattle.hosting.specs.Hosted.{Hosted, IsTurn, TakeTurns, StopTurns}
 use Rattle.hosting.specs.Hosting.{Hosts, HostsUntil, rounds_of}
 use Rattle.hosting.specs.Rounds as client
 use Rattle.hosting.specs.Rounds.{Heard, Took, AreStopped}
-use Rattle.brick.specs.Locals.{AreSame, Takes, Stops}
+use Rattle.brick.specs.Locals.{AreSame, AreRunning, Takes, Stops}
 use Rattle.brick.specs.Views.{Views}
 
 pub same_refl : {D L : Type 0} (bricks : List (Hosted D L)) → AreSame bricks bricks
@@ -115,3 +117,56 @@ module _ {D L C : Type 0} (v : Views D L C) where
         same_then before.bricks.bricks h.bricks_then.bricks.bricks after.bricks.bricks (same_took (rounds_of h.played) before h.bricks_then h.took)
         (same_then h.bricks_then.bricks.bricks h.stopped.mid.bricks.bricks after.bricks.bricks
         (same_took h.stopped.rounds h.bricks_then h.stopped.mid h.stopped.took) (same_end h.stopped.mid after fault h.stopped.stopped))
+
+-- ---- none is halted
+
+-- a turn that was stopped by no fault of the disk halts no brick
+module _ {D L C : Type 0} (v : Views D L C) where
+  run_turn : (before after : Hosted D L) (clock clock_after : C) (met : ServeFault) → (fault_of met ≡ faults.Disk → ⊥)
+      → IsTurn v.disk v.link v.clock before after clock clock_after (Err met) → after.node.brick.halted ≡ false
+  run_turn before after clock clock_after serving.Disk not t = absurd (not refl)
+  run_turn before after clock clock_after serving.Link not t = t.runs (λ e. cc)
+  run_turn before after clock clock_after serving.Clock not t = t.runs (λ e. cc)
+  run_turn before after clock clock_after serving.NoMemory not t = t.runs (λ e. cc)
+  run_turn before after clock clock_after serving.Halted not t = absurd (not refl)
+
+  run_taken : (bricks after : List (Hosted D L)) (clock clock_after : C) → TakeTurns v.disk v.link v.clock bricks after clock clock_after
+      → AreRunning after
+  run_taken [] [] clock clock_after t = tt
+  run_taken [] (y ∷ after) clock clock_after t = absurd t
+  run_taken (x ∷ bricks) [] clock clock_after t = absurd t
+  run_taken (x ∷ bricks) (y ∷ after) clock clock_after t = (t.2.runs (λ e. cc), run_taken bricks after t.0 clock_after t.3)
+
+  run_stopped : (met : ServeFault) (bricks after : List (Hosted D L)) (clock clock_after : C) → (fault_of met ≡ faults.Disk → ⊥) → AreRunning bricks
+      → StopTurns v.disk v.link v.clock met bricks after clock clock_after → AreRunning after
+  run_stopped met [] [] clock clock_after not run t = absurd t
+  run_stopped met [] (y ∷ after) clock clock_after not run t = absurd t
+  run_stopped met (x ∷ bricks) [] clock clock_after not run t = absurd t
+  run_stopped met (x ∷ bricks) (y ∷ after) clock clock_after not run (inl t) =
+      (run_turn x y clock clock_after met not t.0, subst (λ (b : List (Hosted D L)). AreRunning b) (sym t.1) run.1)
+  run_stopped met (x ∷ bricks) (y ∷ after) clock clock_after not run (inr t) =
+      (t.2.runs (λ e. cc), run_stopped met bricks after t.0 clock_after not run.1 t.3)
+
+  run_took : (rounds : List Heard) (before after : TimedBricks D L C) → AreRunning before.bricks.bricks → Took (Takes v) rounds before after
+      → AreRunning after.bricks.bricks
+  run_took [] before after run t = subst (λ (b : TimedBricks D L C). AreRunning b.bricks.bricks) (sym t) run
+  run_took (round ∷ rounds) before after run t =
+      run_took rounds t.0 after (run_taken before.bricks.bricks t.0.bricks.bricks before.clock t.0.clock t.1) t.2
+
+  run_end : (before after : TimedBricks D L C) (fault : HostFault) → (fault ≡ faults.Disk → ⊥) → AreRunning before.bricks.bricks
+      → AreStopped (Takes v) (Stops v) before after fault → AreRunning after.bricks.bricks
+  run_end before after fault not run (inl t) =
+      run_stopped t.0 before.bricks.bricks after.bricks.bricks before.clock after.clock (λ e. not (t.1 ∙ e)) run t.2
+  run_end before after fault not run (inr (other, inl is)) = subst (λ (b : TimedBricks D L C). AreRunning b.bricks.bricks) (sym is) run
+  run_end before after fault not run (inr (other, inr t)) = run_taken before.bricks.bricks after.bricks.bricks before.clock after.clock t
+
+  module _ (layout : Layout) (turns : ℕ) (source source_after out said : Option (List ℕ)) (link link_after : client.Told) (before after : TimedBricks D L C)
+      (run : AreRunning before.bricks.bricks) where
+    pub run_hosts : Hosts (Takes v) layout turns source source_after link link_after before after out said → AreRunning after.bricks.bricks
+    run_hosts h = run_took (rounds_of h.played) before after run h.took
+
+    pub run_until : (fault : HostFault) → (fault ≡ faults.Disk → ⊥)
+        → HostsUntil (Takes v) (Stops v) layout turns source source_after link link_after before after out said fault → AreRunning after.bricks.bricks
+    run_until fault not h =
+        run_end h.stopped.mid after fault not (run_took h.stopped.rounds h.bricks_then h.stopped.mid (run_took (rounds_of h.played) before h.bricks_then run h.took)
+        h.stopped.took) h.stopped.stopped

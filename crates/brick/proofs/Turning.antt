@@ -16,7 +16,8 @@ use Rattle.replica.specs.Parts.{IsFirstView}
 use Rattle.node.specs.Running.{shape_at}
 use Rattle.serving.specs.declared.faults.ServeFault.{ServeFault}
 use Rattle.serving.specs.declared.faults.ServeFault.TheVariants as faults
-use Rattle.brick.specs.declared.endings.Ending.TheVariants.{Disk}
+use Rattle.brick.specs.declared.endings.Ending.{Ending}
+use Rattle.brick.specs.declared.endings.Ending.TheVariants.{Formatted, Ended, Commanded, Usage, BadLayout, LongLayout, Source, Sink, Memory, Disk, Host, NotAStore, Worn}
 use Rattle.brick.specs.Endings.{status_of, IsDone}
 use Rattle.brick.specs.Serves.{ending_of, refusal_of, RoseAt, IsUnharmed, RefusesStore}
 use Rattle.brick.specs.Views.{Views}
@@ -101,3 +102,19 @@ not_disk_turns turns (Err faults.Halted) not = λ e. cc
 not_disk_turns turns (Err faults.Link) not = λ e. cc
 not_disk_turns turns (Err faults.Clock) not = λ e. cc
 not_disk_turns turns (Err faults.NoMemory) not = λ e. cc
+
+-- a disk failed, or not
+pub disk_or_not : (ending : Ending) → (ending ≡ Disk) ⊎ (ending ≢ Disk)
+disk_or_not Disk = inl refl
+disk_or_not (Formatted me) = inr (λ e. cc)
+disk_or_not (Ended turns malformed) = inr (λ e. cc)
+disk_or_not Commanded = inr (λ e. cc)
+disk_or_not Usage = inr (λ e. cc)
+disk_or_not (BadLayout fault) = inr (λ e. cc)
+disk_or_not LongLayout = inr (λ e. cc)
+disk_or_not Source = inr (λ e. cc)
+disk_or_not Sink = inr (λ e. cc)
+disk_or_not Memory = inr (λ e. cc)
+disk_or_not Host = inr (λ e. cc)
+disk_or_not NotAStore = inr (λ e. cc)
+disk_or_not Worn = inr (λ e. cc)

@@ -1,6 +1,7 @@
 -- What `brick local` does to its host, once the layout was found, and how it ends.
-use Rattle.std.specs.Prelude.{◌≡◌, ◌⊎◌, ℕ, zero, suc, ◌+◌, ◌-◌, ◌<◌, ◌≤◌, false, List, [], ◌∷◌, ◌++◌, codes, ⊤, Option, Result}
+use Rattle.std.specs.Prelude.{◌≡◌, ◌⊎◌, ℕ, zero, suc, ◌+◌, ◌-◌, ◌<◌, ◌≤◌, false, List, [], ◌∷◌, ◌++◌, codes, ⊤, Option}
 use Rattle.std.specs.Fmt.{decimal}
+use Rattle.std.specs.List.{AllByRecursion}
 use Rattle.fab_base.specs.declared.identities.BrickId.{BrickId}
 use Rattle.fab_base.specs.Layouts.{Layout}
 use Rattle.fab_io.specs.Ends.{Rose}
@@ -103,6 +104,10 @@ AreSame [] [] = Unit {0}
 AreSame (brick ∷ more) (after ∷ more_after) = IsSameBrick brick.node after.node × AreSame more more_after
 AreSame bricks bricks_after = ⊥
 
+-- no brick is halted
+abbrev pub AreRunning : {D L : Type 0} → List (Hosted D L) → Type 0
+AreRunning bricks = AllByRecursion (λ brick. brick.node.brick.halted ≡ false) bricks
+
 -- what is done with the bricks that were started so far, and with the host
 abbrev pub Deed : Type 0 → Type 0 → Type 0 → Type 0 → Type 1
 Deed S D L C = List (Hosted D L) → List (Hosted D L) → HostSeen S D L C → HostSeen S D L C → Type 0
@@ -116,14 +121,14 @@ HostsByLink {S} {D} {L} {C} port next before after bricks bricks_after node node
     (λ began ended. (brick brick_after : Hosted D L) × Begins brick node link × (brick_after.node ≡ node_after) × (brick_after.link ≡ back)
     × next (bricks ++ brick ∷ []) (bricks_after ++ brick_after ∷ []) began ended))
 
--- The disk's store was opened, and then the link of the brick's port was asked for. The disk is whole unless the brick is halted: it failed in a turn.
+-- The disk's store was opened, and then the link of the brick's port was asked for. The disk is whole, but where a disk failed and the brick is halted.
 pub record HostsStarted {S D L C : Type 0} (v : Views D L C) (layout : Layout) (me : BrickId) (next : Deed S D L C) (disk back : D)
     (before after : HostSeen S D L C) (bricks bricks_after : List (Hosted D L)) (out said : Option (List ℕ)) (ending : Ending) : Type 0 where
   pub node : Running D
   pub node_after : Running D
   pub started : IsStarted v layout me disk node
   pub hosts : HostsByLink (port_of (ports_of layout) me) next before after bricks bricks_after node node_after out said ending
-  pub left : IsLeft v layout me node_after back (node_after.brick.halted ≡ false)
+  pub left : IsLeft v layout me node_after back (ending ≡ Disk → node_after.brick.halted ≡ false)
 
 -- a disk was lent: its store was opened; or it was not, and nothing else was asked for
 abbrev pub HostsOver : {S D L C : Type 0} → Views D L C → Layout → BrickId → Deed S D L C → D → D → HostSeen S D L C → HostSeen S D L C

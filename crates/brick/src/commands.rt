@@ -1,12 +1,12 @@
 //! The commands of `brick local`.
 
-ghost use Rattle.std.specs.Prelude.{◌≡◌};
+ghost use Rattle.std.specs.Prelude.{◌≡◌, ◌≢◌};
 ghost use Rattle.std.specs.List.{AllByRecursion};
 ghost use Rattle.fab_io.specs.Ends.{Kept};
 ghost use Rattle.hosting.specs.Hosted.{IsSound, AreSound};
 ghost use Rattle.brick.specs.Endings.{status_of, IsDone};
 ghost use Rattle.brick.specs.Hosts.{host_seen, Told, Has, KnowsStill};
-ghost use Rattle.brick.specs.Locals.{ending_by, AreSame, RunsCommands, HostsBySource, HostsByClient, HostsByClock, HasCommands, HasClient, HasEnds};
+ghost use Rattle.brick.specs.Locals.{ending_by, AreSame, AreRunning, RunsCommands, HostsBySource, HostsByClient, HostsByClock, HasCommands, HasClient, HasEnds};
 ghost use Rattle.brick.specs.Views.{views};
 
 use crate::endings::Ending;
@@ -34,6 +34,7 @@ pub(crate) fn run_by_clock<H: Host, K: Sink>(
         (host_seen (H.faults host.old) (H.asked host.old) (H.holds host.old)) (host_seen (H.faults host.new) (H.asked host.new) (H.holds host.new))
         bricks.bricks result.0.bricks (K.told out.old) (K.told out.new) result.1 }
     ensures same { AreSame bricks.bricks result.0.bricks }
+    ensures runs_still { AreRunning bricks.bricks → result.1 ≢ Ending.Disk → AreRunning result.0.bricks }
     ensures knows { Told (H.holds host.old) (H.holds host.new) KnowsStill }
     ensures stays { H.sound host.old → AllByRecursion (IsSound H.Disk.Disk H.Link.Link H.Clock.Clock) bricks.bricks
         → H.sound host.new × AllByRecursion (IsSound H.Disk.Disk H.Link.Link H.Clock.Clock) result.0.bricks }
@@ -65,6 +66,7 @@ fn run_by_client<H: Host, K: Sink>(
         (host_seen (H.faults host.old) (H.asked host.old) (H.holds host.old)) (host_seen (H.faults host.new) (H.asked host.new) (H.holds host.new))
         bricks.old bricks.new (K.told out.old) (K.told out.new) result }
     ensures same { AreSame bricks.old.bricks.bricks bricks.new.bricks.bricks }
+    ensures runs_still { AreRunning bricks.old.bricks.bricks → result ≢ Ending.Disk → AreRunning bricks.new.bricks.bricks }
     ensures knows { Told (H.holds host.old) (H.holds host.new) KnowsStill }
     ensures stays { H.sound host.old → AreSound H.Disk.Disk H.Link.Link H.Clock.Clock bricks.old.bricks.bricks bricks.old.clock
         → H.sound host.new × AreSound H.Disk.Disk H.Link.Link H.Clock.Clock bricks.new.bricks.bricks bricks.new.clock }
@@ -95,6 +97,7 @@ fn run_by_source<H: Host, K: Sink>(
         (host_seen (H.faults host.old) (H.asked host.old) (H.holds host.old)) (host_seen (H.faults host.new) (H.asked host.new) (H.holds host.new))
         bricks.old bricks.new link.old link.new (K.told out.old) (K.told out.new) result }
     ensures same { AreSame bricks.old.bricks.bricks bricks.new.bricks.bricks }
+    ensures runs_still { AreRunning bricks.old.bricks.bricks → result ≢ Ending.Disk → AreRunning bricks.new.bricks.bricks }
     ensures knows { Told (H.holds host.old) (H.holds host.new) KnowsStill }
     ensures stays { H.sound host.old → H.sound host.new }
     ensures bricks { AreSound H.Disk.Disk H.Link.Link H.Clock.Clock bricks.old.bricks.bricks bricks.old.clock
@@ -126,6 +129,7 @@ fn run<D: Disk, L: Link, C: Clock, S: Source, K: Sink>(
     ensures runs { RunsCommands S.told S.faults (views D.Disk L.Link C.Clock) layout.now turns bricks.old bricks.new link.old link.new
         source.old source.new (K.told out.old) (K.told out.new) result }
     ensures same { AreSame bricks.old.bricks.bricks bricks.new.bricks.bricks }
+    ensures runs_still { AreRunning bricks.old.bricks.bricks → result ≢ Ending.Disk → AreRunning bricks.new.bricks.bricks }
     ensures bricks { AreSound D.Disk L.Link C.Clock bricks.old.bricks.bricks bricks.old.clock
         → AreSound D.Disk L.Link C.Clock bricks.new.bricks.bricks bricks.new.clock }
     ensures link { L.sound link.old → L.sound link.new }

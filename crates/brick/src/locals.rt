@@ -1,14 +1,14 @@
 //! `brick local`.
 
-ghost use Rattle.std.specs.Prelude.{◌≡◌, ◌<◌, ◌≤◌, ◌+◌, [], Some, false, length, IfOk, string_bytes};
+ghost use Rattle.std.specs.Prelude.{◌≡◌, ◌≢◌, ◌<◌, ◌≤◌, ◌+◌, [], ◌∷◌, ◌++◌, Some, false, length, IfOk, string_bytes};
 ghost use Rattle.std.specs.List.{AllByRecursion};
 ghost use Rattle.fab_io.specs.Ends.{Kept};
-ghost use Rattle.hosting.specs.Hosted.{TakesLast, IsSound};
+ghost use Rattle.hosting.specs.Hosted.{Hosted, Begins, TakesLast, IsSound};
 ghost use Rattle.node.specs.Running.{IsSameBrick};
 ghost use Rattle.serving.specs.Ports.{ports_of, port_of};
 ghost use Rattle.brick.specs.Endings.{status_of, IsDone};
 ghost use Rattle.brick.specs.Hosts.{host_seen, Told, Has, KnowsStill};
-ghost use Rattle.brick.specs.Locals.{disk_name, AreSame, HostsByLink, HostsOver, HostsFrom, HostsLayout, HasRest, HasBricks};
+ghost use Rattle.brick.specs.Locals.{disk_name, AreSame, AreRunning, HostsByLink, HostsOver, HostsFrom, HostsLayout, HasRest, HasBricks};
 ghost use Rattle.brick.specs.Serves.{MayStart};
 ghost use Rattle.brick.specs.Views.{views};
 
@@ -71,10 +71,12 @@ fn host_bricks<H: Host, K: Sink>(
 ) -> (HostedBricks<H::Disk, H::Link>, Ending)
     requires count { length bricks.bricks ≡ id }
     requires room { bricks.room ≡ layout.now.bricks }
+    requires running { AreRunning bricks.bricks }
     ensures hosts { HostsFrom H.Source.told H.Source.faults (views H.Disk.Disk H.Link.Link H.Clock.Clock) layout.now prefix.now turns
         (K.told out.old) (K.told out.new) result.1 id bricks.bricks result.0.bricks
         (host_seen (H.faults host.old) (H.asked host.old) (H.holds host.old)) (host_seen (H.faults host.new) (H.asked host.new) (H.holds host.new)) }
     ensures same { AreSame bricks.bricks result.0.bricks }
+    ensures runs_still { result.1 ≢ Ending.Disk → AreRunning result.0.bricks }
     ensures knows { Told (H.holds host.old) (H.holds host.new) KnowsStill }
     ensures stays { H.sound host.old → AllByRecursion (IsSound H.Disk.Disk H.Link.Link H.Clock.Clock) bricks.bricks
         → H.sound host.new × AllByRecursion (IsSound H.Disk.Disk H.Link.Link H.Clock.Clock) result.0.bricks }
@@ -119,12 +121,14 @@ fn host_store<H: Host, K: Sink>(
     requires few { layout.now.bricks ≤ 64 }
     requires count { length bricks.bricks ≡ me.0 }
     requires room { bricks.room ≡ layout.now.bricks }
+    requires running { AreRunning bricks.bricks }
     ensures hosts { HostsOver (views H.Disk.Disk H.Link.Link H.Clock.Clock) layout.now me
         (HostsFrom H.Source.told H.Source.faults (views H.Disk.Disk H.Link.Link H.Clock.Clock) layout.now prefix.now turns
         (K.told out.old) (K.told out.new) result.2 (me.0 + 1)) disk result.1
         (host_seen (H.faults host.old) (H.asked host.old) (H.holds host.old)) (host_seen (H.faults host.new) (H.asked host.new) (H.holds host.new))
         bricks.bricks result.0.bricks (K.told out.old) (K.told out.new) result.2 }
     ensures same { AreSame bricks.bricks result.0.bricks }
+    ensures runs_still { result.2 ≢ Ending.Disk → AreRunning result.0.bricks }
     ensures knows { Told (H.holds host.old) (H.holds host.new) KnowsStill }
     ensures stays { H.sound host.old → AllByRecursion (IsSound H.Disk.Disk H.Link.Link H.Clock.Clock) bricks.bricks → H.Disk.sound disk
         → H.sound host.new × AllByRecursion (IsSound H.Disk.Disk H.Link.Link H.Clock.Clock) result.0.bricks × H.Disk.sound result.1 }
@@ -161,20 +165,22 @@ fn host_link<H: Host, K: Sink>(
     requires few { layout.now.bricks ≤ 64 }
     requires count { length bricks.bricks ≡ me.0 }
     requires room { bricks.room ≡ layout.now.bricks }
+    requires running { AreRunning bricks.bricks }
+    requires runs { node.brick.halted ≡ false }
     ensures hosts { HostsByLink (port_of (ports_of layout.now) me)
         (HostsFrom H.Source.told H.Source.faults (views H.Disk.Disk H.Link.Link H.Clock.Clock) layout.now prefix.now turns
         (K.told out.old) (K.told out.new) result.2 (me.0 + 1))
         (host_seen (H.faults host.old) (H.asked host.old) (H.holds host.old)) (host_seen (H.faults host.new) (H.asked host.new) (H.holds host.new))
         bricks.bricks result.0.bricks node result.1 (K.told out.old) (K.told out.new) result.2 }
     ensures same { AreSame bricks.bricks result.0.bricks }
+    ensures runs_still { result.2 ≢ Ending.Disk → AreRunning result.0.bricks }
     ensures brick { IsSameBrick node result.1 }
+    ensures runs { result.2 ≢ Ending.Disk → result.1.brick.halted ≡ false }
     ensures knows { Told (H.holds host.old) (H.holds host.new) KnowsStill }
-    ensures stays { H.sound host.old → AllByRecursion (IsSound H.Disk.Disk H.Link.Link H.Clock.Clock) bricks.bricks → node.brick.halted ≡ false
-        → H.Disk.sound node.brick.disk
+    ensures stays { H.sound host.old → AllByRecursion (IsSound H.Disk.Disk H.Link.Link H.Clock.Clock) bricks.bricks → H.Disk.sound node.brick.disk
         → H.sound host.new × AllByRecursion (IsSound H.Disk.Disk H.Link.Link H.Clock.Clock) result.0.bricks × H.Disk.sound result.1.brick.disk }
     ensures sink { Kept (K.faults out.old) (K.faults out.new) (K.sound out.old) (K.sound out.new) (status_of result.2 ≡ 6) }
-    ensures done { H.sound host.old → AllByRecursion (IsSound H.Disk.Disk H.Link.Link H.Clock.Clock) bricks.bricks → node.brick.halted ≡ false
-        → H.Disk.sound node.brick.disk → K.sound out.old
+    ensures done { H.sound host.old → AllByRecursion (IsSound H.Disk.Disk H.Link.Link H.Clock.Clock) bricks.bricks → H.Disk.sound node.brick.disk → K.sound out.old
         → Has (H.holds host.old) (HasRest H.Disk.tells H.Disk.seen layout.now prefix.now me) → IsDone result.2 }
 {
     let port = port_of(layout, me);
@@ -182,13 +188,31 @@ fn host_link<H: Host, K: Sink>(
         Ok(link) => link,
         Err(fault) => return (bricks, node, Ending::refusal(fault)),
     };
-    let mut bricks = bricks;
-    bricks.add(node, link);
+    let bricks = with_brick(bricks, node, link);
     let (bricks, ending) = host_bricks(alloc, host, out, prefix, layout, turns, me.0 + 1, bricks);
     let mut bricks = bricks;
     let (node, link) = take_last(&mut bricks);
     host.keep_link(port, link);
     (bricks, node, ending)
+}
+
+/// Puts a brick behind these. There is room for it.
+fn with_brick<D: Disk, L: Link>(
+    bricks: HostedBricks<D, L>,
+    node: Node<D>,
+    link: L,
+) -> HostedBricks<D, L>
+    requires room { length bricks.bricks < bricks.room }
+    requires running { AreRunning bricks.bricks }
+    requires runs { node.brick.halted ≡ false }
+    ensures more { (brick : Hosted D L) × (result.bricks ≡ bricks.bricks ++ brick ∷ []) × Begins brick node link }
+    ensures count { length result.bricks ≡ length bricks.bricks + 1 }
+    ensures room { result.room ≡ bricks.room }
+    ensures running { AreRunning result.bricks }
+{
+    let mut bricks = bricks;
+    bricks.add(node, link);
+    bricks
 }
 
 /// Takes the last of these bricks away. There is one.

@@ -5,7 +5,7 @@ ghost use Rattle.fab_io.specs.Ends.{Kept};
 ghost use Rattle.node.specs.Running.{IsSameBrick, state_of, LeavesBrick};
 ghost use Rattle.serving.specs.Ports.{ports_of, port_of};
 ghost use Rattle.brick.specs.Endings.{status_of, IsDone};
-ghost use Rattle.brick.specs.Hosts.{host_seen, Told, Has};
+ghost use Rattle.brick.specs.Hosts.{host_seen, Told, Has, KnowsStill};
 ghost use Rattle.brick.specs.Layouts.{brick_of};
 ghost use Rattle.brick.specs.Serves.{ending_of, refusal_of, ServesTurns, ServesByClock, ServesByLink, ServesOver, ServesByDisk, ServesBrick, IsStarted, RefusesStore, MayStart, HasClock, HasLink, HasDisk};
 ghost use Rattle.brick.specs.Views.{views};
@@ -89,7 +89,7 @@ fn serve_store<H: Host, K: Sink>(
     ensures serves { ServesOver (views H.Disk.Disk H.Link.Link H.Clock.Clock)
         layout me turns disk result.0 (host_seen (H.faults host.old) (H.asked host.old) (H.holds host.old))
         (host_seen (H.faults host.new) (H.asked host.new) (H.holds host.new)) (K.told out.old) (K.told out.new) result.1 }
-    ensures disks { Told (H.holds host.old) (H.holds host.new) (λ h now. now.disks ≡ h.disks) }
+    ensures knows { Told (H.holds host.old) (H.holds host.new) KnowsStill }
     ensures stays { H.sound host.old → H.sound host.new }
     ensures disk { H.Disk.sound disk → H.Disk.sound result.0 }
     ensures sink { Kept (K.faults out.old) (K.faults out.new) (K.sound out.old) (K.sound out.new) (status_of result.1 ≡ 6) }
@@ -168,7 +168,7 @@ fn serve_link<H: Host, K: Sink>(
     ensures serves { ServesByLink (views H.Disk.Disk H.Link.Link H.Clock.Clock)
         turns port (host_seen (H.faults host.old) (H.asked host.old) (H.holds host.old))
         (host_seen (H.faults host.new) (H.asked host.new) (H.holds host.new)) node.old node.new (K.told out.old) (K.told out.new) result }
-    ensures disks { Told (H.holds host.old) (H.holds host.new) (λ h now. now.disks ≡ h.disks) }
+    ensures knows { Told (H.holds host.old) (H.holds host.new) KnowsStill }
     ensures stays { H.sound host.old → H.sound host.new }
     ensures same { IsSameBrick node.old node.new }
     ensures durable { H.Disk.tells → result ≢ Ending.Disk → LeavesBrick node.new.layout node.new.me (state_of node.new)
@@ -202,7 +202,7 @@ fn serve_clock<H: Host, K: Sink>(
     ensures serves { ServesByClock (views H.Disk.Disk H.Link.Link H.Clock.Clock)
         turns (host_seen (H.faults host.old) (H.asked host.old) (H.holds host.old))
         (host_seen (H.faults host.new) (H.asked host.new) (H.holds host.new)) node.old node.new link.old link.new (K.told out.old) (K.told out.new) result }
-    ensures others { Told (H.holds host.old) (H.holds host.new) (λ h now. (now.disks ≡ h.disks) × (now.links ≡ h.links)) }
+    ensures knows { Told (H.holds host.old) (H.holds host.new) KnowsStill }
     ensures stays { H.sound host.old → H.sound host.new }
     ensures same { IsSameBrick node.old node.new }
     ensures durable { H.Disk.tells → result ≢ Ending.Disk → LeavesBrick node.new.layout node.new.me (state_of node.new)

@@ -6,14 +6,17 @@ use brick::brick;
 use fab_host::OsHost;
 use fab_io::{StdSink, StdSource};
 use std::env::Env;
-use std::io::ErrorKind;
+use std::io::{BufReader, ErrorKind};
 use std::process::ExitCode;
 use std::{env, io};
 
 fn main(rt: HostRuntime) -> ExitCode {
     let mut out = StdSink::new(io::writer(&rt));
-    let input = StdSource::new(rt.reader());
-    let Ok(mut host) = OsHost::new(rt.alloc(), &rt, input) else {
+    // The commands of `brick local` are read a byte at a time.
+    let Ok(input) = BufReader::new(rt.alloc(), rt.reader()) else {
+        return ExitCode::from(NO_MEMORY);
+    };
+    let Ok(mut host) = OsHost::new(rt.alloc(), &rt, StdSource::new(input)) else {
         return ExitCode::from(NO_MEMORY);
     };
     let status = match words(&rt) {

@@ -1,10 +1,11 @@
 -- The commands were run to their end, or until a fault.
-use Rattle.std.proofs.Common.{◌≡◌, Err, inl, inr, refl, sym, ap, ◌∙◌, subst}
+use Rattle.std.proofs.Common.{Err, inl, inr, refl, sym, ap, ◌∙◌, subst}
 use Rattle.fab_io.proofs.Keeping.{Kept-narrower}
 use Rattle.brick.specs.Endings.{status_of, IsDone}
+use Rattle.brick.specs.Locals.{ending_by}
 use Rattle.brick.specs.Views.{views}
 use Rattle.brick.proofs.MayHosting.{six_is_sink, rose_by, run_done}
-use Rattle.brick.proofs.SameBricks.{same_hosts, same_until}
+use Rattle.brick.proofs.SameBricks.{same_hosts, same_until, run_hosts, run_until}
 use Rattle.brick.proofs.commands.run.Goals as goal
 
 pub returns-in-Ok-clause-runs : goal.returns-in-Ok-clause-runs
@@ -12,6 +13,9 @@ returns-in-Ok-clause-runs g c = inl (refl, c.in-Ok.ensures.hosts)
 
 pub returns-in-Ok-clause-same : goal.returns-in-Ok-clause-same
 returns-in-Ok-clause-same g c = same_hosts (views g.D.Disk g.L.Link g.C.Clock) _ _ _ _ _ _ _ _ _ _ c.in-Ok.ensures.hosts
+
+pub returns-in-Ok-clause-runs_still : goal.returns-in-Ok-clause-runs_still
+returns-in-Ok-clause-runs_still g c = λ run not. run_hosts (views g.D.Disk g.L.Link g.C.Clock) _ _ _ _ _ _ _ _ _ _ run c.in-Ok.ensures.hosts
 
 pub returns-in-Err : goal.returns-in-Err
 returns-in-Err g c =
@@ -24,6 +28,8 @@ returns-in-Err g c =
         rose_by c.in-Err.fault _ _ _ _ (λ e. ran.link.rose (ap (λ z. Err z) e)) (λ e. ran.source.rose (ap (λ z. Err z) e)),
       );
       same = same_until (views g.D.Disk g.L.Link g.C.Clock) _ _ _ _ _ _ _ _ _ _ c.in-Err.fault ran.stopped;
+      runs_still = λ run not. run_until (views g.D.Disk g.L.Link g.C.Clock) _ _ _ _ _ _ _ _ _ _ run c.in-Err.fault
+          (λ e. not (c.ending_by.ensures ∙ ap ending_by e)) ran.stopped;
       bricks = ran.bricks.stays;
       link = ran.link.stays;
       source = ran.source.stays;

@@ -1,5 +1,5 @@
 -- The client's link is lent for the commands.
-use Rattle.std.proofs.Common.{◌≡◌, Err, inl, inr, refl, sym, ap, ◌∙◌, subst}
+use Rattle.std.proofs.Common.{Err, inl, inr, refl, sym, ap, ◌∙◌, subst}
 use Rattle.fab_io.proofs.Keeping.{Kept-refl, Kept-narrower}
 use Rattle.fab_host.specs.declared.hosts.Asked.TheVariants as calls
 use Rattle.brick.specs.Endings.{status_of, IsDone}
@@ -29,6 +29,7 @@ returns-in-Err g c =
         refl,
       );
       same = same_refl c.args.bricks.now.bricks.bricks;
+      runs_still = λ run not. run;
       knows = err_knows _ _ _ _ fault said.lends;
       stays = λ s sound. (said.kept.stays s, sound);
       sink = Kept-narrower (λ e. absurd (refused_not_sink fault (ap status_of (sym c.refusal.ensures) ∙ e))) (Kept-refl _ _);
@@ -58,6 +59,7 @@ returns g c =
         },
       );
       same = ran.ensures.same;
+      runs_still = ran.ensures.runs_still;
       knows = link_borrowed _ 0 ran.new.link _ _ _ _ (lends_told _ _ _ _ _ _ c.in-Ok.ensures.lends) ran.ensures.knows
           (regains_told _ _ _ c.keep_link.ensures.holds);
       stays = λ s sound. (c.keep_link.ensures.sound (ran.ensures.link (c.in-Ok.ensures.gives s)) (ran.ensures.stays (c.in-Ok.ensures.kept.stays s)), ran.ensures.bricks sound);

@@ -1,5 +1,5 @@
 -- The clock is lent to the bricks for the commands.
-use Rattle.std.proofs.Common.{◌≡◌, ℕ, Err, inl, inr, refl, sym, ap, ◌∙◌, subst}
+use Rattle.std.proofs.Common.{ℕ, Err, inl, inr, refl, sym, ap, ◌∙◌, subst}
 use Rattle.fab_io.proofs.Keeping.{Kept-refl, Kept-narrower}
 use Rattle.fab_host.specs.declared.hosts.Asked.TheVariants as calls
 use Rattle.brick.specs.Endings.{status_of, IsDone}
@@ -31,6 +31,7 @@ returns-in-Err g c =
         refl,
       );
       same = same_refl c.args.bricks.bricks;
+      runs_still = λ run not. run;
       knows = err_knows _ _ _ _ fault said.lends;
       stays = λ s sound. (said.kept.stays s, sound);
       sink = Kept-narrower (λ e. absurd (refused_not_sink fault (ap status_of (sym c.refusal.ensures) ∙ e))) (Kept-refl _ _);
@@ -66,6 +67,7 @@ returns g c =
         },
       );
       same = ran.ensures.same;
+      runs_still = ran.ensures.runs_still;
       knows = clock_borrowed _ ran.new.bricks.clock _ _ _ _ (lends_told _ _ _ _ _ _ c.in-Ok.ensures.lends) ran.ensures.knows
           (regains_told _ _ _ c.keep_clock.ensures.holds);
       stays = λ s sound.

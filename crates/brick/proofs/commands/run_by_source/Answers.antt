@@ -1,5 +1,5 @@
 -- Standard input is lent for the commands.
-use Rattle.std.proofs.Common.{◌≡◌, Err, inl, inr, refl, sym, ap, ◌∙◌, subst}
+use Rattle.std.proofs.Common.{Err, inl, inr, refl, sym, ap, ◌∙◌, subst}
 use Rattle.fab_io.proofs.Keeping.{Kept-refl, Kept-narrower}
 use Rattle.fab_host.specs.declared.hosts.Asked.TheVariants as calls
 use Rattle.brick.specs.Endings.{status_of, IsDone}
@@ -30,6 +30,7 @@ returns-in-Err g c =
         refl,
       );
       same = same_refl c.args.bricks.now.bricks.bricks;
+      runs_still = λ run not. run;
       knows = err_knows _ _ _ _ fault said.lends;
       stays = said.kept.stays;
       bricks = λ sound. sound;
@@ -61,6 +62,7 @@ returns g c =
         },
       );
       same = ran.ensures.same;
+      runs_still = ran.ensures.runs_still;
       knows = source_borrowed _ standard_input ran.new.source _ _ _ _ (lends_told _ _ _ _ _ _ c.in-Ok.ensures.lends) (knows_same _)
           (regains_told _ _ _ c.keep_source.ensures.holds);
       stays = λ s. c.keep_source.ensures.sound (ran.ensures.source (c.in-Ok.ensures.gives s)) (c.in-Ok.ensures.kept.stays s);

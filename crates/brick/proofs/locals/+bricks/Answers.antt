@@ -1,5 +1,5 @@
 -- Each brick is started over its disk and its link, and stands behind those before it for what is done next.
-use Rattle.std.proofs.Common.{◌≡◌, ◌+◌, ◌<◌, false, [], ◌∷◌, ◌++◌, Err, inl, inr, refl, sym, ap, ◌∙◌, subst, arith}
+use Rattle.std.proofs.Common.{◌≡◌, ◌≢◌, ◌+◌, ◌<◌, false, [], ◌∷◌, ◌++◌, Err, inl, inr, refl, sym, ap, ◌∙◌, subst, arith, rules}
 use Rattle.std.specs.List.{AllByRecursion}
 use Rattle.fab_base.specs.declared.identities.BrickId.{BrickId}
 use Rattle.fab_host.specs.declared.hosts.Asked.TheVariants as calls
@@ -8,10 +8,10 @@ use Rattle.fab_host.specs.Holdings.{with_disk, with_link}
 use Rattle.fab_io.proofs.Keeping.{Kept-refl, Kept-narrower}
 use Rattle.hosting.specs.Hosted.{IsSound}
 use Rattle.serving.specs.Ports.{ports_of, port_of}
-use Rattle.brick.specs.declared.endings.Ending.TheVariants.{Memory}
+use Rattle.brick.specs.declared.endings.Ending.TheVariants.{Memory, Disk}
 use Rattle.brick.specs.Endings.{status_of, IsDone}
 use Rattle.brick.specs.Hosts.{host_seen, Told, IsRefused}
-use Rattle.brick.specs.Locals.{disk_name, AreSame, HostsFrom, HostsByDisk, HostsByLink}
+use Rattle.brick.specs.Locals.{disk_name, AreSame, AreRunning, HostsFrom, HostsByDisk, HostsByLink}
 use Rattle.brick.specs.Views.{views}
 use Rattle.brick.proofs.FromBrick.{from_next, from_last}
 use Rattle.brick.proofs.Knowing.{disk_borrowed, disk_lent, link_borrowed, link_lent, knows_same}
@@ -20,6 +20,7 @@ use Rattle.brick.proofs.MayHosting.{brick_there, disk_lends, link_lends, ends_th
 use Rattle.brick.proofs.Refusing.{err_knows, refused_by, refused_done, refused_not_sink}
 use Rattle.brick.proofs.SameBricks.{same_refl, same_last, some_last, all_more, all_last}
 use Rattle.brick.proofs.Starting.{shown_as}
+use Rattle.brick.proofs.Turning.{disk_or_not}
 use Rattle.brick.proofs.locals.+bricks.Goals as goal
 
 -- ---- host_bricks
@@ -30,6 +31,7 @@ host_bricks-returns-then-id-bricks g t c =
     record {
       hosts = from_last _ _ _ _ _ _ _ _ _ _ _ _ _ _ (omega arith) ran.hosts;
       same = ran.same;
+      runs_still = ran.runs_still (search rules);
       knows = ran.knows;
       stays = ran.stays;
       sink = ran.sink;
@@ -48,6 +50,7 @@ host_bricks-returns-in-Err g t c =
       hosts = from_next g.H.Source.Source.told g.H.Source.Source.faults v c.args.layout.now c.args.prefix.now c.args.turns out out Memory c.args.id first first
           before before (omega arith) (inl ((refl, told_same (λ h now. now ≡ h) _ (λ h. refl)), refl, refl));
       same = same_refl first;
+      runs_still = λ not. search rules;
       knows = knows_same _;
       stays = λ s sound. (s, sound);
       sink = Kept-narrower (λ e. absurd (omega (arith, e))) (Kept-refl _ _);
@@ -79,6 +82,7 @@ host_bricks-returns-in-Err-disk g t c =
             refl,
           ));
       same = same_refl c.args.bricks.bricks;
+      runs_still = λ not. search rules;
       knows = err_knows _ _ _ _ fault (said.lends refl);
       stays = λ s sound. (said.kept.stays s, sound);
       sink = Kept-narrower (λ e. absurd (refused_not_sink fault (ap status_of (sym c.refusal.ensures) ∙ e))) (Kept-refl _ _);
@@ -125,6 +129,7 @@ host_bricks-returns g t c =
             },
           )));
       same = inner.same;
+      runs_still = inner.runs_still;
       knows = disk_borrowed _ c.as_str-name.result.now hosted.result.1 _ _ _ _ lends inner.knows (regains_told _ _ _ c.keep_disk.ensures.holds);
       stays = λ s sound.
           let held = inner.stays (c.in-Ok-disk.ensures.kept.stays s) sound (c.in-Ok-disk.ensures.gives s) in
@@ -148,25 +153,30 @@ host_store-returns-in-Ok g t c =
     let disk = c.into_disk.ensures in
     let layouts = linked.brick.layout ∙ started.layout_is in
     let bricks = linked.brick.me ∙ started.me_is in
+    let node = c.host_link-bricks.result.1 in
+    let ending = c.host_link-bricks.result.2 in
+    let runs : (ending ≡ Disk → node.brick.halted ≡ false) → node.brick.halted ≡ false =
+    λ whole. elim (disk_or_not ending) [ inl failed ↦ whole failed | inr not ↦ linked.runs not ] in
     record {
       hosts = inr (record {
         node = c.in-Ok.node;
-        node_after = c.host_link-bricks.result.1;
+        node_after = node;
         started = started;
         hosts = linked.hosts;
         left = record {
           disk = disk.disk;
-          shows = λ tells runs. shown_as _ _ _ _ _ _ layouts bricks (disk.seen tells runs);
-          durable = λ tells runs image may. shown_as _ _ _ _ _ _ layouts bricks (disk.durable tells runs image may);
+          shows = λ tells whole. shown_as _ _ _ _ _ _ layouts bricks (disk.seen tells (runs whole));
+          durable = λ tells whole image may. shown_as _ _ _ _ _ _ layouts bricks (disk.durable tells (runs whole) image may);
         };
       });
       same = linked.same;
+      runs_still = linked.runs_still;
       knows = linked.knows;
       stays = λ s sound whole.
-          let after = linked.stays s sound said.runs (said.sound whole) in
+          let after = linked.stays s sound (said.sound whole) in
           (after.0, after.1, subst d.sound (sym disk.disk) after.2);
       sink = linked.sink;
-      done = λ s sound whole sink may has. linked.done s sound said.runs (said.sound whole) sink has;
+      done = λ s sound whole sink may has. linked.done s sound (said.sound whole) sink has;
     }
 
 pub host_store-returns-in-Err : goal.host_store-returns-in-Err
@@ -175,6 +185,7 @@ host_store-returns-in-Err g t c =
     record {
       hosts = inl (said.refuses, refl, refl, refl);
       same = same_refl c.args.bricks.bricks;
+      runs_still = λ not. search rules;
       knows = knows_same _;
       stays = λ s sound whole. (s, sound, said.sound whole);
       sink = Kept-narrower (λ e. absurd (said.sink e)) (Kept-refl _ _);
@@ -187,8 +198,8 @@ host_store-returns-in-Err g t c =
 pub host_link-take_last-node-requires : goal.host_link-take_last-node-requires
 host_link-take_last-node-requires g t c =
     let hosted = c.host_bricks-bricks in
-    some_last c.args.bricks.bricks hosted.result.0.bricks c.add.ensures.bricks.0
-    (subst (λ bs. AreSame bs hosted.result.0.bricks) c.add.ensures.bricks.1 hosted.ensures.same)
+    some_last c.args.bricks.bricks hosted.result.0.bricks c.with_brick-bricks.ensures.more.0
+    (subst (λ bs. AreSame bs hosted.result.0.bricks) c.with_brick-bricks.ensures.more.1 hosted.ensures.same)
 
 pub host_link-keep_link-requires : goal.host_link-keep_link-requires
 host_link-keep_link-requires g t c =
@@ -212,11 +223,13 @@ host_link-returns-in-Err g t c =
         refl,
       );
       same = same_refl c.args.bricks.bricks;
+      runs_still = λ not. search rules;
       brick = record { layout = refl; me = refl };
+      runs = λ not. search rules;
       knows = err_knows _ _ _ _ fault said.lends;
-      stays = λ s sound runs whole. (said.kept.stays s, sound, whole);
+      stays = λ s sound whole. (said.kept.stays s, sound, whole);
       sink = Kept-narrower (λ e. absurd (refused_not_sink fault (ap status_of (sym c.refusal.ensures) ∙ e))) (Kept-refl _ _);
-      done = λ s sound runs whole sink has. subst IsDone (sym c.refusal.ensures)
+      done = λ s sound whole sink has. subst IsDone (sym c.refusal.ensures)
           (refused_done (host.holds c.args.host.now) fault has (λ e. said.kept.only s (ap (λ z. Err z) e))
           (λ h p q. p.link (subst (λ n. IsMissing (h.links n)) c.port_of-port.ensures.value q)));
     }
@@ -240,9 +253,9 @@ host_link-returns g t c =
     let out = g.K.Sink.told c.args.out.now in
     let said = g.K.Sink.told hosted.new.out in
     let first = c.args.bricks.bricks in
-    let brick = c.add.ensures.bricks.0 in
-    let more = c.add.ensures.bricks.1 in
-    let begins = c.add.ensures.bricks.2 in
+    let brick = c.with_brick-bricks.ensures.more.0 in
+    let more = c.with_brick-bricks.ensures.more.1 in
+    let begins = c.with_brick-bricks.ensures.more.2 in
     let last = c.take_last-node in
     let first_after = last.new.bricks.bricks in
     let brick_after = last.ensures.0 in
@@ -253,10 +266,12 @@ host_link-returns g t c =
     let same : AreSame (first ++ (brick ∷ [])) (first_after ++ (brick_after ∷ [])) =
     subst (λ bs. AreSame (first ++ (brick ∷ [])) bs) more_after (subst (λ bs. AreSame bs hosted.result.0.bricks) more inner.same) in
     let both = same_last first first_after brick brick_after same in
-    let standing : l.sound c.in-Ok.link → AllByRecursion (IsSound d l k) first → c.args.node.brick.halted ≡ false → d.sound c.args.node.brick.disk
-    → AllByRecursion (IsSound d l k) c.add.new.self.bricks = λ linked sound runs whole.
+    let still : hosted.result.1 ≢ Disk → AreRunning first_after × (brick_after.node.brick.halted ≡ false) = λ not.
+    all_last (λ b. b.node.brick.halted ≡ false) first_after brick_after (subst (λ bs. AreRunning bs) more_after (inner.runs_still not)) in
+    let standing : l.sound c.in-Ok.link → AllByRecursion (IsSound d l k) first → d.sound c.args.node.brick.disk
+    → AllByRecursion (IsSound d l k) c.with_brick-bricks.result.bricks = λ linked sound whole.
     subst (AllByRecursion (IsSound d l k)) (sym more) (all_more (IsSound d l k) first brick sound (record {
-      runs = subst (λ n. n.brick.halted ≡ false) (sym begins.node_is) runs;
+      runs = (all_last (λ b. b.node.brick.halted ≡ false) first brick (subst (λ bs. AreRunning bs) more c.with_brick-bricks.ensures.running)).1;
       disk = subst (λ n. d.sound n.brick.disk) (sym begins.node_is) whole;
       link = subst l.sound (sym begins.link_is) linked;
     })) in
@@ -283,20 +298,22 @@ host_link-returns g t c =
         },
       ));
       same = both.0;
+      runs_still = λ not. (still not).0;
+      runs = λ not. subst (λ n. n.brick.halted ≡ false) (sym (ap (λ p. p.0) taken)) (still not).1;
       brick = record {
         layout = ap (λ p. p.0.layout) taken ∙ both.1.layout ∙ ap (λ n. n.layout) begins.node_is;
         me = ap (λ p. p.0.me) taken ∙ both.1.me ∙ ap (λ n. n.me) begins.node_is;
       };
       knows = link_borrowed _ _ last.result.1 _ _ _ _ lends inner.knows (regains_told _ _ _ c.keep_link.ensures.holds);
-      stays = λ s sound runs whole.
-          let held = inner.stays (c.in-Ok.ensures.kept.stays s) (standing (c.in-Ok.ensures.gives s) sound runs whole) in
+      stays = λ s sound whole.
+          let held = inner.stays (c.in-Ok.ensures.kept.stays s) (standing (c.in-Ok.ensures.gives s) sound whole) in
           let each = all_last (IsSound d l k) first_after brick_after (subst (AllByRecursion (IsSound d l k)) more_after held.1) in (
             c.keep_link.ensures.sound (subst l.sound (sym (ap (λ p. p.1) taken)) each.1.link) held.0,
             each.0,
             subst (λ n. d.sound n.brick.disk) (sym (ap (λ p. p.0) taken)) each.1.disk,
           );
       sink = inner.sink;
-      done = λ s sound runs whole sink has. inner.done (c.in-Ok.ensures.kept.stays s) (standing (c.in-Ok.ensures.gives s) sound runs whole) sink
+      done = λ s sound whole sink has. inner.done (c.in-Ok.ensures.kept.stays s) (standing (c.in-Ok.ensures.gives s) sound whole) sink
           (link_lends d.tells d.seen layout c.args.prefix.now me c.in-Ok.link _ _ (subst (λ p. 0 < p) c.port_of-port.ensures.value c.port_of-port.ensures.some)
           (subst (λ p. Told (host.holds c.args.host.now) (host.holds c.link.new.self) (λ h now. (h.links p ≡ here c.in-Ok.link) × (now ≡ with_link h p lent)))
           c.port_of-port.ensures.value lends) has);

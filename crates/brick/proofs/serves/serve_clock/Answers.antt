@@ -1,12 +1,12 @@
 -- The clock is lent for the turns.
 use Rattle.std.proofs.Common.{inr, refl}
 use Rattle.brick.specs.Hosts.{host_seen}
+use Rattle.brick.proofs.Knowing.{clock_borrowed, clock_lent, knows_same}
 use Rattle.brick.proofs.Lending.{lends_told, regains_told}
-use Rattle.brick.proofs.Lent.{clock_known, clock_others}
 use Rattle.brick.proofs.serves.serve_clock.Goals as goal
 
 pub keep_clock-requires : goal.keep_clock-requires
-keep_clock-requires g c = clock_known _ _ c.in-Ok.clock (lends_told _ _ _ _ _ _ c.in-Ok.ensures.lends)
+keep_clock-requires g c = clock_lent _ c.in-Ok.clock _ _ _ (lends_told _ _ _ _ _ _ c.in-Ok.ensures.lends) (knows_same _)
 
 pub returns : goal.returns
 returns g c = record {
@@ -27,7 +27,7 @@ returns g c = record {
       regains = regains_told _ _ _ c.keep_clock.ensures.holds;
     },
   );
-  others = clock_others _ _ _ c.in-Ok.clock c.serve_turns-ending.new.clock (lends_told _ _ _ _ _ _ c.in-Ok.ensures.lends)
+  knows = clock_borrowed _ c.serve_turns-ending.new.clock _ _ _ _ (lends_told _ _ _ _ _ _ c.in-Ok.ensures.lends) (knows_same _)
       (regains_told _ _ _ c.keep_clock.ensures.holds);
   stays = λ s. c.keep_clock.ensures.sound (c.serve_turns-ending.ensures.clock (c.in-Ok.ensures.gives s)) (c.in-Ok.ensures.kept.stays s);
   same = c.serve_turns-ending.ensures.same;

@@ -2,13 +2,13 @@
 use Rattle.std.proofs.Common.{inr, refl}
 use Rattle.brick.specs.Hosts.{host_seen}
 use Rattle.brick.proofs.Completing.{lent_starts}
+use Rattle.brick.proofs.Knowing.{disk_lent}
 use Rattle.brick.proofs.Lending.{lends_told, regains_told}
-use Rattle.brick.proofs.Lent.{disk_known}
 use Rattle.brick.proofs.serves.serve_disk.Goals as goal
 
 pub keep_disk-requires : goal.keep_disk-requires
 keep_disk-requires g c =
-    disk_known _ _ _ c.args.name.now c.in-Ok.disk (lends_told _ _ _ _ _ _ (c.in-Ok.ensures.lends refl)) c.serve_store-disk.ensures.disks
+    disk_lent _ c.args.name.now c.in-Ok.disk _ _ _ (lends_told _ _ _ _ _ _ (c.in-Ok.ensures.lends refl)) c.serve_store-disk.ensures.knows
 
 pub returns : goal.returns
 returns g c = record {

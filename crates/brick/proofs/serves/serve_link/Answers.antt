@@ -1,13 +1,14 @@
 -- The link is lent, and the clock asked for.
 use Rattle.std.proofs.Common.{inr}
 use Rattle.brick.specs.Hosts.{host_seen}
+use Rattle.brick.proofs.Completing.{link_clock}
+use Rattle.brick.proofs.Knowing.{link_borrowed, link_lent}
 use Rattle.brick.proofs.Lending.{lends_told, regains_told}
-use Rattle.brick.proofs.Lent.{link_known, link_others, link_clock}
 use Rattle.brick.proofs.serves.serve_link.Goals as goal
 
 pub keep_link-requires : goal.keep_link-requires
 keep_link-requires g c =
-    link_known _ _ _ c.args.port c.in-Ok.link (lends_told _ _ _ _ _ _ c.in-Ok.ensures.lends) c.serve_clock-ending.ensures.others
+    link_lent _ c.args.port c.in-Ok.link _ _ _ (lends_told _ _ _ _ _ _ c.in-Ok.ensures.lends) c.serve_clock-ending.ensures.knows
 
 pub returns : goal.returns
 returns g c = record {
@@ -28,8 +29,8 @@ returns g c = record {
       regains = regains_told _ _ _ c.keep_link.ensures.holds;
     },
   );
-  disks = link_others _ _ _ _ c.args.port c.in-Ok.link c.serve_clock-ending.new.link (lends_told _ _ _ _ _ _ c.in-Ok.ensures.lends)
-      c.serve_clock-ending.ensures.others (regains_told _ _ _ c.keep_link.ensures.holds);
+  knows = link_borrowed _ c.args.port c.serve_clock-ending.new.link _ _ _ _ (lends_told _ _ _ _ _ _ c.in-Ok.ensures.lends)
+      c.serve_clock-ending.ensures.knows (regains_told _ _ _ c.keep_link.ensures.holds);
   stays = λ s. c.keep_link.ensures.sound (c.serve_clock-ending.ensures.link (c.in-Ok.ensures.gives s)) (c.serve_clock-ending.ensures.stays (c.in-Ok.ensures.kept.stays s));
   same = c.serve_clock-ending.ensures.same;
   durable = c.serve_clock-ending.ensures.durable;

@@ -1,12 +1,12 @@
 -- A store was opened, and the brick serves; or it was refused.
-use Rattle.std.proofs.Common.{◌≡◌, ◌≢◌, ℕ, inl, inr, refl, sym, ◌∙◌, subst}
+use Rattle.std.proofs.Common.{◌≢◌, ℕ, inl, inr, refl, sym, ◌∙◌, subst}
 use Rattle.fab_io.proofs.Keeping.{Kept-refl, Kept-narrower}
 use Rattle.node.specs.Running.{state_of, LeavesBrick}
 use Rattle.brick.specs.declared.endings.Ending.TheVariants.{Disk}
 use Rattle.brick.specs.Hosts.{Has, host_seen}
 use Rattle.brick.specs.Serves.{ServesByLink, HasLink}
 use Rattle.brick.specs.Views.{views}
-use Rattle.brick.proofs.Lending.{told_same}
+use Rattle.brick.proofs.Knowing.{knows_same}
 use Rattle.brick.proofs.Starting.{shown_as}
 use Rattle.brick.proofs.serves.serve_store.Goals as goal
 
@@ -39,7 +39,7 @@ returns-in-Ok g c =
           durable = λ tells not image may. shown_as _ _ _ _ _ _ layouts bricks (left tells not image may);
         };
       });
-      disks = served.disks;
+      knows = served.knows;
       stays = served.stays;
       disk = λ s. subst d.sound (sym c.into_disk.ensures.disk) (served.disk (c.in-Ok.ensures.sound s));
       sink = served.sink;
@@ -52,7 +52,7 @@ returns g c =
     let said = c.in-Err.ensures in
     record {
       serves = inl (said.refuses, refl, refl);
-      disks = told_same (λ h now. now.disks ≡ h.disks) _ (λ h. refl);
+      knows = knows_same _;
       stays = λ s. s;
       disk = said.sound;
       sink = Kept-narrower (λ e. absurd (said.sink e)) (Kept-refl _ _);
