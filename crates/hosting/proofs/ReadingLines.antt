@@ -1,5 +1,5 @@
 -- Reading a line, byte by byte.
-use Rattle.std.proofs.Common.{◌≡◌, ℕ, zero, suc, ◌+◌, ◌-◌, ◌*◌, ◌<◌, ◌≤◌, false, List, [], ◌∷◌, ◌++◌, length, take, Option, Ok, Err, refl, sym, ap, ◌∙◌, arith}
+use Rattle.std.proofs.Common.{◌≡◌, ℕ, zero, suc, ◌+◌, ◌-◌, ◌*◌, ◌<◌, ◌≤◌, true, false, List, [], ◌∷◌, ◌++◌, length, take, Option, Some, None, Ok, Err, refl, sym, ap, subst, ◌∙◌, arith, inl, inr}
 use Rattle.std.specs.Io.KnownBytes.{Consumes, Keeps, IsAtEnd}
 use Rattle.std.proofs.KnownBytes.{Consumes-nil, Consumes-trans, Consumes-kept, Keeps-refl}
 use Rattle.std.proofs.lemmas.List.{length-append, length-take, take_all, take_at}
@@ -7,8 +7,8 @@ use Rattle.std.proofs.lemmas.Bool.Decides.{nat_tests}
 use Rattle.std.proofs.lemmas.List.Folds.{list_any-append}
 use Rattle.lines.specs.Lines.{is_line_feed}
 use Rattle.hosting.specs.declared.faults.HostFault.{HostFault}
-use Rattle.hosting.specs.declared.reading.Taken.TheVariants.{Whole, Last, Ended, OutOfTurns}
-use Rattle.hosting.specs.Reading.{turn_bytes, most_kept, AreTurnsOf, HasNoFeed, Reads, ReadsLine, IsReading}
+use Rattle.hosting.specs.declared.reading.LineRead.{LineRead}
+use Rattle.hosting.specs.Reading.{turn_bytes, most_kept, AreTurnsOf, HasNoFeed, Reads, ReadsLine, IsReading, IsLine, IsLast}
 
 HasNoFeed-more : (bytes : List ℕ) (byte : ℕ) → HasNoFeed bytes → is_line_feed byte ≡ false → HasNoFeed (bytes ++ (byte ∷ []))
 HasNoFeed-more bytes byte none more =
@@ -81,13 +81,13 @@ ReadsLine-lost turns now paid then paid_then byte told before after kept fault h
 
 -- no turn is left
 pub ReadsLine-out : (turns now paid : ℕ) (told before : Option (List ℕ)) (kept : List ℕ) → IsReading turns now paid told before kept → paid ≡ 0 → now ≡ 0
-    → ReadsLine turns now told before (Ok OutOfTurns)
+    → ReadsLine turns now told before (Ok None)
 ReadsLine-out turns now paid told before kept h none left =
     record {
       line = h.line;
       taken = turns - now;
       reads = Reads-now turns now paid told before before kept h (Keeps-refl before);
-      answers = (h.no_feed, left, omega (arith, h.pays, none, left));
+      answers = inr (h.no_feed, left, omega (arith, h.pays, none, left));
     }
 
 -- no byte was left
@@ -95,39 +95,49 @@ empty_line : (line kept : List ℕ) → kept ≡ take most_kept line → length 
 empty_line [] kept same none = refl
 empty_line (b ∷ line) kept same none = absurd (omega (arith, ap length same, length-take most_kept (b ∷ line), none))
 
-pub ReadsLine-ended : (turns now paid : ℕ) (told before after : Option (List ℕ)) (kept : List ℕ) → IsReading turns now paid told before kept
-    → Keeps before after → IsAtEnd after → length kept ≡ 0 → ReadsLine turns now told after (Ok Ended)
+ReadsLine-ended : (turns now paid : ℕ) (told before after : Option (List ℕ)) (kept : List ℕ) → IsReading turns now paid told before kept
+    → Keeps before after → IsAtEnd after → length kept ≡ 0 → ReadsLine turns now told after (Ok None)
 ReadsLine-ended turns now paid told before after kept h keeps end none =
     record {
       line = h.line;
       taken = turns - now;
       reads = Reads-now turns now paid told before after kept h keeps;
-      answers = (empty_line h.line kept h.kept_is none, end);
+      answers = inl (empty_line h.line kept h.kept_is none, end);
     }
 
-pub ReadsLine-last : (turns now paid : ℕ) (told before after : Option (List ℕ)) (kept made : List ℕ) → IsReading turns now paid told before kept
-    → Keeps before after → IsAtEnd after → 1 ≤ length kept → made ≡ kept → ReadsLine turns now told after (Ok (Last made))
-ReadsLine-last turns now paid told before after kept made h keeps end some same =
+ReadsLine-last : (turns now paid : ℕ) (told before after : Option (List ℕ)) (kept : List ℕ) (read : LineRead) → IsReading turns now paid told before kept
+    → Keeps before after → IsAtEnd after → 1 ≤ length kept → read.kept ≡ kept → read.is_last ≡ true → ReadsLine turns now told after (Ok (Some read))
+ReadsLine-last turns now paid told before after kept read h keeps end some same last =
     record {
       line = h.line;
       taken = turns - now;
       reads = Reads-now turns now paid told before after kept h keeps;
-      answers = (same ∙ h.kept_is, h.no_feed, omega (arith, ap length h.kept_is, length-take most_kept h.line, some), end);
+      answers = (
+        same ∙ h.kept_is,
+        subst (IsLine after h.line) (sym last) (h.no_feed, omega (arith, ap length h.kept_is, length-take most_kept h.line, some), end),
+      );
     }
 
+-- the source is at its end
+pub ReadsLine-end : (turns now paid : ℕ) (told before after : Option (List ℕ)) (kept : List ℕ) (last : Option LineRead) → IsReading turns now paid told before kept
+    → Keeps before after → IsAtEnd after → IsLast kept last → ReadsLine turns now told after (Ok last)
+ReadsLine-end turns now paid told before after kept None h keeps end is = ReadsLine-ended turns now paid told before after kept h keeps end is
+ReadsLine-end turns now paid told before after kept (Some read) h keeps end is =
+    ReadsLine-last turns now paid told before after kept read h keeps end is.0 is.1 is.2
+
 -- a line feed was read
-pub ReadsLine-whole : (turns now paid then paid_then byte : ℕ) (told before after : Option (List ℕ)) (kept kept_then made : List ℕ)
+pub ReadsLine-whole : (turns now paid then paid_then byte : ℕ) (told before after : Option (List ℕ)) (kept kept_then : List ℕ) (read : LineRead)
     → IsReading turns now paid told before kept → Consumes before after (byte ∷ []) → then * turn_bytes + paid_then + 1 ≡ now * turn_bytes + paid
-    → paid_then < turn_bytes → kept_then ≡ take most_kept (kept ++ (byte ∷ [])) → byte ≡ 10 → made ≡ kept_then
-    → ReadsLine turns then told after (Ok (Whole made))
-ReadsLine-whole turns now paid then paid_then byte told before after kept kept_then made h came pays few keeps feed same =
+    → paid_then < turn_bytes → kept_then ≡ take most_kept (kept ++ (byte ∷ [])) → byte ≡ 10 → read.kept ≡ kept_then
+    → read.is_last ≡ false → ReadsLine turns then told after (Ok (Some read))
+ReadsLine-whole turns now paid then paid_then byte told before after kept kept_then read h came pays few keeps feed same more =
     record {
       line = h.line ++ (byte ∷ []);
       taken = turns - then;
       reads = Reads-one turns now paid then paid_then byte told before after kept h came pays few;
       answers = (
         same ∙ keeps ∙ ap (λ (l : List ℕ). take most_kept (l ++ (byte ∷ []))) h.kept_is ∙ take-more most_kept h.line byte,
-        (h.line, h.no_feed, ap (λ (b : ℕ). h.line ++ (b ∷ [])) feed),
+        subst (IsLine after (h.line ++ (byte ∷ []))) (sym more) (h.line, h.no_feed, ap (λ (b : ℕ). h.line ++ (b ∷ [])) feed),
       );
     }
 

@@ -22,7 +22,7 @@ use Rattle.hosting.specs.Answers.{bad_line_text}
 use Rattle.hosting.specs.Commands.{line_of}
 use Rattle.hosting.specs.Hosting.{Played, Progression, beginning, Outcome, reads, text_of, printed, is_none, is_waiting, outcome_of, HasRounds, after_line, IsPlayed, after_lines, ArePlayed, bytes_of, rounds_of, RunsLine, Hosts}
 use Rattle.serving.specs.Datagrams.{Looked}
-use Rattle.hosting.specs.Reading.{most_kept, AreTurnsOf, HasNoFeed, IsWhole, Reads}
+use Rattle.hosting.specs.Reading.{most_kept, AreTurnsOf, HasNoFeed, IsWhole, IsLine, Gives, Reads}
 use Rattle.hosting.specs.Commanded.{opened, asking}
 use Rattle.hosting.specs.Rounds.{Heard, IsOpen, after_rounds, came_in, Took, Told, EndsAs, RunsCommand}
 use Rattle.hosting.proofs.CommandLines.{line_of-long}
@@ -300,7 +300,7 @@ Hosts-line takes layout turns source source_now source_then link link_now link_t
     (Consumes-nil source_then) refl AreTurnsOf-none runs.used (elim ends [ inl end ↦ inl (refl, end) | inr none ↦ inr none ])
 
 -- no line is left
-pub Hosts-ended : {A : Type 0} (takes : A → A → Type 0) (layout : Layout) (turns : ℕ) (source source_now source_then : Option (List ℕ)) (link link_now : Told)
+Hosts-ended : {A : Type 0} (takes : A → A → Type 0) (layout : Layout) (turns : ℕ) (source source_now source_then : Option (List ℕ)) (link link_now : Told)
     (bricks bricks_now : A) (sink sink_now : Option (List ℕ)) (left left_read number sent taken : ℕ) (line : List ℕ)
     → HasRun takes layout turns source source_now link link_now bricks bricks_now sink sink_now left number sent false false
     → Reads left left_read source_now source_then line taken → line ≡ [] → IsAtEnd source_then
@@ -310,7 +310,7 @@ Hosts-ended takes layout turns source source_now source_then link link_now brick
     read.consumes (ap (list_any is_line_feed) none) read.turns_of (λ e. let never : false ≡ true = e in absurd cc) (inl (none, end))
 
 -- no turn is left
-pub Hosts-out : {A : Type 0} (takes : A → A → Type 0) (layout : Layout) (turns : ℕ) (source source_now source_then : Option (List ℕ)) (link link_now : Told)
+Hosts-out : {A : Type 0} (takes : A → A → Type 0) (layout : Layout) (turns : ℕ) (source source_now source_then : Option (List ℕ)) (link link_now : Told)
     (bricks bricks_now : A) (sink sink_now : Option (List ℕ)) (left left_read number sent taken : ℕ) (line : List ℕ)
     → HasRun takes layout turns source source_now link link_now bricks bricks_now sink sink_now left number sent false false
     → Reads left left_read source_now source_then line taken → HasNoFeed line → left_read ≡ 0
@@ -318,3 +318,28 @@ pub Hosts-out : {A : Type 0} (takes : A → A → Type 0) (layout : Layout) (tur
 Hosts-out takes layout turns source source_now source_then link link_now bricks bricks_now sink sink_now left left_read number sent taken line h read none out =
     Hosts-over takes layout turns source source_now source_then link link_now bricks bricks_now sink sink_now left number sent taken line false false h
     read.consumes none read.turns_of (λ e. let never : false ≡ true = e in absurd cc) (inr (omega (arith, read.counted, out)))
+
+-- nothing more was read that is run
+pub Hosts-none : {A : Type 0} (takes : A → A → Type 0) (layout : Layout) (turns : ℕ) (source source_now source_then : Option (List ℕ)) (link link_now : Told)
+    (bricks bricks_now : A) (sink sink_now : Option (List ℕ)) (left left_read number sent taken : ℕ) (line : List ℕ)
+    → HasRun takes layout turns source source_now link link_now bricks bricks_now sink sink_now left number sent false false
+    → Reads left left_read source_now source_then line taken → Gives left_read source_then line taken None
+    → Hosts takes layout turns source source_then link link_now bricks bricks_now sink sink_now
+Hosts-none takes layout turns source source_now source_then link link_now bricks bricks_now sink sink_now left left_read number sent taken line h read gives =
+    elim gives [
+      | inl ended ↦ Hosts-ended takes layout turns source source_now source_then link link_now bricks bricks_now sink sink_now left left_read number sent taken line h read ended.0 ended.1
+      | inr out ↦ Hosts-out takes layout turns source source_now source_then link link_now bricks bricks_now sink sink_now left left_read number sent taken line h read out.0 out.1
+    ]
+
+-- what a line that was read is
+pub line-read : (told : Option (List ℕ)) (line : List ℕ) (is_last : Bool) → IsLine told line is_last → IsWhole line ⊎ (HasNoFeed line × (1 ≤ length line))
+line-read told line false is = inl is
+line-read told line true is = inr (is.0, is.1)
+
+pub last-end : (told : Option (List ℕ)) (line : List ℕ) (is_last : Bool) → IsLine told line is_last → is_last ≡ true → IsAtEnd told
+last-end told line true is same = is.2
+last-end told line false is same = absurd cc
+
+pub line-whole : (told : Option (List ℕ)) (line : List ℕ) (is_last : Bool) → IsLine told line is_last → is_last ≡ false → IsWhole line
+line-whole told line false is same = is
+line-whole told line true is same = absurd cc

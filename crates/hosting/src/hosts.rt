@@ -12,7 +12,7 @@ ghost use Rattle.hosting.specs.Rounds.{KeepsBricks, told};
 use crate::answers::{answer_text, bad_line_text};
 use crate::commands::{Access, Line, parse};
 use crate::faults::HostFault;
-use crate::reading::{Taken, read_line};
+use crate::reading::read_line;
 use crate::rounds::{Bricks, run_command};
 use fab_io::{IoFault, Link, Sink, Source};
 use front::RangeAnswer;
@@ -142,43 +142,24 @@ fn run_lines<B: Bricks, L: Link, S: Source, K: Sink>(
     let mut sent = 0;
     let mut number = 0;
     loop {
-        match read_line(alloc, source, &mut left)? {
-            Taken::Whole(line) => {
-                number += 1;
-                let waits = run_line(
-                    alloc,
-                    layout,
-                    bricks,
-                    link,
-                    room,
-                    sink,
-                    &mut sent,
-                    &mut left,
-                    number,
-                    line.as_slice(),
-                )?;
-                if waits {
-                    return Ok(());
-                }
-            }
-            Taken::Last(line) => {
-                number += 1;
-                let _waits = run_line(
-                    alloc,
-                    layout,
-                    bricks,
-                    link,
-                    room,
-                    sink,
-                    &mut sent,
-                    &mut left,
-                    number,
-                    line.as_slice(),
-                )?;
-                return Ok(());
-            }
-            Taken::Ended => return Ok(()),
-            Taken::OutOfTurns => return Ok(()),
+        let Some(line) = read_line(alloc, source, &mut left)? else {
+            return Ok(());
+        };
+        number += 1;
+        let waits = run_line(
+            alloc,
+            layout,
+            bricks,
+            link,
+            room,
+            sink,
+            &mut sent,
+            &mut left,
+            number,
+            line.kept.as_slice(),
+        )?;
+        if waits || line.is_last {
+            return Ok(());
         }
     }
 }

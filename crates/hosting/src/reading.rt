@@ -4,7 +4,7 @@ ghost use Rattle.std.specs.Prelude.{◌≡◌, ◌≢◌, ◌+◌, ◌*◌, ◌<
 ghost use Rattle.std.specs.Io.KnownBytes.{Consumes, Keeps, IsAtEnd};
 ghost use Rattle.fab_io.specs.Ends.{Kept};
 ghost use Rattle.hosting.specs.Faults.{AtSource};
-ghost use Rattle.hosting.specs.Reading.{ReadsLine};
+ghost use Rattle.hosting.specs.Reading.{ReadsLine, IsLast};
 
 use crate::faults::HostFault;
 use fab_base::{Bytes, NoMem};
@@ -17,17 +17,13 @@ const TURN_BYTES: u64 = 70_000;
 /// How many bytes of a line are kept. One that has more is longer than a command may be.
 const MOST_KEPT: usize = 70_003;
 
-/// An answer to the question for the next line.
+/// A line that was read.
 #[derive(Drop)]
-pub enum Taken {
-    /// The first 70,003 bytes of the next line, which ends with its line feed.
-    Whole(Bytes),
-    /// The same of the last line, which lacks its line feed: the source is at its end.
-    Last(Bytes),
-    /// No line is left.
-    Ended,
-    /// No turn is left for the next byte, if there is one.
-    OutOfTurns,
+pub struct LineRead {
+    /// Its first 70,003 bytes.
+    pub kept: Bytes,
+    /// Whether it lacks its line feed: the source is at its end.
+    pub is_last: bool,
 }
 
 /// The next byte of the source, if one is left.
@@ -60,12 +56,12 @@ fn pay(turns: &mut u64, paid: &mut u64)
 }
 
 /// Reads the next line. A turn is taken as its first byte is read, and one more for each further 70,000 bytes begun; with no turn left, no byte
-/// that would take one is read.
+/// that would take one is read. `None` where no line is left, or no turn for the next byte, if there is one.
 pub(crate) fn read_line<S: Source>(
     alloc: Global,
     source: &mut S,
     turns: &mut u64,
-) -> Result<Taken, HostFault>
+) -> Result<Option<LineRead>, HostFault>
     ensures reads { ReadsLine turns.old turns.new (S.told source.old) (S.told source.new) result }
     ensures only { IfErr result AtSource }
     ensures kept { Kept (S.faults source.old) (S.faults source.new) (S.sound source.old) (S.sound source.new) (result ≡ Err HostFault.Source) }
@@ -74,20 +70,35 @@ pub(crate) fn read_line<S: Source>(
     let mut paid = 0;
     loop {
         if paid == 0 && *turns == 0 {
-            return Ok(Taken::OutOfTurns);
+            return Ok(None);
         }
         let Some(byte) = read_byte(source)? else {
-            if line.is_empty() {
-                return Ok(Taken::Ended);
-            }
-            return Ok(Taken::Last(Bytes::from_vec(line)));
+            return Ok(last_line(line));
         };
         pay(turns, &mut paid);
         keep(&mut line, byte)?;
         if byte == b'\n' {
-            return Ok(Taken::Whole(Bytes::from_vec(line)));
+            let kept = Bytes::from_vec(line);
+            return Ok(Some(LineRead {
+                kept,
+                is_last: false,
+            }));
         }
     }
+}
+
+/// What was kept of the last line, where the source ends; `None` where that is nothing.
+fn last_line(line: Vec<u8>) -> Option<LineRead>
+    ensures { IsLast line.items result }
+{
+    if line.is_empty() {
+        return None;
+    }
+    let kept = Bytes::from_vec(line);
+    Some(LineRead {
+        kept,
+        is_last: true,
+    })
 }
 
 /// Keeps one more byte of a line, where there is room for it.

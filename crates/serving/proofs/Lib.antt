@@ -1,9 +1,18 @@
+mod Asking
 pub mod Carried
+mod CodeSizes
+mod Deciding
 mod DiskKeeping
 mod Doing
 mod Ends
+mod Everywhere
+mod Fitting
 pub mod Looks
+mod Members
 mod OneTurn
 mod Runs
+mod Shown
+mod Spelled
+mod Stepping
 mod Taking
 mod Waiting

@@ -1,5 +1,5 @@
 -- What a datagram is to a brick.
-use Rattle.std.specs.Prelude.{◌≡◌, ◌⊎◌, ℕ, List, Option, Some, None}
+use Rattle.std.specs.Prelude.{◌≡◌, ◌⊎◌, ◌<◌, ◌^◌, ℕ, List, Option, Some, None}
 use Rattle.fab_base.specs.declared.asks.Ask.{Ask}
 use Rattle.fab_base.specs.declared.asks.Op.{Op}
 use Rattle.fab_base.specs.declared.asks.Op.TheVariants as op
@@ -38,9 +38,10 @@ incoming_of ports me port (message.Client asked) = Asked (record { id = asked.id
 incoming_of ports me port (message.ClientReply id answer) = Dropped
 incoming_of ports me port other = handed me other (brick_at ports port)
 
--- what a look gave is nothing; or the message that the datagram's bytes spell; or they spell none
+-- What a look gave is nothing; or, of a datagram from a port that there is, the message that its bytes spell; or they spell none.
 abbrev pub IsIncoming : Ports → BrickId → Option Datagram → Incoming → Type 0
 IsIncoming ports me None incoming = incoming ≡ Nothing
 IsIncoming ports me (Some datagram) incoming =
-    ((said : Message) × Spells datagram.bytes said × (incoming ≡ incoming_of ports me datagram.port said))
-    ⊎ (((said : Message) → Spells datagram.bytes said → ⊥) × (incoming ≡ Malformed))
+    (datagram.port < 2 ^ 16)
+    × (((said : Message) × Spells datagram.bytes said × (incoming ≡ incoming_of ports me datagram.port said))
+    ⊎ (((said : Message) → Spells datagram.bytes said → ⊥) × (incoming ≡ Malformed)))

@@ -1,11 +1,13 @@
 -- The turns of a serving brick, one after another.
-use Rattle.std.specs.Prelude.{ℕ, ◌+◌, List, [], ◌∷◌, ◌++◌, map, Option}
+use Rattle.std.specs.Prelude.{◌≡◌, ℕ, ◌+◌, true, List, [], ◌∷◌, ◌++◌, map, Option}
+use Rattle.std.specs.List.{list_all}
 use Rattle.fab_base.specs.declared.identities.BrickId.{BrickId}
 use Rattle.fab_io.specs.declared.links.Datagram.{Datagram}
 use Rattle.messages.specs.declared.packets.Message.{Message}
 use Rattle.protocol.specs.Settings.{Setting}
 use Rattle.serving.specs.declared.incomings.Incoming.{Incoming}
 use Rattle.serving.specs.declared.incomings.Incoming.TheVariants.{Malformed}
+use Rattle.serving.specs.Datagrams.{can_send}
 use Rattle.serving.specs.Incomings.{IsIncoming}
 use Rattle.serving.specs.Ports.{ports_of}
 use Rattle.serving.specs.Servings.{Serving, Served, served}
@@ -31,6 +33,10 @@ abbrev pub sends_of : Setting → BrickId → Serving → List Turn → List (�
 sends_of setting me serving [] = []
 sends_of setting me serving (turn ∷ turns) =
     let step : Served = served setting me serving turn.incoming turn.now in step.sends ++ sends_of setting me step.serving turns
+
+-- whatever comes in turns, each message that they send can be sent
+abbrev pub AllCanBeSent : Setting → BrickId → Serving → Type 0
+AllCanBeSent setting me serving = (turns : List Turn) → AreRead setting me turns → list_all can_send (sends_of setting me serving turns) ≡ true
 
 -- what looks at the link gave in turns, and the moments that the clock gave
 abbrev pub came_in : List Turn → List (Option Datagram)

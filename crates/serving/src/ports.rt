@@ -1,6 +1,7 @@
 //! The UDP ports of bricks.
 
 ghost use Rattle.std.specs.Prelude.{◌≡◌, ◌<◌, ◌+◌, ◌^◌};
+ghost use Rattle.layout.specs.Limits.{IsLayout};
 ghost use Rattle.serving.specs.Ports.{ports_of, port_of, brick_at};
 
 use fab_base::BrickId;
@@ -18,7 +19,8 @@ pub struct Ports {
 impl Ports {
     /// The ports of this layout's bricks.
     pub fn of(layout: &Layout) -> Ports
-        ensures { result ≡ ports_of layout.now }
+        ensures value { result ≡ ports_of layout.now }
+        ensures limits { IsLayout layout.now }
     {
         Ports {
             first: layout.port(),

@@ -10,7 +10,7 @@ ghost use Rattle.serving.specs.Faults.{AtLink};
 ghost use Rattle.serving.specs.Sending.{addressed, replies};
 ghost use Rattle.serving.specs.Servers.{KeepsAllButClients};
 ghost use Rattle.serving.specs.Servings.{answer_to, answers_for, begun, still_waiting};
-ghost use Rattle.serving.specs.Views.{serving_of, IsServerOf};
+ghost use Rattle.serving.specs.Views.{serving_of, IsServerOf, SendsAll};
 
 use crate::clients::{Client, Clients};
 use crate::faults::ServeFault;
@@ -41,6 +41,8 @@ impl Server {
     pub fn new<D: Disk>(alloc: Global, node: &Node<D>) -> Server
         ensures server { IsServerOf result node.now }
         ensures begins { serving_of result node.now ≡ begun (state_of node.now) }
+        // Where an image of a disk shows the brick, and no operation of it is open, each message of the turns that follow can be sent.
+        ensures spelled { SendsAll node.now }
     {
         Server {
             alloc,

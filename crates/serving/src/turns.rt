@@ -7,7 +7,7 @@ ghost use Rattle.stripe_code.specs.Codes.{coding};
 ghost use Rattle.node.specs.Running.{state_of, IsSameBrick, LeavesBrick};
 ghost use Rattle.serving.specs.Serves.{outside, TakesTurn, IsServed};
 ghost use Rattle.serving.specs.Servings.{HasNoClient, begun};
-ghost use Rattle.serving.specs.Views.{serving_of, IsServerOf};
+ghost use Rattle.serving.specs.Views.{serving_of, IsServerOf, SendsAll};
 
 use crate::faults::ServeFault;
 use crate::incomings::malformed_count;
@@ -63,7 +63,8 @@ impl Server {
 /// came, there is a tick if the reading is at least 100 above that of the last tick, 0 at first. The sender of a message is the brick whose
 /// port it came from; a message from another port, and a client's answer, are dropped. A client's invocation may come from any port, and is
 /// answered there: at once where the brick refuses it, else when its operation ends. Each message that the brick sends goes to the port of
-/// its receiver as one datagram.
+/// its receiver as one datagram. One without a spelling, or for a port past 65,535, would not be sent: a brick that an image of a disk shows,
+/// and that has no operation open when it is called, has none, whatever comes.
 ///
 /// # Errors
 ///
@@ -79,6 +80,8 @@ pub fn serve<D: Disk, L: Link, C: Clock>(
 ) -> Result<u64, ServeFault>
     ensures served { node.old.brick.halted ≡ false → IsServed (coding node.old.layout) node.old.me (state_of node.old) (state_of node.new)
         (outside (L.waiting link.old) (L.sent link.old) (C.coming clock.old)) (outside (L.waiting link.new) (L.sent link.new) (C.coming clock.new)) turns result }
+    // Where an image of a disk shows the brick, and no operation of it is open, each message can be sent, whatever datagrams come.
+    ensures spelled { node.old.brick.halted ≡ false → SendsAll node.old }
     ensures same { IsSameBrick node.old node.new }
     // A brick that is not halted is not, unless its disk failed.
     ensures runs { node.old.brick.halted ≡ false → result ≢ Err ServeFault.Disk → node.new.brick.halted ≡ false }
@@ -115,6 +118,7 @@ fn serve_turns<D: Disk, L: Link, C: Clock>(
     requires runs { node.old.brick.halted ≡ false }
     ensures served { IsServed (coding node.old.layout) node.old.me (state_of node.old) (state_of node.new)
         (outside (L.waiting link.old) (L.sent link.old) (C.coming clock.old)) (outside (L.waiting link.new) (L.sent link.new) (C.coming clock.new)) turns result }
+    ensures spelled { SendsAll node.old }
     ensures same { IsSameBrick node.old node.new }
     ensures runs { result ≢ Err ServeFault.Disk → node.new.brick.halted ≡ false }
     ensures disk { disks.Kept (D.faults node.old.brick.disk) (D.faults node.new.brick.disk) (D.sound node.old.brick.disk)
@@ -122,8 +126,8 @@ fn serve_turns<D: Disk, L: Link, C: Clock>(
     ensures link { Kept (L.faults link.old) (L.faults link.new) (L.sound link.old) (L.sound link.new) (result ≡ Err ServeFault.Link) }
     ensures clock { Kept (C.faults clock.old) (C.faults clock.new) (C.sound clock.old) (C.sound clock.new) (result ≡ Err ServeFault.Clock) }
 {
-    let mut room = vec![in alloc; 0u8; MOST_BYTES]?;
     let server = Server::new(alloc, node);
+    let mut room = vec![in alloc; 0u8; MOST_BYTES]?;
     take_turns(server, node, link, clock, room.as_mut_slice(), turns)
 }
 

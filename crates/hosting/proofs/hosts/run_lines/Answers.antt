@@ -6,9 +6,10 @@ use Rattle.hosting.specs.declared.faults.HostFault.TheVariants.{ClientLink, Sour
 use Rattle.hosting.specs.Hosting.{HostsUntil}
 use Rattle.hosting.specs.Rounds.{KeepsBricks, told}
 use Rattle.hosting.proofs.Exits.{was_met, not_said, ok_not, source-not_link, source-not_sink, line-not_source}
-use Rattle.hosting.proofs.Running.{HasRun-none, HasRun-whole, Hosts-line, Hosts-ended, Hosts-out, some_turn, some_byte}
+use Rattle.hosting.proofs.Running.{HasRun-none, HasRun-whole, Hosts-line, Hosts-none, some_turn, some_byte, line-read, last-end, line-whole}
 use Rattle.hosting.proofs.Stopping.{source-other, at_exit, Keeps, Keeps-later, Keeps-moved, HostsUntil-read, HostsUntil-line}
 use Rattle.hosting.proofs.hosts.run_lines.Goals as goal
+use Rattle.hosting.proofs.hosts.run_lines.Goals.{then-waits-via-then-waits, then-waits-via-else-waits+then-line}
 
 pub loop-line-init : goal.loop-line-init
 loop-line-init g c = record {
@@ -37,30 +38,52 @@ returns-in_err-line-clause-sink g c =
     let q = err_from_is_err_and c.from_residual.result c.from_residual.ensures.1 in
     Kept-narrower (not_said _ _ _ Sink q.1 q.2 (source-not_sink _ c.in_err-line.ensures.only)) c.loop-line.invariant.sink
 
-pub returns-in_err-waits-in-Whole-clause-link : goal.returns-in_err-waits-in-Whole-clause-link
-returns-in_err-waits-in-Whole-clause-link g c =
-    let q = err_from_is_err_and c.from_residual-in_err-waits-in-Whole.result c.from_residual-in_err-waits-in-Whole.ensures.1 in
+pub returns-in_err-waits-clause-link : goal.returns-in_err-waits-clause-link
+returns-in_err-waits-clause-link g c =
+    let q = err_from_is_err_and c.from_residual-in_err-waits.result c.from_residual-in_err-waits.ensures.1 in
     Kept-trans c.loop-line.invariant.link
-    (Kept-narrower (λ e. ap (λ (f : HostFault). Err f) (was_met _ _ _ _ q.1 q.2 e)) c.in_err-waits-in-Whole.ensures.link)
+    (Kept-narrower (λ e. ap (λ (f : HostFault). Err f) (was_met _ _ _ _ q.1 q.2 e)) c.in_err-waits.ensures.link)
 
-pub returns-in_err-waits-in-Whole-clause-source : goal.returns-in_err-waits-in-Whole-clause-source
-returns-in_err-waits-in-Whole-clause-source g c =
-    let q = err_from_is_err_and c.from_residual-in_err-waits-in-Whole.result c.from_residual-in_err-waits-in-Whole.ensures.1 in
-    Kept-narrower (not_said _ _ _ Source q.1 q.2 (line-not_source _ c.in_err-waits-in-Whole.ensures.only))
+pub returns-in_err-waits-clause-source : goal.returns-in_err-waits-clause-source
+returns-in_err-waits-clause-source g c =
+    let q = err_from_is_err_and c.from_residual-in_err-waits.result c.from_residual-in_err-waits.ensures.1 in
+    Kept-narrower (not_said _ _ _ Source q.1 q.2 (line-not_source _ c.in_err-waits.ensures.only))
     (Kept-trans c.loop-line.invariant.source (Kept-calm c.read_line.ensures.kept))
 
-pub returns-in_err-waits-in-Whole-clause-sink : goal.returns-in_err-waits-in-Whole-clause-sink
-returns-in_err-waits-in-Whole-clause-sink g c =
-    let q = err_from_is_err_and c.from_residual-in_err-waits-in-Whole.result c.from_residual-in_err-waits-in-Whole.ensures.1 in
+pub returns-in_err-waits-clause-sink : goal.returns-in_err-waits-clause-sink
+returns-in_err-waits-clause-sink g c =
+    let q = err_from_is_err_and c.from_residual-in_err-waits.result c.from_residual-in_err-waits.ensures.1 in
     Kept-trans c.loop-line.invariant.sink
-    (Kept-narrower (λ e. ap (λ (f : HostFault). Err f) (was_met _ _ _ _ q.1 q.2 e)) c.in_err-waits-in-Whole.ensures.sink)
+    (Kept-narrower (λ e. ap (λ (f : HostFault). Err f) (was_met _ _ _ _ q.1 q.2 e)) c.in_err-waits.ensures.sink)
+
+pub returns-in_default-clause-hosts : goal.returns-in_default-clause-hosts
+returns-in_default-clause-hosts g c =
+    let read = rw c.in_default.is at c.in_ok-line.ensures.reads in
+    Hosts-none _ _ _ _ _ _ _ _ _ _ _ _ _ _ _ _ _ _ c.loop-line.invariant.run read.reads read.answers
+
+pub returns-in_default-clause-link : goal.returns-in_default-clause-link
+returns-in_default-clause-link g c = Kept-narrower (ok_not _ ClientLink) c.loop-line.invariant.link
+
+pub returns-in_default-clause-source : goal.returns-in_default-clause-source
+returns-in_default-clause-source g c =
+    Kept-narrower (ok_not _ Source) (Kept-trans c.loop-line.invariant.source (Kept-calm c.read_line.ensures.kept))
+
+pub returns-in_default-clause-sink : goal.returns-in_default-clause-sink
+returns-in_default-clause-sink g c = Kept-narrower (ok_not _ Sink) c.loop-line.invariant.sink
+
+pub returns-in_default-clause-bricks : goal.returns-in_default-clause-bricks
+returns-in_default-clause-bricks g c = Keeps g.B.Bricks.sound _ _ _ c.loop-line.invariant.stays tt
 
 pub returns-then-waits-clause-hosts : goal.returns-then-waits-clause-hosts
 returns-then-waits-clause-hosts g c =
-    let read = rw c.in-Whole.is at c.in_ok-line.ensures.reads in
-    let runs = c.in_ok-waits-in-Whole.ensures.runs in
+    let read = rw c.in-Some.is at c.in_ok-line.ensures.reads in
+    let runs = c.in_ok-waits.ensures.runs in
     Hosts-line _ _ _ _ _ _ (told (g.L.Link.waiting c.args.link.now) (g.L.Link.sent c.args.link.now)) _ _ _ _ _ _ _ _ _ _ _ _ _ _ _ _ _ _ c.loop-line.invariant.run read.reads
-    (c.as_slice.ensures.value ∙ read.answers.0) (inl read.answers.1) runs (inr (runs.used c.if-waits.true))
+    (c.as_slice.ensures.value ∙ read.answers.0) (line-read _ _ _ read.answers.1) runs
+    (elim c.then-waits.branch [
+      | then-waits-via-then-waits w ↦ inr (runs.used w.if-waits.true)
+      | then-waits-via-else-waits+then-line w ↦ inl (last-end _ _ _ read.answers.1 w.if-line.true)
+    ])
 
 pub returns-then-waits-clause-link : goal.returns-then-waits-clause-link
 returns-then-waits-clause-link g c =
@@ -74,88 +97,26 @@ pub returns-then-waits-clause-sink : goal.returns-then-waits-clause-sink
 returns-then-waits-clause-sink g c =
     Kept-narrower (ok_not _ Sink) (Kept-trans c.loop-line.invariant.sink (Kept-calm c.run_line.ensures.sink))
 
+pub returns-then-waits-clause-bricks : goal.returns-then-waits-clause-bricks
+returns-then-waits-clause-bricks g c =
+    Keeps g.B.Bricks.sound _ _ _ (λ s. c.run_line.ensures.bricks.stays (c.loop-line.invariant.stays s)) tt
+
 pub loop-line-preserved : goal.loop-line-preserved
 loop-line-preserved g c =
-    let read = rw c.in-Whole.is at c.in_ok-line.ensures.reads in
-    let runs = c.in_ok-waits-in-Whole.ensures.runs in
-    let turn = some_turn _ _ read.reads.turns_of (some_byte _ read.answers.1) in
+    let read = rw c.in-Some.is at c.in_ok-line.ensures.reads in
+    let runs = c.in_ok-waits.ensures.runs in
+    let whole = line-whole _ _ _ read.answers.1 c.if-line.false in
+    let turn = some_turn _ _ read.reads.turns_of (some_byte _ whole) in
     record {
       run = HasRun-whole _ _ _ _ _ _ (told (g.L.Link.waiting c.args.link.now) (g.L.Link.sent c.args.link.now)) _ _ _ _ _ _ _ _ _ _ _ _ _ _ _ _ _ _ c.loop-line.invariant.run read.reads
-          (c.as_slice.ensures.value ∙ read.answers.0) read.answers.1 runs c.if-waits.false;
+          (c.as_slice.ensures.value ∙ read.answers.0) whole runs c.if-waits.false;
       stays = λ s. c.run_line.ensures.bricks.stays (c.loop-line.invariant.stays s);
-      sent_few = omega (arith, c.loop-line.invariant.sent_few, c.in_ok-waits-in-Whole.ensures.few, read.reads.counted, turn);
+      sent_few = omega (arith, c.loop-line.invariant.sent_few, c.in_ok-waits.ensures.few, read.reads.counted, turn);
       few = omega (arith, c.loop-line.invariant.few, read.reads.counted, runs.counted, turn);
       link = Kept-trans c.loop-line.invariant.link (Kept-calm c.run_line.ensures.link);
       source = Kept-trans c.loop-line.invariant.source (Kept-calm c.read_line.ensures.kept);
       sink = Kept-trans c.loop-line.invariant.sink (Kept-calm c.run_line.ensures.sink);
     }
-
-pub returns-in_err-_waits-in-Last-clause-link : goal.returns-in_err-_waits-in-Last-clause-link
-returns-in_err-_waits-in-Last-clause-link g c =
-    let q = err_from_is_err_and c.from_residual-in_err-_waits-in-Last.result c.from_residual-in_err-_waits-in-Last.ensures.1 in
-    Kept-trans c.loop-line.invariant.link
-    (Kept-narrower (λ e. ap (λ (f : HostFault). Err f) (was_met _ _ _ _ q.1 q.2 e)) c.in_err-_waits-in-Last.ensures.link)
-
-pub returns-in_err-_waits-in-Last-clause-source : goal.returns-in_err-_waits-in-Last-clause-source
-returns-in_err-_waits-in-Last-clause-source g c =
-    let q = err_from_is_err_and c.from_residual-in_err-_waits-in-Last.result c.from_residual-in_err-_waits-in-Last.ensures.1 in
-    Kept-narrower (not_said _ _ _ Source q.1 q.2 (line-not_source _ c.in_err-_waits-in-Last.ensures.only))
-    (Kept-trans c.loop-line.invariant.source (Kept-calm c.read_line.ensures.kept))
-
-pub returns-in_err-_waits-in-Last-clause-sink : goal.returns-in_err-_waits-in-Last-clause-sink
-returns-in_err-_waits-in-Last-clause-sink g c =
-    let q = err_from_is_err_and c.from_residual-in_err-_waits-in-Last.result c.from_residual-in_err-_waits-in-Last.ensures.1 in
-    Kept-trans c.loop-line.invariant.sink
-    (Kept-narrower (λ e. ap (λ (f : HostFault). Err f) (was_met _ _ _ _ q.1 q.2 e)) c.in_err-_waits-in-Last.ensures.sink)
-
-pub returns-in-Last-clause-hosts : goal.returns-in-Last-clause-hosts
-returns-in-Last-clause-hosts g c =
-    let read = rw c.in-Last.is at c.in_ok-line.ensures.reads in
-    let runs = c.in_ok-_waits-in-Last.ensures.runs in
-    Hosts-line _ _ _ _ _ _ (told (g.L.Link.waiting c.args.link.now) (g.L.Link.sent c.args.link.now)) _ _ _ _ _ _ _ _ _ _ _ _ _ _ _ _ _ _ c.loop-line.invariant.run read.reads
-    (c.as_slice-in-Last.ensures.value ∙ read.answers.0) (inr (read.answers.1, read.answers.2)) runs (inl read.answers.3)
-
-pub returns-in-Last-clause-link : goal.returns-in-Last-clause-link
-returns-in-Last-clause-link g c =
-    Kept-narrower (ok_not _ ClientLink) (Kept-trans c.loop-line.invariant.link (Kept-calm c.run_line-in-Last.ensures.link))
-
-pub returns-in-Last-clause-source : goal.returns-in-Last-clause-source
-returns-in-Last-clause-source g c =
-    Kept-narrower (ok_not _ Source) (Kept-trans c.loop-line.invariant.source (Kept-calm c.read_line.ensures.kept))
-
-pub returns-in-Last-clause-sink : goal.returns-in-Last-clause-sink
-returns-in-Last-clause-sink g c =
-    Kept-narrower (ok_not _ Sink) (Kept-trans c.loop-line.invariant.sink (Kept-calm c.run_line-in-Last.ensures.sink))
-
-pub returns-in-Ended-clause-hosts : goal.returns-in-Ended-clause-hosts
-returns-in-Ended-clause-hosts g c =
-    let read = rw c.in-Ended.is at c.in_ok-line.ensures.reads in
-    Hosts-ended _ _ _ _ _ _ _ _ _ _ _ _ _ _ _ _ _ _ c.loop-line.invariant.run read.reads read.answers.0 read.answers.1
-
-pub returns-in-Ended-clause-link : goal.returns-in-Ended-clause-link
-returns-in-Ended-clause-link g c = Kept-narrower (ok_not _ ClientLink) c.loop-line.invariant.link
-
-pub returns-in-Ended-clause-source : goal.returns-in-Ended-clause-source
-returns-in-Ended-clause-source g c =
-    Kept-narrower (ok_not _ Source) (Kept-trans c.loop-line.invariant.source (Kept-calm c.read_line.ensures.kept))
-
-pub returns-in-Ended-clause-sink : goal.returns-in-Ended-clause-sink
-returns-in-Ended-clause-sink g c = Kept-narrower (ok_not _ Sink) c.loop-line.invariant.sink
-
-pub returns-in-OutOfTurns-clause-hosts : goal.returns-in-OutOfTurns-clause-hosts
-returns-in-OutOfTurns-clause-hosts g c =
-    let read = rw c.in-OutOfTurns.is at c.in_ok-line.ensures.reads in
-    Hosts-out _ _ _ _ _ _ _ _ _ _ _ _ _ _ _ _ _ _ c.loop-line.invariant.run read.reads read.answers.0 read.answers.1
-
-pub returns-in-OutOfTurns-clause-link : goal.returns-in-OutOfTurns-clause-link
-returns-in-OutOfTurns-clause-link g c = Kept-narrower (ok_not _ ClientLink) c.loop-line.invariant.link
-
-pub returns-in-OutOfTurns-clause-source : goal.returns-in-OutOfTurns-clause-source
-returns-in-OutOfTurns-clause-source g c =
-    Kept-narrower (ok_not _ Source) (Kept-trans c.loop-line.invariant.source (Kept-calm c.read_line.ensures.kept))
-
-pub returns-in-OutOfTurns-clause-sink : goal.returns-in-OutOfTurns-clause-sink
-returns-in-OutOfTurns-clause-sink g c = Kept-narrower (ok_not _ Sink) c.loop-line.invariant.sink
 
 -- ---- where it is stopped
 
@@ -179,58 +140,23 @@ returns-in_err-line-clause-bricks g c =
     at_exit c.from_residual.result met (KeepsBricks g.B.Bricks.sound c.args.bricks.now c.loop-line.bricks) q.0 q.1 q.2
     (Keeps g.B.Bricks.sound _ _ (Err met) c.loop-line.invariant.stays (source-other met c.in_err-line.ensures.only))
 
-pub returns-in_err-waits-in-Whole-clause-stopped : goal.returns-in_err-waits-in-Whole-clause-stopped
-returns-in_err-waits-in-Whole-clause-stopped g c =
-    let q = err_from_is_err_and c.from_residual-in_err-waits-in-Whole.result c.from_residual-in_err-waits-in-Whole.ensures.1 in
-    let read = rw c.in-Whole.is at c.in_ok-line.ensures.reads in
+pub returns-in_err-waits-clause-stopped : goal.returns-in_err-waits-clause-stopped
+returns-in_err-waits-clause-stopped g c =
+    let q = err_from_is_err_and c.from_residual-in_err-waits.result c.from_residual-in_err-waits.ensures.1 in
+    let read = rw c.in-Some.is at c.in_ok-line.ensures.reads in
     let before = told (g.L.Link.waiting c.args.link.now) (g.L.Link.sent c.args.link.now) in
     let now = told (g.L.Link.waiting c.loop-line.link) (g.L.Link.sent c.loop-line.link) in
     let after = told (g.L.Link.waiting c.run_line.new.link) (g.L.Link.sent c.run_line.new.link) in
-    let met = c.in_err-waits-in-Whole.field-0.0 in
-    at_exit c.from_residual-in_err-waits-in-Whole.result met
+    let met = c.in_err-waits.field-0.0 in
+    at_exit c.from_residual-in_err-waits.result met
     (λ r. IfErr r (HostsUntil g.B.Bricks.takes g.B.Bricks.stops c.args.layout.now c.args.turns (g.S.Source.told c.args.source.now) (g.S.Source.told c.read_line.new.source)
     before after c.args.bricks.now c.run_line.new.bricks (g.K.Sink.told c.args.sink.now) (g.K.Sink.told c.run_line.new.sink))) q.0 q.1 q.2
     (HostsUntil-line g.B.Bricks.takes g.B.Bricks.stops c.args.layout.now c.args.turns _ _ _ before now after _ _ _ _ _ _ _ _ _ _ _ _ _ met c.loop-line.invariant.run
-    read.reads (c.as_slice.ensures.value ∙ read.answers.0) c.in_err-waits-in-Whole.ensures.stopped)
+    read.reads (c.as_slice.ensures.value ∙ read.answers.0) c.in_err-waits.ensures.stopped)
 
-pub returns-in_err-waits-in-Whole-clause-bricks : goal.returns-in_err-waits-in-Whole-clause-bricks
-returns-in_err-waits-in-Whole-clause-bricks g c =
-    let q = err_from_is_err_and c.from_residual-in_err-waits-in-Whole.result c.from_residual-in_err-waits-in-Whole.ensures.1 in
-    let met = c.in_err-waits-in-Whole.field-0.0 in
-    at_exit c.from_residual-in_err-waits-in-Whole.result met (KeepsBricks g.B.Bricks.sound c.args.bricks.now c.run_line.new.bricks) q.0 q.1 q.2
-    (Keeps-later g.B.Bricks.sound _ c.loop-line.bricks _ (Err met) c.loop-line.invariant.stays (Keeps-moved g.B.Bricks.sound _ _ met c.in_err-waits-in-Whole.ensures.bricks))
-
-pub returns-then-waits-clause-bricks : goal.returns-then-waits-clause-bricks
-returns-then-waits-clause-bricks g c =
-    Keeps g.B.Bricks.sound _ _ _ (λ s. c.run_line.ensures.bricks.stays (c.loop-line.invariant.stays s)) tt
-
-pub returns-in_err-_waits-in-Last-clause-stopped : goal.returns-in_err-_waits-in-Last-clause-stopped
-returns-in_err-_waits-in-Last-clause-stopped g c =
-    let q = err_from_is_err_and c.from_residual-in_err-_waits-in-Last.result c.from_residual-in_err-_waits-in-Last.ensures.1 in
-    let read = rw c.in-Last.is at c.in_ok-line.ensures.reads in
-    let before = told (g.L.Link.waiting c.args.link.now) (g.L.Link.sent c.args.link.now) in
-    let now = told (g.L.Link.waiting c.loop-line.link) (g.L.Link.sent c.loop-line.link) in
-    let after = told (g.L.Link.waiting c.run_line-in-Last.new.link) (g.L.Link.sent c.run_line-in-Last.new.link) in
-    let met = c.in_err-_waits-in-Last.field-0.0 in
-    at_exit c.from_residual-in_err-_waits-in-Last.result met
-    (λ r. IfErr r (HostsUntil g.B.Bricks.takes g.B.Bricks.stops c.args.layout.now c.args.turns (g.S.Source.told c.args.source.now) (g.S.Source.told c.read_line.new.source)
-    before after c.args.bricks.now c.run_line-in-Last.new.bricks (g.K.Sink.told c.args.sink.now) (g.K.Sink.told c.run_line-in-Last.new.sink))) q.0 q.1 q.2
-    (HostsUntil-line g.B.Bricks.takes g.B.Bricks.stops c.args.layout.now c.args.turns _ _ _ before now after _ _ _ _ _ _ _ _ _ _ _ _ _ met c.loop-line.invariant.run
-    read.reads (c.as_slice-in-Last.ensures.value ∙ read.answers.0) c.in_err-_waits-in-Last.ensures.stopped)
-
-pub returns-in_err-_waits-in-Last-clause-bricks : goal.returns-in_err-_waits-in-Last-clause-bricks
-returns-in_err-_waits-in-Last-clause-bricks g c =
-    let q = err_from_is_err_and c.from_residual-in_err-_waits-in-Last.result c.from_residual-in_err-_waits-in-Last.ensures.1 in
-    let met = c.in_err-_waits-in-Last.field-0.0 in
-    at_exit c.from_residual-in_err-_waits-in-Last.result met (KeepsBricks g.B.Bricks.sound c.args.bricks.now c.run_line-in-Last.new.bricks) q.0 q.1 q.2
-    (Keeps-later g.B.Bricks.sound _ c.loop-line.bricks _ (Err met) c.loop-line.invariant.stays (Keeps-moved g.B.Bricks.sound _ _ met c.in_err-_waits-in-Last.ensures.bricks))
-
-pub returns-in-Last-clause-bricks : goal.returns-in-Last-clause-bricks
-returns-in-Last-clause-bricks g c =
-    Keeps g.B.Bricks.sound _ _ _ (λ s. c.run_line-in-Last.ensures.bricks.stays (c.loop-line.invariant.stays s)) tt
-
-pub returns-in-Ended-clause-bricks : goal.returns-in-Ended-clause-bricks
-returns-in-Ended-clause-bricks g c = Keeps g.B.Bricks.sound _ _ _ c.loop-line.invariant.stays tt
-
-pub returns-in-OutOfTurns-clause-bricks : goal.returns-in-OutOfTurns-clause-bricks
-returns-in-OutOfTurns-clause-bricks g c = Keeps g.B.Bricks.sound _ _ _ c.loop-line.invariant.stays tt
+pub returns-in_err-waits-clause-bricks : goal.returns-in_err-waits-clause-bricks
+returns-in_err-waits-clause-bricks g c =
+    let q = err_from_is_err_and c.from_residual-in_err-waits.result c.from_residual-in_err-waits.ensures.1 in
+    let met = c.in_err-waits.field-0.0 in
+    at_exit c.from_residual-in_err-waits.result met (KeepsBricks g.B.Bricks.sound c.args.bricks.now c.run_line.new.bricks) q.0 q.1 q.2
+    (Keeps-later g.B.Bricks.sound _ c.loop-line.bricks _ (Err met) c.loop-line.invariant.stays (Keeps-moved g.B.Bricks.sound _ _ met c.in_err-waits.ensures.bricks))

@@ -1,11 +1,11 @@
-use Rattle.std.proofs.Common.{◌≡◌, false, length, ap, arith}
+use Rattle.std.proofs.Common.{◌≡◌, false, length, refl, ap, arith}
 use Rattle.std.proofs.lemmas.Bool.Decides.{nat_tests}
 use Rattle.std.proofs.lemmas.List.{length-take}
 use Rattle.fab_io.proofs.Keeping.{Kept-trans, Kept-calm}
 use Rattle.lines.specs.Lines.{is_line_feed}
 use Rattle.hosting.specs.Reading.{ReadsLine, most_kept}
 use Rattle.hosting.proofs.Exits.{at_err}
-use Rattle.hosting.proofs.ReadingLines.{IsReading-more, ReadsLine-failed, ReadsLine-lost, ReadsLine-out, ReadsLine-ended, ReadsLine-last, ReadsLine-whole}
+use Rattle.hosting.proofs.ReadingLines.{IsReading-more, ReadsLine-failed, ReadsLine-lost, ReadsLine-out, ReadsLine-end, ReadsLine-whole}
 use Rattle.hosting.proofs.reading.read_line.Goals as goal
 
 pub returns-then-turns-eq0-clause-reads : goal.returns-then-turns-eq0-clause-reads
@@ -18,17 +18,10 @@ returns-in_err-byte-clause-reads g c =
     (ReadsLine c.args.turns.now c.loop-paid.turns (g.S.Source.told c.args.source.now) (g.S.Source.told c.read_byte.new.source))
     (λ fault. ReadsLine-failed _ _ _ _ _ _ _ fault c.loop-paid.invariant.reading c.in_err-byte.ensures.same) c.from_residual.ensures.0
 
-pub returns-then-is_empty-clause-reads : goal.returns-then-is_empty-clause-reads
-returns-then-is_empty-clause-reads g c =
-    let came = rw c.in_default.is at c.in_ok-byte.ensures.came in
-    let none : length c.loop-paid.line.items ≡ 0 = grind (arith, nat_tests, c.is_empty.ensures, c.if-is_empty.true) in
-    ReadsLine-ended _ _ _ _ _ _ _ c.loop-paid.invariant.reading came.0 came.1 none
-
 pub returns-in_default-clause-reads : goal.returns-in_default-clause-reads
 returns-in_default-clause-reads g c =
     let came = rw c.in_default.is at c.in_ok-byte.ensures.came in
-    ReadsLine-last _ _ _ _ _ _ _ _ c.loop-paid.invariant.reading came.0 came.1
-    (grind (arith, nat_tests, c.is_empty.ensures, c.if-is_empty.false)) c.from_vec.ensures
+    ReadsLine-end _ _ _ _ _ _ _ _ c.loop-paid.invariant.reading came.0 came.1 c.last_line.ensures
 
 pub keep-requires : goal.keep-requires
 keep-requires g c =
@@ -46,7 +39,7 @@ pub returns-then-byte-eq10-clause-reads : goal.returns-then-byte-eq10-clause-rea
 returns-then-byte-eq10-clause-reads g c =
     let came = rw c.in-Some.is at c.in_ok-byte.ensures.came in
     ReadsLine-whole _ _ _ _ _ _ _ _ _ _ _ _ c.loop-paid.invariant.reading came c.pay.ensures.pays c.pay.ensures.few c.in_ok-keep.ensures
-    c.if-byte-eq10.true c.from_vec-then-byte-eq10.ensures
+    c.if-byte-eq10.true c.from_vec-kept.ensures refl
 
 pub loop-paid-preserved : goal.loop-paid-preserved
 loop-paid-preserved g c =
