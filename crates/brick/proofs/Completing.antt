@@ -11,9 +11,9 @@ use Rattle.fab_host.specs.Holdings.{Holdings, with_disk, IsFree}
 use Rattle.fab_host.specs.Opening.{WhereTold}
 use Rattle.serving.specs.Ports.{ports_of, port_of}
 use Rattle.brick.specs.declared.endings.Ending.{Ending}
-use Rattle.brick.specs.declared.endings.Ending.TheVariants.{Formatted, Ended, Usage, BadLayout, LongLayout, Source, Sink, Memory, Disk, Host, NotAStore, Worn}
+use Rattle.brick.specs.declared.endings.Ending.TheVariants.{Formatted, Ended, Commanded, Usage, BadLayout, LongLayout, Source, Sink, Memory, Disk, Host, NotAStore, Worn}
 use Rattle.brick.specs.declared.words.Work.{Work}
-use Rattle.brick.specs.declared.words.Work.TheVariants.{Format, Serve}
+use Rattle.brick.specs.declared.words.Work.TheVariants.{Format, Serve, Local}
 use Rattle.brick.specs.Bricks.{MayDo, MayRun}
 use Rattle.brick.specs.Endings.{IsDone}
 use Rattle.brick.specs.Formats.{FormatsBrick}
@@ -23,13 +23,13 @@ use Rattle.brick.specs.Serves.{MayStart, HasDisk, HasLink}
 use Rattle.brick.proofs.Lending.{has_apart}
 
 -- what is here is one thing
-here_same : {T : Type 0} (held : Held T) (a b : T) → held ≡ here a → held ≡ here b → a ≡ b
+pub here_same : {T : Type 0} (held : Held T) (a b : T) → held ≡ here a → held ≡ here b → a ≡ b
 here_same held a b is same = cc
 
 here_absent : {T : Type 0} (held : Held T) (a : T) → held ≡ here a → held ≡ absent → ⊥
 here_absent held a is gone = cc
 
-here_missing : {T : Type 0} (held : Held T) (a : T) → held ≡ here a → IsMissing held → ⊥
+pub here_missing : {T : Type 0} (held : Held T) (a : T) → held ≡ here a → IsMissing held → ⊥
 here_missing held a is missing = subst IsMissing is missing
 
 ok_same : {A B : Type 0} (r : Result A B) (a b : A) → r ≡ Ok a → r ≡ Ok b → a ≡ b
@@ -39,17 +39,17 @@ ok_err : {A B : Type 0} (r : Result A B) (a : A) (b : B) → r ≡ Ok a → r �
 ok_err r a b is same = cc
 
 -- what the source that was read tells is the text that is held
-text_said : {S D L C : Type 0} (told : S → Option (List ℕ)) (h n : Holdings S D L C) (source : List ℕ) (id : ℕ) (layout : Layout) (opened back : S)
-    (P : List ℕ → Type 0) → ReturnsSource source opened back h n → (m : HoldsLayout told h source id layout) → IfSome (told opened) P → P m.text
-text_said told h n source id layout opened back P r m said =
+text_said : {S D L C : Type 0} (told : S → Option (List ℕ)) (h n : Holdings S D L C) (source : List ℕ) (layout : Layout) (opened back : S)
+    (P : List ℕ → Type 0) → ReturnsSource source opened back h n → (m : HoldsLayout told h source layout) → IfSome (told opened) P → P m.text
+text_said told h n source layout opened back P r m said =
     subst (λ (o : Option (List ℕ)). IfSome o P) (ap told (here_same (h.sources source) opened m.opened r.was m.held) ∙ m.tells) said
 
 -- and the layout is the one that is found
-layout_same : {S D L C : Type 0} (told : S → Option (List ℕ)) (h n : Holdings S D L C) (source : List ℕ) (id : ℕ) (layout found : Layout)
-    (opened back : S) → ReturnsSource source opened back h n → (m : HoldsLayout told h source id layout) → IfSome (told opened) (Says (Ok found))
+pub layout_same : {S D L C : Type 0} (told : S → Option (List ℕ)) (h n : Holdings S D L C) (source : List ℕ) (layout found : Layout)
+    (opened back : S) → ReturnsSource source opened back h n → (m : HoldsLayout told h source layout) → IfSome (told opened) (Says (Ok found))
     → layout ≡ found
-layout_same told h n source id layout found opened back r m said =
-    ok_same (layout_of m.text) layout found m.says.1 (text_said told h n source id layout opened back (Says (Ok found)) r m said).1
+layout_same told h n source layout found opened back r m said =
+    ok_same (layout_of m.text) layout found m.says.1 (text_said told h n source layout opened back (Says (Ok found)) r m said).1
 
 -- the name of a disk is free still
 free_still : {S D L C : Type 0} (h n : Holdings S D L C) (source disk : List ℕ) (opened back : S) → ReturnsSource source opened back h n
@@ -78,14 +78,15 @@ disk_still tells seen layout me h n source name opened back r has = record {
   };
 }
 
--- a layout is held, whichever brick it is for
+-- a layout is held
 abbrev IsHeld : {S D L C : Type 0} → (S → Option (List ℕ)) → List ℕ → Holdings S D L C → Type 0
-IsHeld told source h = (id : ℕ) × ((layout : Layout) × HoldsLayout told h source id layout)
+IsHeld told source h = (layout : Layout) × HoldsLayout told h source layout
 
 held_by : {S D L C : Type 0} (told : S → Option (List ℕ)) (tells : Type 0) (seen : D → List ℕ) (h : Holdings S D L C) (source name : List ℕ) (work : Work)
     → MayDo told tells seen h source name work → IsHeld told source h
-held_by told tells seen h source name (Format id) m = (id, (m.layout, m.holds))
-held_by told tells seen h source name (Serve id turns) m = (id, (m.layout, m.holds))
+held_by told tells seen h source name (Format id) m = (m.layout, m.holds)
+held_by told tells seen h source name (Serve id turns) m = (m.layout, m.holds)
+held_by told tells seen h source name (Local turns) m = (m.layout, m.holds)
 
 has_held : {S D L C : Type 0} (told : S → Option (List ℕ)) (tells : Type 0) (seen : D → List ℕ) (holds : Option (Holdings S D L C)) (source name : List ℕ)
     (work : Work) → MayRun told tells seen holds (Some (record { layout = source; name = name; work = work })) → Has holds (IsHeld told source)
@@ -99,7 +100,7 @@ no_fault : {S D L C : Type 0} (told : S → Option (List ℕ)) (holds now : Opti
 no_fault told None now source opened back P r has said apart = has
 no_fault told (Some h) None source opened back P r has said apart = r
 no_fault told (Some h) (Some n) source opened back P r has said apart =
-    apart has.1.1.text has.1.0 has.1.1.says (text_said told h n source has.0 has.1.0 opened back P r has.1.1 said)
+    apart has.1.text has.0 has.1.says (text_said told h n source has.0 opened back P r has.1 said)
 
 -- so it is found, or memory was lacking
 pub found_done : {S D L C : Type 0} (told : S → Option (List ℕ)) (tells : Type 0) (seen : D → List ℕ) (failed : S → ℕ) (before after : HostSeen S D L C)
@@ -113,6 +114,7 @@ found_done told tells seen failed before after source name work ending f m not_s
         → (ending ≡ Host → WhereTold before.holds (λ h. IsMissing (h.sources source))) → IsDone ending
     ends (Formatted me) f has not_source missing = tt
     ends (Ended turns malformed) f has not_source missing = tt
+    ends Commanded f has not_source missing = tt
     ends Usage f has not_source missing = absurd f.gives
     ends (BadLayout fault) f has not_source missing =
         absurd (no_fault told before.holds after.holds source f.opened f.back (Says (Err fault)) f.asks.told has f.gives.1
@@ -125,7 +127,7 @@ found_done told tells seen failed before after source name work ending f m not_s
     ends Memory f has not_source missing = tt
     ends Disk f has not_source missing = absurd f.gives
     ends Host f has not_source missing =
-        absurd (has_apart before.holds has (missing refl) (λ h held gone. here_missing (h.sources source) held.1.1.opened held.1.1.held gone))
+        absurd (has_apart before.holds has (missing refl) (λ h held gone. here_missing (h.sources source) held.1.opened held.1.held gone))
     ends NotAStore f has not_source missing = absurd f.gives
     ends Worn f has not_source missing = absurd f.gives
 
@@ -144,6 +146,7 @@ made_done : {S D L C : Type 0} (tells : Type 0) (seen : D → List ℕ) (may_lea
 made_done tells seen may_leave failed layout None before after name ending f some not_disk taken free = absurd (some refl)
 made_done tells seen may_leave failed layout (Some me) before after name (Formatted made) f some not_disk taken free = tt
 made_done tells seen may_leave failed layout (Some me) before after name (Ended turns malformed) f some not_disk taken free = tt
+made_done tells seen may_leave failed layout (Some me) before after name Commanded f some not_disk taken free = tt
 made_done tells seen may_leave failed layout (Some me) before after name Usage f some not_disk taken free = absurd f
 made_done tells seen may_leave failed layout (Some me) before after name (BadLayout fault) f some not_disk taken free = absurd f
 made_done tells seen may_leave failed layout (Some me) before after name LongLayout f some not_disk taken free = absurd f
@@ -164,7 +167,7 @@ may_format : {S D L C : Type 0} (told : S → Option (List ℕ)) (tells : Type 0
 may_format told tells seen None now source name id found opened back r said m = absurd m
 may_format told tells seen (Some h) None source name id found opened back r said m = absurd r
 may_format told tells seen (Some h) (Some n) source name id found opened back r said m = (
-  subst (λ (l : Layout). id < l.bricks) (layout_same told h n source id m.layout found opened back r m.holds said) m.holds.has,
+  subst (λ (l : Layout). id < l.bricks) (layout_same told h n source m.layout found opened back r m.holds said) m.has,
   free_still h n source name opened back r m.free,
 )
 
@@ -187,8 +190,8 @@ may_serve : {S D L C : Type 0} (told : S → Option (List ℕ)) (tells : Type 0)
 may_serve told tells seen None now source name id turns found opened back r said m = absurd m
 may_serve told tells seen (Some h) None source name id turns found opened back r said m = absurd r
 may_serve told tells seen (Some h) (Some n) source name id turns found opened back r said m =
-    let same : m.layout ≡ found = layout_same told h n source id m.layout found opened back r m.holds said in (
-      subst (λ (l : Layout). id < l.bricks) same m.holds.has,
+    let same : m.layout ≡ found = layout_same told h n source m.layout found opened back r m.holds said in (
+      subst (λ (l : Layout). id < l.bricks) same m.has,
       disk_still tells seen found (record { 0 = id }) h n source name opened back r
           (subst (λ (l : Layout). HasDisk tells seen l (record { 0 = id }) name h) same m.store),
     )

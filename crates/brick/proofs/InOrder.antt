@@ -1,24 +1,28 @@
 -- Which calls were asked of a host, by how a program ended.
-use Rattle.std.proofs.Common.{◌≡◌, ℕ, suc, ◌<◌, ◌+◌, arith, true, false, List, [], ◌∷◌, ◌++◌, Option, Some, None, Result, Ok, Err, inl, inr, refl, sym, ap, ◌∙◌, subst, append-nil, append_assoc, take}
+use Rattle.std.proofs.Common.{◌≡◌, ℕ, zero, suc, ◌<◌, ◌+◌, arith, true, false, List, [], ◌∷◌, ◌++◌, Option, Some, None, Result, Ok, Err, inl, inr, refl, sym, ap, ◌∙◌, subst, append-nil, append_assoc, take}
 use Rattle.fab_base.specs.declared.identities.BrickId.{BrickId}
 use Rattle.fab_base.specs.Layouts.{Layout}
 use Rattle.fab_host.specs.declared.hosts.Asked.{Asked}
 use Rattle.fab_host.specs.declared.hosts.Asked.TheVariants as calls
+use Rattle.hosting.specs.declared.hosted_bricks.TimedBricks.{TimedBricks}
+use Rattle.hosting.specs.Hosted.{Hosted}
 use Rattle.node.specs.Running.{Running}
 use Rattle.serving.specs.Ports.{ports_of, port_of}
 use Rattle.brick.specs.declared.endings.Ending.{Ending}
-use Rattle.brick.specs.declared.endings.Ending.TheVariants.{Formatted, Ended, Usage, BadLayout, LongLayout, Source, Sink, Memory, Disk, Host, NotAStore, Worn}
+use Rattle.brick.specs.declared.endings.Ending.TheVariants.{Formatted, Ended, Commanded, Usage, BadLayout, LongLayout, Source, Sink, Memory, Disk, Host, NotAStore, Worn}
 use Rattle.brick.specs.declared.words.Work.{Work}
-use Rattle.brick.specs.declared.words.Work.TheVariants.{Format, Serve}
-use Rattle.brick.specs.Bricks.{AsksInOrder, calls_by, calls_of, DoesWork, GoesOn, Works}
+use Rattle.brick.specs.declared.words.Work.TheVariants.{Format, Serve, Local}
+use Rattle.brick.specs.Bricks.{AsksInOrder, command_calls, brick_calls, calls_by, calls_of, DoesWork, GoesOn, Works}
 use Rattle.brick.specs.Endings.{status_of, Prints}
 use Rattle.brick.specs.Formats.{FormatsBrick, MakesStore}
 use Rattle.brick.specs.Hosts.{HostSeen, IsRefused}
 use Rattle.brick.specs.Layouts.{FindsLayout, brick_of}
+use Rattle.brick.specs.Locals.{standard_input, timed, disk_name, HostsBySource, HostsByClient, HostsByClock, HostsByDisk, HostsByLink, HostsOver, HostsBricks, HostsLayout}
 use Rattle.brick.specs.Serves.{ServesByClock, ServesByLink, ServesOver, ServesByDisk, ServesBrick, RefusesStore}
 use Rattle.brick.specs.Views.{Views}
 use Rattle.brick.specs.Words.{Wanted}
 use Rattle.brick.proofs.Found.{brick_has}
+use Rattle.brick.proofs.FromBrick.{from_first}
 
 -- a status that is none of success
 apart : (n : ℕ) → 0 < n → n ≡ 0 → ⊥
@@ -59,6 +63,7 @@ refused : {S D L C : Type 0} (before after : HostSeen S D L C) (call : Asked) (w
     → Asks before.asked after.asked (call ∷ wants) ending
 refused before after call wants (Formatted me) r = absurd r
 refused before after call wants (Ended turns malformed) r = absurd r
+refused before after call wants Commanded r = absurd r
 refused before after call wants Usage r = absurd r
 refused before after call wants (BadLayout fault) r = absurd r
 refused before after call wants LongLayout r = absurd r
@@ -75,6 +80,7 @@ unopened : {D L C : Type 0} (v : Views D L C) (layout : Layout) (me : BrickId) (
     → RefusesStore v layout me disk back ending → status_of ending ≡ 0 → ⊥
 unopened v layout me disk back (Formatted made) r = absurd r
 unopened v layout me disk back (Ended turns malformed) r = absurd r
+unopened v layout me disk back Commanded r = absurd r
 unopened v layout me disk back Usage r = absurd r
 unopened v layout me disk back (BadLayout fault) r = absurd r
 unopened v layout me disk back LongLayout r = absurd r
@@ -128,6 +134,105 @@ by_disk v layout me turns before after name out said ending s =
           (asks_same _ _ _ _ ending b.2.asked (over v layout me turns b.0 b.1 b.2.began b.2.ended out said ending b.2.does))
     ]
 
+-- ---- commands
+
+-- by their source
+by_commands : {S D L C : Type 0} (told : S → Option (List ℕ)) (failed : S → ℕ) (v : Views D L C) (layout : Layout) (turns : ℕ) (before after : HostSeen S D L C)
+    (bricks bricks_after : TimedBricks D L C) (link link_after : L) (out said : Option (List ℕ)) (ending : Ending)
+    → HostsBySource told failed v layout turns before after bricks bricks_after link link_after out said ending
+    → Asks before.asked after.asked (calls.Source standard_input ∷ []) ending
+by_commands told failed v layout turns before after bricks bricks_after link link_after out said ending s =
+    elim s [
+      | inl r ↦ refused before after (calls.Source standard_input) [] ending r.0
+      | inr b ↦ asks_more _ _ _ _ _ ending b.2.lends.asked (asks_all _ _ ending (b.2.asked ∙ ap (λ h. h.asked) b.2.does.0))
+    ]
+
+-- by the client's link
+by_client : {S D L C : Type 0} (told : S → Option (List ℕ)) (failed : S → ℕ) (v : Views D L C) (layout : Layout) (turns : ℕ) (before after : HostSeen S D L C)
+    (bricks bricks_after : TimedBricks D L C) (out said : Option (List ℕ)) (ending : Ending)
+    → HostsByClient told failed v layout turns before after bricks bricks_after out said ending
+    → Asks before.asked after.asked (calls.Link 0 ∷ calls.Source standard_input ∷ []) ending
+by_client told failed v layout turns before after bricks bricks_after out said ending s =
+    elim s [
+      | inl r ↦ refused before after (calls.Link 0) (calls.Source standard_input ∷ []) ending r.0
+      | inr b ↦ asks_more _ _ _ _ _ ending b.2.lends.asked
+          (asks_same _ _ _ _ ending b.2.asked (by_commands told failed v layout turns b.2.began b.2.ended bricks bricks_after b.0 b.1 out said ending b.2.does))
+    ]
+
+-- by the clock
+by_hosting : {S D L C : Type 0} (told : S → Option (List ℕ)) (failed : S → ℕ) (v : Views D L C) (layout : Layout) (turns : ℕ) (before after : HostSeen S D L C)
+    (bricks bricks_after : List (Hosted D L)) (out said : Option (List ℕ)) (ending : Ending)
+    → HostsByClock told failed v layout turns before after bricks bricks_after out said ending → Asks before.asked after.asked command_calls ending
+by_hosting told failed v layout turns before after bricks bricks_after out said ending s =
+    elim s [
+      | inl r ↦ refused before after calls.Clock (calls.Link 0 ∷ calls.Source standard_input ∷ []) ending r.0
+      | inr b ↦ asks_more _ _ _ _ _ ending b.3.lends.asked
+          (asks_same _ _ _ _ ending b.3.asked (by_client told failed v layout turns b.3.began b.3.ended (timed layout bricks b.0) b.1 out said ending b.3.does))
+    ]
+
+-- by the bricks that are left
+by_bricks : {S D L C : Type 0} (told : S → Option (List ℕ)) (failed : S → ℕ) (v : Views D L C) (layout : Layout) (prefix : List ℕ) (turns : ℕ)
+    (out said : Option (List ℕ)) (ending : Ending) (left id : ℕ) (bricks bricks_after : List (Hosted D L)) (before after : HostSeen S D L C)
+    → HostsBricks told failed v layout prefix turns out said ending left id bricks bricks_after before after
+    → Asks before.asked after.asked (brick_calls layout prefix left id) ending
+by_bricks told failed v layout prefix turns out said ending zero id bricks bricks_after before after s =
+    by_hosting told failed v layout turns before after bricks bricks_after out said ending s
+by_bricks {S} {D} {L} {C} told failed v layout prefix turns out said ending (suc left) id bricks bricks_after before after s =
+    elim s [
+      | inl r ↦ refused before after (calls.Disk name false) (calls.Link port ∷ rest) ending r.0
+      | inr b ↦ asks_more _ _ _ _ _ ending b.2.lends.asked (asks_same _ _ _ _ ending b.2.asked
+          (opened (λ more more_after began ended done. by_bricks told failed v layout prefix turns out said ending left (id + 1) more more_after began ended done)
+          b.0 b.1 b.2.began b.2.ended b.2.does))
+    ]
+  where
+    me : BrickId
+    me = record { 0 = id }
+
+    name : List ℕ
+    name = disk_name prefix me
+
+    port : ℕ
+    port = port_of (ports_of layout) me
+
+    rest : List Asked
+    rest = brick_calls layout prefix left (id + 1)
+
+    next : List (Hosted D L) → List (Hosted D L) → HostSeen S D L C → HostSeen S D L C → Type 0
+    next = HostsBricks told failed v layout prefix turns out said ending left (id + 1)
+
+    -- what is done next asks for the rest
+    AsksRest : Type 0
+    AsksRest = (more more_after : List (Hosted D L)) (began ended : HostSeen S D L C) → next more more_after began ended → Asks began.asked ended.asked rest ending
+
+    linked : AsksRest → (began ended : HostSeen S D L C) (node node_after : Running D)
+        → HostsByLink port next began ended bricks bricks_after node node_after out said ending → Asks began.asked ended.asked (calls.Link port ∷ rest) ending
+    linked then began ended node node_after s =
+        elim s [
+          | inl r ↦ refused began ended (calls.Link port) rest ending r.0
+          | inr b ↦ asks_more _ _ _ _ _ ending b.2.lends.asked (asks_same _ _ _ _ ending b.2.asked (then _ _ b.2.began b.2.ended b.2.does.5))
+        ]
+
+    opened : AsksRest → (disk back : D) (began ended : HostSeen S D L C) → HostsOver v layout me next disk back began ended bricks bricks_after out said ending
+        → Asks began.asked ended.asked (calls.Link port ∷ rest) ending
+    opened then disk back began ended s =
+        elim s [
+          | inl r ↦ asks_none _ _ _ ending (ap (λ h. h.asked) r.1) (unopened v layout me disk back ending r.0)
+          | inr n ↦ linked then began ended n.node n.node_after n.hosts
+        ]
+
+-- of all bricks
+by_layout : {S D L C : Type 0} (told : S → Option (List ℕ)) (failed : S → ℕ) (v : Views D L C) (layout : Layout) (prefix : List ℕ) (turns : ℕ)
+    (before after : HostSeen S D L C) (out said : Option (List ℕ)) (ending : Ending) → HostsLayout told failed v layout prefix turns before after out said ending
+    → Asks before.asked after.asked (brick_calls layout prefix layout.bricks 0) ending
+by_layout told failed v layout prefix turns before after out said ending s =
+    elim s [
+      | inl r ↦ asks_none _ _ _ ending (ap (λ h. h.asked) r.1) (λ none. apart 7 (omega arith) (sym (ap status_of r.0) ∙ none))
+      | inr b ↦ by_bricks told failed v layout prefix turns out said ending layout.bricks 0 [] [] before after
+          (from_first told failed v layout prefix turns out said ending [] [] before after b)
+    ]
+
+-- ---- by the work
+
 -- where a store was to be made
 making : {S D L C : Type 0} (tells : Type 0) (seen : D → List ℕ) (may_leave : D → List ℕ → Type 0) (failed : D → ℕ) (layout : Layout) (me : BrickId)
     (before after : HostSeen S D L C) (name : List ℕ) (ending : Ending) → MakesStore tells seen may_leave failed layout me before after name ending
@@ -135,6 +240,7 @@ making : {S D L C : Type 0} (tells : Type 0) (seen : D → List ℕ) (may_leave 
 making tells seen may_leave failed layout me before after name (Formatted made) f =
     asks_more _ _ _ _ _ (Formatted made) f.1.1.asked (asks_all _ _ (Formatted made) refl)
 making tells seen may_leave failed layout me before after name (Ended turns malformed) f = absurd f
+making tells seen may_leave failed layout me before after name Commanded f = absurd f
 making tells seen may_leave failed layout me before after name Usage f = absurd f
 making tells seen may_leave failed layout me before after name (BadLayout fault) f = absurd f
 making tells seen may_leave failed layout me before after name LongLayout f = absurd f
@@ -169,18 +275,21 @@ by_brick v layout id (Some me) turns before after name out said ending is s =
     (by_disk v layout me turns before after name out said ending s)
 
 -- by the work
-working : {S D L C : Type 0} (v : Views D L C) (layout : Layout) (name : List ℕ) (work : Work) (before after : HostSeen S D L C) (out said : Option (List ℕ))
-    (ending : Ending) → DoesWork v layout name work before after out said ending → Asks before.asked after.asked (calls_by layout name work) ending
-working v layout name (Format id) before after out said ending d =
-    formatting v.tells v.seen v.may_leave v.disk_faults layout (brick_of layout id) before after name ending d.0
-working v layout name (Serve id turns) before after out said ending d =
+working : {S D L C : Type 0} (told : S → Option (List ℕ)) (failed : S → ℕ) (v : Views D L C) (layout : Layout) (name : List ℕ) (work : Work) (before after : HostSeen S D L C) (out said : Option (List ℕ))
+    (ending : Ending) → DoesWork told failed v layout name work before after out said ending → Asks before.asked after.asked (calls_by layout name work) ending
+working told failed v layout name (Format id) before after out said ending d =
+    formatting v.disk.tells v.disk.seen v.disk.may_leave v.disk.faults layout (brick_of layout id) before after name ending d.0
+working told failed v layout name (Serve id turns) before after out said ending d =
     by_brick v layout id (brick_of layout id) turns before after name out said ending (λ me is. sym (brick_has layout id me is).1) d
+working told failed v layout prefix (Local turns) before after out said ending d =
+    by_layout told failed v layout prefix turns before after out said ending d
 
 -- where no layout was found
 unfound : {S D L C : Type 0} (told : S → Option (List ℕ)) (failed : S → ℕ) (before after : HostSeen S D L C) (source : List ℕ) (ending : Ending)
     → FindsLayout told failed before after source (Err ending) → Asks before.asked after.asked (calls.Source source ∷ []) ending
 unfound told failed before after source (Formatted me) f = absurd f.gives
 unfound told failed before after source (Ended turns malformed) f = absurd f.gives
+unfound told failed before after source Commanded f = absurd f.gives
 unfound told failed before after source Usage f = absurd f.gives
 unfound told failed before after source (BadLayout fault) f = asks_one _ _ _ _ (BadLayout fault) f.asks.asked (apart 3 (omega arith))
 unfound told failed before after source LongLayout f = asks_one _ _ _ _ LongLayout f.asks.asked (apart 3 (omega arith))
@@ -199,9 +308,9 @@ unfound told failed before after source Worn f = absurd f.gives
 -- at any end
 going_on : {S D L C : Type 0} (told : S → Option (List ℕ)) (failed : S → ℕ) (v : Views D L C) (before between after : HostSeen S D L C) (w : Wanted)
     (out said : Option (List ℕ)) (found : Result Layout Ending) (ending : Ending) → FindsLayout told failed before between w.layout found
-    → GoesOn v w found between after out said ending → Asks before.asked after.asked (calls_of w found) ending
+    → GoesOn told failed v w found between after out said ending → Asks before.asked after.asked (calls_of w found) ending
 going_on told failed v before between after w out said (Ok layout) ending finds goes =
-    asks_more _ _ _ _ _ ending finds.asks.asked (working v layout w.name w.work between after out said ending goes)
+    asks_more _ _ _ _ _ ending finds.asks.asked (working told failed v layout w.name w.work between after out said ending goes)
 going_on told failed v before between after w out said (Err found) ending finds goes =
     subst (λ (e : Ending). Asks before.asked after.asked (calls.Source w.layout ∷ []) e) (sym goes.0)
     (asks_same _ _ _ _ found (ap (λ h. h.asked) goes.1) (unfound told failed before between w.layout found finds))

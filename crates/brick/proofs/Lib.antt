@@ -6,5 +6,10 @@ mod Found
 mod Starting
 mod Turning
 mod Completing
+mod Knowing
+mod Refusing
+mod SameBricks
+mod FromBrick
+mod MayHosting
 mod InOrder
 mod Printing

@@ -4,7 +4,7 @@ use Rattle.std.proofs.lemmas.Bool.{cases_lt}
 use Rattle.fab_io.specs.Ends.{Rose, Kept}
 use Rattle.fab_io.proofs.Keeping.{Rose-later}
 use Rattle.brick.specs.declared.endings.Ending.{Ending}
-use Rattle.brick.specs.declared.endings.Ending.TheVariants.{Formatted, Ended, Usage, BadLayout, LongLayout, Source, Sink, Memory, Disk, Host, NotAStore, Worn}
+use Rattle.brick.specs.declared.endings.Ending.TheVariants.{Formatted, Ended, Commanded, Usage, BadLayout, LongLayout, Source, Sink, Memory, Disk, Host, NotAStore, Worn}
 use Rattle.brick.specs.Endings.{status_of, Prints, IsDone}
 
 -- a count that rose, and later
@@ -39,6 +39,7 @@ kept_six wanted status first then = record {
 done_status : (ending : Ending) → IsDone ending → (status_of ending ≡ 0) ⊎ (status_of ending ≡ 7)
 done_status (Formatted me) done = inl refl
 done_status (Ended turns malformed) done = inl refl
+done_status Commanded done = inl refl
 done_status Usage done = absurd done
 done_status (BadLayout fault) done = absurd done
 done_status LongLayout done = absurd done

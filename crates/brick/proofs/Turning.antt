@@ -23,9 +23,9 @@ use Rattle.brick.specs.Views.{Views}
 
 -- each fault of a turn is one of the thing whose count of faults rose
 pub rose_at : {D L C : Type 0} (v : Views D L C) (disk disk_after : D) (link link_after : L) (clock clock_after : C) (result : Result ℕ ServeFault)
-    → (result ≡ Err faults.Disk → disks.Rose (v.disk_faults disk) (v.disk_faults disk_after))
-    → (result ≡ Err faults.Link → Rose (v.link_faults link) (v.link_faults link_after))
-    → (result ≡ Err faults.Clock → Rose (v.clock_faults clock) (v.clock_faults clock_after))
+    → (result ≡ Err faults.Disk → disks.Rose (v.disk.faults disk) (v.disk.faults disk_after))
+    → (result ≡ Err faults.Link → Rose (v.link.faults link) (v.link.faults link_after))
+    → (result ≡ Err faults.Clock → Rose (v.clock.faults clock) (v.clock.faults clock_after))
     → RoseAt v disk disk_after link link_after clock clock_after result
 rose_at v disk disk_after link link_after clock clock_after (Ok malformed) at_disk at_link at_clock = tt
 rose_at v disk disk_after link link_after clock clock_after (Err faults.Disk) at_disk at_link at_clock = at_disk refl
@@ -54,17 +54,17 @@ turns_done turns (Err faults.NoMemory) end = tt
 
 -- a disk that was not touched is unharmed
 pub unharmed : {D L C : Type 0} (v : Views D L C) (moment : D → ℕ) (left_since : D → ℕ → List ℕ → Type 0) (disk back : D)
-    → IsUntouched v.seen v.may_leave moment left_since disk back → IsUnharmed v disk back
+    → IsUntouched v.disk.seen v.disk.may_leave moment left_since disk back → IsUnharmed v disk back
 unharmed v moment left_since disk back untouched = record { content = untouched.content; crash = untouched.crash }
 
 -- each cause of a store that is not opened
 pub refuses : {D L C : Type 0} (v : Views D L C) (layout : Layout) (me : BrickId) (moment : D → ℕ) (left_since : D → ℕ → List ℕ → Type 0) (disk back : D)
-    (fault : StoreFault) → (fault ≡ stores.Disk → disks.Rose (v.disk_faults disk) (v.disk_faults back))
-    → (fault ≡ stores.NotAStore → v.tells
-    → (IsNoStore (shape_at layout me) (v.seen disk) × IsUntouched v.seen v.may_leave moment left_since disk back)
-    ⊎ ((st : StateOf Version) × IsFound (shape_at layout me) st (v.seen disk) × (IsFirstView st → ⊥)))
-    → (fault ≡ stores.Worn → v.tells → (st : StateOf Version) × IsFound (shape_at layout me) st (v.seen disk) × (st.boot ≡ 2 ^ 32 - 1))
-    → ((fault ≡ stores.Worn) ⊎ (fault ≡ stores.NoMemory) → IsUntouched v.seen v.may_leave moment left_since disk back)
+    (fault : StoreFault) → (fault ≡ stores.Disk → disks.Rose (v.disk.faults disk) (v.disk.faults back))
+    → (fault ≡ stores.NotAStore → v.disk.tells
+    → (IsNoStore (shape_at layout me) (v.disk.seen disk) × IsUntouched v.disk.seen v.disk.may_leave moment left_since disk back)
+    ⊎ ((st : StateOf Version) × IsFound (shape_at layout me) st (v.disk.seen disk) × (IsFirstView st → ⊥)))
+    → (fault ≡ stores.Worn → v.disk.tells → (st : StateOf Version) × IsFound (shape_at layout me) st (v.disk.seen disk) × (st.boot ≡ 2 ^ 32 - 1))
+    → ((fault ≡ stores.Worn) ⊎ (fault ≡ stores.NoMemory) → IsUntouched v.disk.seen v.disk.may_leave moment left_since disk back)
     → RefusesStore v layout me disk back (refusal_of fault)
 refuses v layout me moment left_since disk back stores.Disk at_disk none worn untouched = at_disk refl
 refuses v layout me moment left_since disk back (stores.Full live) at_disk none worn untouched = tt

@@ -6,7 +6,7 @@ use Rattle.fab_base.specs.declared.identities.BrickId.{BrickId}
 use Rattle.fab_io.specs.Ends.{AppendsFront}
 use Rattle.layout.specs.Names.{fault_text}
 use Rattle.brick.specs.declared.endings.Ending.{Ending}
-use Rattle.brick.specs.declared.endings.Ending.TheVariants.{Formatted, Ended, Usage, BadLayout, LongLayout, Source, Sink, Memory, Disk, Host, NotAStore, Worn}
+use Rattle.brick.specs.declared.endings.Ending.TheVariants.{Formatted, Ended, Commanded, Usage, BadLayout, LongLayout, Source, Sink, Memory, Disk, Host, NotAStore, Worn}
 
 abbrev pub newline : List ℕ
 newline = 10 ∷ []
@@ -15,6 +15,7 @@ newline = 10 ∷ []
 abbrev pub status_of : Ending → ℕ
 status_of (Formatted me) = 0
 status_of (Ended turns malformed) = 0
+status_of Commanded = 0
 status_of Usage = 2
 status_of (BadLayout fault) = 3
 status_of LongLayout = 3
@@ -34,10 +35,11 @@ usage_text = codes "usage: brick format LAYOUT DISK ID | serve LAYOUT DISK ID TU
 abbrev pub serving_text : BrickId → List ℕ
 serving_text me = codes "serving " ++ (decimal me.0 ++ newline)
 
--- the last text; none where the source or the sink failed, or no memory was left
+-- the last text; none where commands were run, the source or the sink failed, or no memory was left
 abbrev pub text_of : Ending → List ℕ
 text_of (Formatted me) = codes "formatted " ++ (decimal me.0 ++ newline)
 text_of (Ended turns malformed) = codes "ended " ++ (decimal turns ++ (codes " malformed " ++ (decimal malformed ++ newline)))
+text_of Commanded = []
 text_of Usage = usage_text
 text_of (BadLayout fault) = codes "bad layout: " ++ (fault_text fault ++ newline)
 text_of LongLayout = codes "bad layout: limit layout" ++ newline
@@ -59,5 +61,6 @@ Prints old new text wanted status =
 abbrev pub IsDone : Ending → Type 0
 IsDone (Formatted me) = Unit {0}
 IsDone (Ended turns malformed) = Unit {0}
+IsDone Commanded = Unit {0}
 IsDone Memory = Unit {0}
 IsDone other = ⊥

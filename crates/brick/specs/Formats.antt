@@ -1,5 +1,5 @@
 -- What `brick format` does to its host, once the layout was found, and how it ends.
-use Rattle.std.specs.Prelude.{◌≡◌, ◌⊎◌, ℕ, true, List, Option, Some, None}
+use Rattle.std.specs.Prelude.{◌≡◌, ◌⊎◌, ◌<◌, ℕ, true, List, Option, Some, None}
 use Rattle.fab_base.specs.declared.identities.BrickId.{BrickId}
 use Rattle.fab_base.specs.Layouts.{Layout}
 use Rattle.fab_disk.specs.Disk as disks
@@ -41,8 +41,9 @@ FormatsBrick tells seen may_leave failed layout None before after name ending = 
 FormatsBrick tells seen may_leave failed layout (Some me) before after name ending =
     MakesStore tells seen may_leave failed layout me before after name ending
 
--- The host holds a source with the text of a layout that has the brick, and the name of the disk is free.
+-- The host holds a source with the text of a layout, which has the brick, and the name of the disk is free.
 pub record MayFormat {S D L C : Type 0} (told : S → Option (List ℕ)) (h : Holdings S D L C) (source disk : List ℕ) (id : ℕ) : Type 0 where
   pub layout : Layout
-  pub holds : HoldsLayout told h source id layout
+  pub holds : HoldsLayout told h source layout
+  pub has : id < layout.bricks
   pub free : IsFree h disk

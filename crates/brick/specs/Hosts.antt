@@ -1,9 +1,11 @@
 -- What a program asked of its host, and what it gave back.
 use Rattle.std.specs.Prelude.{◌≡◌, ℕ, ◌≤◌, false, List, [], ◌∷◌, ◌++◌, ⊤, Option, Some, None}
 use Rattle.std.specs.Str.{bytes_eq}
+use Rattle.fab_io.specs.declared.fault.IoFault.{IoFault}
+use Rattle.fab_io.specs.declared.fault.IoFault.TheVariants as io
 use Rattle.fab_io.specs.Ends.{Rose}
 use Rattle.fab_host.specs.declared.hosts.Asked.{Asked}
-use Rattle.fab_host.specs.Held.{Held, lent, here}
+use Rattle.fab_host.specs.Held.{Held, lent, here, IsKnown}
 use Rattle.fab_host.specs.Holdings.{Holdings, IsFree}
 use Rattle.brick.specs.declared.endings.Ending.{Ending}
 use Rattle.brick.specs.declared.endings.Ending.TheVariants.{Memory, Host}
@@ -43,6 +45,13 @@ pub record AsksOnly {S D L C : Type 0} (before after : HostSeen S D L C) (call :
 abbrev pub AsksInVain : {S D L C : Type 0} → HostSeen S D L C → HostSeen S D L C → Asked → Type 0
 AsksInVain before after call = AsksOnly before after call (λ h now. now ≡ h) × Rose before.faults after.faults
 
+-- what had a name or a port has it still: it is here, or it is lent
+pub record KnowsStill {S D L C : Type 0} (h now : Holdings S D L C) : Type 0 where
+  pub sources : (name : List ℕ) → IsKnown (h.sources name) → IsKnown (now.sources name)
+  pub disks : (name : List ℕ) → IsKnown (h.disks name) → IsKnown (now.disks name)
+  pub links : (port : ℕ) → IsKnown (h.links port) → IsKnown (now.links port)
+  pub clock : IsKnown h.clock → IsKnown now.clock
+
 -- The source of this name was opened, and given back as it is now. All else is as it was.
 pub record ReturnsSource {S D L C : Type 0} (name : List ℕ) (opened back : S) (h now : Holdings S D L C) : Type 0 where
   pub was : h.sources name ≡ here opened
@@ -66,6 +75,11 @@ abbrev pub IsRefused : {S D L C : Type 0} → HostSeen S D L C → HostSeen S D 
 IsRefused before after call Host = AsksInVain before after call
 IsRefused before after call Memory = IsUnasked before after
 IsRefused before after call other = ⊥
+
+-- how a call that opened nothing ends the program
+abbrev pub refusal_by : IoFault → Ending
+refusal_by io.Failed = Host
+refusal_by io.NoMemory = Memory
 
 -- A thing was lent by this call, this was done with the host meanwhile, and the thing was given back as it is now. `at` says where it stands
 -- among what is held, and `with` is that with something else there.

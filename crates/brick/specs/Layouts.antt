@@ -58,11 +58,10 @@ FindsLayout told failed before after name (Err other) = ReadsSource told failed 
 abbrev pub brick_of : Layout → ℕ → Option BrickId
 brick_of layout id = if nat_lt id layout.bricks then Some (record { 0 = id }) else None
 
--- the host holds a source that tells the text of this layout, and the layout has the brick of this number
-pub record HoldsLayout {S D L C : Type 0} (told : S → Option (List ℕ)) (h : Holdings S D L C) (source : List ℕ) (id : ℕ) (layout : Layout) : Type 0 where
+-- the host holds a source that tells the text of this layout
+pub record HoldsLayout {S D L C : Type 0} (told : S → Option (List ℕ)) (h : Holdings S D L C) (source : List ℕ) (layout : Layout) : Type 0 where
   pub opened : S
   pub text : List ℕ
   pub held : h.sources source ≡ here opened
   pub tells : told opened ≡ Some text
   pub says : Says (Ok layout) text
-  pub has : id < layout.bricks

@@ -5,4 +5,5 @@ pub mod Views
 pub mod Layouts
 pub mod Formats
 pub mod Serves
+pub mod Locals
 pub mod Bricks

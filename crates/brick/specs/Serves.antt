@@ -43,9 +43,9 @@ ending_of turns (Err faults.NoMemory) = Memory
 
 -- the thing that failed is one whose count of faults rose
 abbrev pub RoseAt : {D L C : Type 0} → Views D L C → D → D → L → L → C → C → Result ℕ ServeFault → Type 0
-RoseAt v disk disk_after link link_after clock clock_after (Err faults.Disk) = disks.Rose (v.disk_faults disk) (v.disk_faults disk_after)
-RoseAt v disk disk_after link link_after clock clock_after (Err faults.Link) = Rose (v.link_faults link) (v.link_faults link_after)
-RoseAt v disk disk_after link link_after clock clock_after (Err faults.Clock) = Rose (v.clock_faults clock) (v.clock_faults clock_after)
+RoseAt v disk disk_after link link_after clock clock_after (Err faults.Disk) = disks.Rose (v.disk.faults disk) (v.disk.faults disk_after)
+RoseAt v disk disk_after link link_after clock clock_after (Err faults.Link) = Rose (v.link.faults link) (v.link.faults link_after)
+RoseAt v disk disk_after link link_after clock clock_after (Err faults.Clock) = Rose (v.clock.faults clock) (v.clock.faults clock_after)
 RoseAt v disk disk_after link link_after clock clock_after other = ⊤
 
 -- A started brick said that it serves, and served so many turns over a link and a clock.
@@ -93,24 +93,24 @@ ServesByLink {S} {D} {L} {C} v turns port before after node node_after out said 
 pub record IsStarted {D L C : Type 0} (v : Views D L C) (layout : Layout) (me : BrickId) (disk : D) (node : Running D) : Type 0 where
   pub layout_is : node.layout ≡ layout
   pub me_is : node.me ≡ me
-  pub found : v.tells → (st : StateOf Version) × IsFound (shape_at layout me) st (v.seen disk) × (st.boot < 2 ^ 32 - 1)
-  pub state : v.tells → (before : machine.Node) → ImageShows layout me before (v.seen disk) → state_of node ≡ restarted 1 before
-  pub later : v.disk_faults disk ≤ v.disk_faults node.brick.disk
+  pub found : v.disk.tells → (st : StateOf Version) × IsFound (shape_at layout me) st (v.disk.seen disk) × (st.boot < 2 ^ 32 - 1)
+  pub state : v.disk.tells → (before : machine.Node) → ImageShows layout me before (v.disk.seen disk) → state_of node ≡ restarted 1 before
+  pub later : v.disk.faults disk ≤ v.disk.faults node.brick.disk
 
--- what a disk shows that is given back, unless it failed: the brick as it is then, also after a crash
-pub record IsLeft {D L C : Type 0} (v : Views D L C) (layout : Layout) (me : BrickId) (node : Running D) (back : D) (ending : Ending) : Type 0 where
+-- what a disk shows that is given back, where it is whole: the brick as it is then, also after a crash
+pub record IsLeft {D L C : Type 0} (v : Views D L C) (layout : Layout) (me : BrickId) (node : Running D) (back : D) (whole : Type 0) : Type 0 where
   pub disk : back ≡ node.brick.disk
-  pub shows : v.tells → ending ≢ Disk → ImageShows layout me (state_of node) (v.seen back)
-  pub durable : v.tells → ending ≢ Disk → LeavesBrick layout me (state_of node) (v.may_leave back)
+  pub shows : v.disk.tells → whole → ImageShows layout me (state_of node) (v.disk.seen back)
+  pub durable : v.disk.tells → whole → LeavesBrick layout me (state_of node) (v.disk.may_leave back)
 
--- The disk's store was opened, and then the link of the brick's port was asked for.
+-- The disk's store was opened, and then the link of the brick's port was asked for. The disk is whole unless it failed.
 pub record ServesStarted {S D L C : Type 0} (v : Views D L C) (layout : Layout) (me : BrickId) (turns : ℕ) (disk back : D)
     (before after : HostSeen S D L C) (out said : Option (List ℕ)) (ending : Ending) : Type 0 where
   pub node : Running D
   pub node_after : Running D
   pub started : IsStarted v layout me disk node
   pub serves : ServesByLink v turns (port_of (ports_of layout) me) before after node node_after out said ending
-  pub left : IsLeft v layout me node_after back ending
+  pub left : IsLeft v layout me node_after back (ending ≢ Disk)
 
 -- how a store that is not opened ends the program
 abbrev pub refusal_of : StoreFault → Ending
@@ -121,17 +121,17 @@ refusal_of other = Memory
 
 -- what a read of the disk gives is as it was, and so is what a crash may leave
 pub record IsUnharmed {D L C : Type 0} (v : Views D L C) (disk back : D) : Type 0 where
-  pub content : v.seen back ≡ v.seen disk
-  pub crash : (image : List ℕ) → v.may_leave back image → v.may_leave disk image
+  pub content : v.disk.seen back ≡ v.disk.seen disk
+  pub crash : (image : List ℕ) → v.disk.may_leave back image → v.disk.may_leave disk image
 
 -- Why it is not opened: the disk holds no store, and is unharmed, or one that has learnt a later view; or one that was opened as often as it can be, and
 -- is unharmed; or the disk failed, or no memory was left.
 abbrev pub RefusesStore : {D L C : Type 0} → Views D L C → Layout → BrickId → D → D → Ending → Type 0
-RefusesStore v layout me disk back NotAStore = v.tells → (IsNoStore (shape_at layout me) (v.seen disk) × IsUnharmed v disk back)
-    ⊎ ((st : StateOf Version) × IsFound (shape_at layout me) st (v.seen disk) × (IsFirstView st → ⊥))
+RefusesStore v layout me disk back NotAStore = v.disk.tells → (IsNoStore (shape_at layout me) (v.disk.seen disk) × IsUnharmed v disk back)
+    ⊎ ((st : StateOf Version) × IsFound (shape_at layout me) st (v.disk.seen disk) × (IsFirstView st → ⊥))
 RefusesStore v layout me disk back Worn =
-    IsUnharmed v disk back × (v.tells → (st : StateOf Version) × IsFound (shape_at layout me) st (v.seen disk) × (st.boot ≡ 2 ^ 32 - 1))
-RefusesStore v layout me disk back Disk = disks.Rose (v.disk_faults disk) (v.disk_faults back)
+    IsUnharmed v disk back × (v.disk.tells → (st : StateOf Version) × IsFound (shape_at layout me) st (v.disk.seen disk) × (st.boot ≡ 2 ^ 32 - 1))
+RefusesStore v layout me disk back Disk = disks.Rose (v.disk.faults disk) (v.disk.faults back)
 RefusesStore v layout me disk back Memory = ⊤
 RefusesStore v layout me disk back other = ⊥
 
@@ -184,9 +184,10 @@ pub record HasDisk {S D L C : Type 0} (tells : Type 0) (seen : D → List ℕ) (
   pub starts : MayStart tells seen layout me disk
   pub others : HasLink (port_of (ports_of layout) me) h
 
--- The host holds a source with the text of a layout that has the brick, a disk that is its store, the link of its port, and the clock.
+-- The host holds a source with the text of a layout, which has the brick, a disk that is its store, the link of its port, and the clock.
 pub record MayServe {S D L C : Type 0} (told : S → Option (List ℕ)) (tells : Type 0) (seen : D → List ℕ) (h : Holdings S D L C) (source disk : List ℕ)
     (id : ℕ) : Type 0 where
   pub layout : Layout
-  pub holds : HoldsLayout told h source id layout
+  pub holds : HoldsLayout told h source layout
+  pub has : id < layout.bricks
   pub store : HasDisk tells seen layout (record { 0 = id }) disk h

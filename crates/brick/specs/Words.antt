@@ -5,9 +5,9 @@ use Rattle.std.specs.Str.{bytes_eq}
 use Rattle.lines.specs.Tokens.{number}
 use Rattle.brick.specs.declared.words.Words.{Words}
 use Rattle.brick.specs.declared.words.Work.{Work}
-use Rattle.brick.specs.declared.words.Work.TheVariants.{Format, Serve}
+use Rattle.brick.specs.declared.words.Work.TheVariants.{Format, Serve, Local}
 
--- the name of the layout's source, that of the disk, and what is to be done with it
+-- the name of the layout's source, that of the disk, or what those of the bricks' disks begin with, and what is to be done
 pub record Wanted : Type 0 where
   pub layout : List ℕ
   pub name : List ℕ
@@ -25,14 +25,20 @@ format_work id = option_map Format (number id)
 abbrev pub serve_work : List ℕ → List ℕ → Option Work
 serve_work id turns = option_and_then (λ brick. option_map (Serve brick) (number turns)) (number id)
 
--- this work on the disk of this name
+-- to run commands over all bricks, by TURNS turns
+abbrev pub local_work : List ℕ → Option Work
+local_work turns = option_map Local (number turns)
+
+-- this work on the disk of this name, or those of this prefix
 abbrev pub wants : List ℕ → List ℕ → Option Work → Option Wanted
 wants layout name work =
     if is_name layout && is_name name then option_map (λ w. record { layout = layout; name = name; work = w }) work else None
 
--- `format LAYOUT DISK ID`
+-- `format LAYOUT DISK ID`, or `local LAYOUT PREFIX TURNS`
 abbrev pub four_words : List ℕ → List ℕ → List ℕ → List ℕ → Option Wanted
-four_words word layout disk id = if bytes_eq word (codes "format") then wants layout disk (format_work id) else None
+four_words word layout name count =
+    if bytes_eq word (codes "format") then wants layout name (format_work count)
+    else if bytes_eq word (codes "local") then wants layout name (local_work count) else None
 
 -- `serve LAYOUT DISK ID TURNS`
 abbrev pub five_words : List ℕ → List ℕ → List ℕ → List ℕ → List ℕ → Option Wanted

@@ -4,6 +4,7 @@ ghost use Rattle.std.specs.Prelude.{◌≡◌, ◌≢◌, IfOk, string_bytes};
 ghost use Rattle.std.specs.Io.KnownBytes.{Keeps};
 ghost use Rattle.fab_io.specs.Ends.{Kept, WriteTakes};
 ghost use Rattle.brick.specs.Endings.{status_of, serving_text, text_of, Prints};
+ghost use Rattle.brick.specs.Hosts.{refusal_by};
 
 use fab_base::BrickId;
 use fab_io::{IoFault, Sink};
@@ -22,6 +23,8 @@ pub enum Ending {
         /// How many datagrams came in them that are no message.
         malformed: u64,
     },
+    /// The commands were run, until their turns were used up or the source of them was at its end.
+    Commanded,
     /// The words are of no form, or the layout has no brick of this number.
     Usage,
     /// The source's text is no layout.
@@ -30,17 +33,17 @@ pub enum Ending {
     LongLayout,
     /// The source failed.
     Source,
-    /// The sink failed as the brick said that it serves.
+    /// The sink failed as the brick said that it serves, or at an answer to a command.
     Sink,
     /// No memory was left.
     Memory,
-    /// The disk failed.
+    /// A disk failed.
     Disk,
-    /// The host, the link or the clock failed.
+    /// The host, a link or the clock failed.
     Host,
-    /// The disk holds no store of this layout and brick.
+    /// A disk holds no store of this layout and brick.
     NotAStore,
-    /// The disk's store was opened as often as it can be.
+    /// A disk's store was opened as often as it can be.
     Worn,
 }
 
@@ -55,12 +58,22 @@ impl From<AllocError> for Ending {
 }
 
 impl Ending {
+    /// How a call of the host that opened nothing ends the program.
+    pub(crate) fn refusal(fault: IoFault) -> Ending
+        ensures { result ≡ refusal_by fault }
+    {
+        match fault {
+            IoFault::Failed => Ending::Host,
+            IoFault::NoMemory => Ending::Memory,
+        }
+    }
+
     /// The exit status.
     fn status(&self) -> u8
         ensures { result ≡ status_of self.now }
     {
         match self {
-            Ending::Formatted(_) | Ending::Ended { .. } => 0,
+            Ending::Formatted(_) | Ending::Ended { .. } | Ending::Commanded => 0,
             Ending::Usage => 2,
             Ending::BadLayout(_) | Ending::LongLayout => 3,
             Ending::Source => 5,
@@ -92,7 +105,9 @@ impl Ending {
             Ending::Host => Ok(String::from_str(alloc, "host\n")?),
             Ending::NotAStore => Ok(String::from_str(alloc, "not a store\n")?),
             Ending::Worn => Ok(String::from_str(alloc, "worn\n")?),
-            Ending::Source | Ending::Sink | Ending::Memory => Ok(String::new(alloc)),
+            Ending::Commanded | Ending::Source | Ending::Sink | Ending::Memory => {
+                Ok(String::new(alloc))
+            }
         }
     }
 }

@@ -11,6 +11,7 @@ ghost use Rattle.brick.specs.Words.{command_of, wanted};
 use crate::endings::{Ending, finish};
 use crate::formats::format;
 use crate::layout_texts::find_layout;
+use crate::locals::local;
 use crate::serves::serve;
 use crate::words::{Words, Work, parse};
 use fab_host::Host;
@@ -20,32 +21,35 @@ use std::alloc::Global;
 /// Runs the program `brick` with these words (its own name left out), and answers its exit status.
 ///
 /// `format LAYOUT DISK ID` makes the empty store of brick ID on a fresh disk. `serve LAYOUT DISK ID TURNS` opens the store of brick ID that a disk
-/// holds, and has the brick serve TURNS turns over the link of its port, by a clock, as [`serving::serve`] says. LAYOUT names a source all of whose
-/// text is the layout, DISK the disk; neither begins with `-`. ID and TURNS are 1 to 20 decimal digits. The word `local` is not built yet,
-/// and is of no form.
+/// holds, and has the brick serve TURNS turns over the link of its port, by a clock, as [`serving::serve`] says. `local LAYOUT PREFIX TURNS` opens the
+/// stores that the disks PREFIX.0, PREFIX.1 and so on hold for the bricks of the layout, hosts all of them, each over the link of its port, and runs the
+/// commands of standard input over them by TURNS turns, for a client with a link of its own, as [`hosting::host`] says. LAYOUT names a source all of
+/// whose text is the layout, DISK the disk; neither begins with `-`, nor does PREFIX. ID and TURNS are 1 to 20 decimal digits.
 ///
 /// | status | when | printed |
 /// |---|---|---|
-/// | 0 | the store was made; the turns were served | `formatted ID`; `serving ID` before the first turn, and then `ended TURNS malformed X` |
+/// | 0 | the store was made; the turns were served; the turns of the commands were used up, or their source was at its end | `formatted ID`; `serving ID` before the first turn, and then `ended TURNS malformed X`; the answers of the commands |
 /// | 2 | the words are of no form, or the layout has no brick ID | the usage line |
 /// | 3 | the source's text is no layout, or is past 1,048,576 bytes | `bad layout: toml`, `bad layout: field NAME`, `bad layout: limit NAME` |
-/// | 5 | the source failed | nothing |
-/// | 6 | the sink failed | some of the text of the status that was due, from its front; where that was `serving ID`, no turn was served |
+/// | 5 | the source of the layout failed, or that of the commands | nothing more |
+/// | 6 | the sink failed | some of the text of the status that was due, from its front; where that was `serving ID`, no turn was served; or some of the answers of the commands |
 /// | 7 | no memory was left | nothing more |
-/// | 9 | the disk failed | `disk` |
-/// | 10 | the host failed: there is no such source, disk, link or clock, or the name of a fresh disk is taken; or the link or the clock failed | `host` |
-/// | 11 | the disk holds no store of this layout and brick | `not a store` |
-/// | 12 | the disk's store was opened as often as it can be | `worn` |
+/// | 9 | a disk failed | `disk` |
+/// | 10 | the host failed: there is no such source, disk, link or clock, or the name of a fresh disk is taken; or a link or the clock failed | `host` |
+/// | 11 | a disk, of several the first, holds no store of this layout and brick | `not a store` |
+/// | 12 | a disk's store, of several the first, was opened as often as it can be | `worn` |
 ///
-/// The host is asked for the source and then for the disk, and for `serve` then for the link and for the clock, each once; a store is opened before
-/// the next of these calls. The host is given back each before the end, at every status. What is told of these things is told of what was opened
+/// The host is asked for the source and then for the disk, and for `serve` then for the link and for the clock, each once. For `local` it is asked,
+/// after the source, for the disk of each brick and then for its link, by number, then for the clock, for the client's link at port 0, which is any
+/// free one, and for the source `-`. A store is opened before the next of these calls.
+/// The host is given back each before the end, at every status. What is told of these things is told of what was opened
 /// and what was given back; over a host that tells nothing of what it holds, the clauses do not tie them to its names.
 pub fn brick<H: Host, K: Sink>(alloc: Global, words: &[String], host: &mut H, out: &mut K) -> u8
     // Words of no form: the host is asked nothing.
     ensures words { command_of (map string_bytes words.now) ≡ None → host.new ≡ host.old }
 
     ensures runs { Runs H.Source.told H.Source.faults
-        (views H.Disk.tells H.Disk.seen H.Disk.may_leave H.Disk.faults H.Link.waiting H.Link.sent H.Link.faults H.Clock.coming H.Clock.faults)
+        (views H.Disk.Disk H.Link.Link H.Clock.Clock)
         (host_seen (H.faults host.old) (H.asked host.old) (H.holds host.old)) (host_seen (H.faults host.new) (H.asked host.new) (H.holds host.new))
         (K.told out.old) (K.told out.new) result (command_of (map string_bytes words.now)) }
 
@@ -67,7 +71,7 @@ pub fn brick<H: Host, K: Sink>(alloc: Global, words: &[String], host: &mut H, ou
 /// Does what these words ask for, and answers the exit status.
 fn run<H: Host, K: Sink>(alloc: Global, words: Words<'_>, host: &mut H, out: &mut K) -> u8
     ensures runs { Ran H.Source.told H.Source.faults
-        (views H.Disk.tells H.Disk.seen H.Disk.may_leave H.Disk.faults H.Link.waiting H.Link.sent H.Link.faults H.Clock.coming H.Clock.faults)
+        (views H.Disk.Disk H.Link.Link H.Clock.Clock)
         (host_seen (H.faults host.old) (H.asked host.old) (H.holds host.old)) (host_seen (H.faults host.new) (H.asked host.new) (H.holds host.new))
         (wanted words.entry) (K.told out.old) (K.told out.new) result }
     ensures stays { H.sound host.old → H.sound host.new }
@@ -82,7 +86,7 @@ fn run<H: Host, K: Sink>(alloc: Global, words: Words<'_>, host: &mut H, out: &mu
 /// Does what these words ask for.
 fn work<H: Host, K: Sink>(alloc: Global, words: Words<'_>, host: &mut H, out: &mut K) -> Ending
     ensures works { Works H.Source.told H.Source.faults
-        (views H.Disk.tells H.Disk.seen H.Disk.may_leave H.Disk.faults H.Link.waiting H.Link.sent H.Link.faults H.Clock.coming H.Clock.faults)
+        (views H.Disk.Disk H.Link.Link H.Clock.Clock)
         (host_seen (H.faults host.old) (H.asked host.old) (H.holds host.old)) (host_seen (H.faults host.new) (H.asked host.new) (H.holds host.new))
         (wanted words.entry) (K.told out.old) (K.told out.new) result }
     ensures stays { H.sound host.old → H.sound host.new }
@@ -97,5 +101,6 @@ fn work<H: Host, K: Sink>(alloc: Global, words: Words<'_>, host: &mut H, out: &m
     match words.work {
         Work::Format { id } => format(alloc, host, words.name, &layout, id),
         Work::Serve { id, turns } => serve(alloc, host, out, words.name, layout, id, turns),
+        Work::Local { turns } => local(alloc, host, out, words.name, &layout, turns),
     }
 }

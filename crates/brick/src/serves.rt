@@ -1,13 +1,13 @@
 //! `brick serve`.
 
-ghost use Rattle.std.specs.Prelude.{◌≡◌, ◌≢◌, ◌<◌, false};
+ghost use Rattle.std.specs.Prelude.{◌≡◌, ◌≢◌, ◌<◌, false, IfOk, IfErr, MatchResult};
 ghost use Rattle.fab_io.specs.Ends.{Kept};
 ghost use Rattle.node.specs.Running.{IsSameBrick, state_of, LeavesBrick};
 ghost use Rattle.serving.specs.Ports.{ports_of, port_of};
 ghost use Rattle.brick.specs.Endings.{status_of, IsDone};
 ghost use Rattle.brick.specs.Hosts.{host_seen, Told, Has};
 ghost use Rattle.brick.specs.Layouts.{brick_of};
-ghost use Rattle.brick.specs.Serves.{ending_of, refusal_of, ServesTurns, ServesByClock, ServesByLink, ServesOver, ServesByDisk, ServesBrick, MayStart, HasClock, HasLink, HasDisk};
+ghost use Rattle.brick.specs.Serves.{ending_of, refusal_of, ServesTurns, ServesByClock, ServesByLink, ServesOver, ServesByDisk, ServesBrick, IsStarted, RefusesStore, MayStart, HasClock, HasLink, HasDisk};
 ghost use Rattle.brick.specs.Views.{views};
 
 use crate::endings::{Ending, say_serving};
@@ -32,7 +32,7 @@ pub(crate) fn serve<H: Host, K: Sink>(
     id: u64,
     turns: u64,
 ) -> Ending
-    ensures serves { ServesBrick (views H.Disk.tells H.Disk.seen H.Disk.may_leave H.Disk.faults H.Link.waiting H.Link.sent H.Link.faults H.Clock.coming H.Clock.faults)
+    ensures serves { ServesBrick (views H.Disk.Disk H.Link.Link H.Clock.Clock)
         layout (brick_of layout id) turns (host_seen (H.faults host.old) (H.asked host.old) (H.holds host.old))
         (host_seen (H.faults host.new) (H.asked host.new) (H.holds host.new)) name.now (K.told out.old) (K.told out.new) result }
     ensures stays { H.sound host.old → H.sound host.new }
@@ -57,7 +57,7 @@ fn serve_disk<H: Host, K: Sink>(
     turns: u64,
 ) -> Ending
     requires { me.0 < layout.bricks }
-    ensures serves { ServesByDisk (views H.Disk.tells H.Disk.seen H.Disk.may_leave H.Disk.faults H.Link.waiting H.Link.sent H.Link.faults H.Clock.coming H.Clock.faults)
+    ensures serves { ServesByDisk (views H.Disk.Disk H.Link.Link H.Clock.Clock)
         layout me turns (host_seen (H.faults host.old) (H.asked host.old) (H.holds host.old))
         (host_seen (H.faults host.new) (H.asked host.new) (H.holds host.new)) name.now (K.told out.old) (K.told out.new) result }
     ensures stays { H.sound host.old → H.sound host.new }
@@ -86,7 +86,7 @@ fn serve_store<H: Host, K: Sink>(
     turns: u64,
 ) -> (H::Disk, Ending)
     requires { me.0 < layout.bricks }
-    ensures serves { ServesOver (views H.Disk.tells H.Disk.seen H.Disk.may_leave H.Disk.faults H.Link.waiting H.Link.sent H.Link.faults H.Clock.coming H.Clock.faults)
+    ensures serves { ServesOver (views H.Disk.Disk H.Link.Link H.Clock.Clock)
         layout me turns disk result.0 (host_seen (H.faults host.old) (H.asked host.old) (H.holds host.old))
         (host_seen (H.faults host.new) (H.asked host.new) (H.holds host.new)) (K.told out.old) (K.told out.new) result.1 }
     ensures disks { Told (H.holds host.old) (H.holds host.new) (λ h now. now.disks ≡ h.disks) }
@@ -97,20 +97,46 @@ fn serve_store<H: Host, K: Sink>(
         → MayStart H.Disk.tells H.Disk.seen layout me disk → Has (H.holds host.old) (HasLink (port_of (ports_of layout) me)) → IsDone result.1 }
 {
     let port = port_of(&layout, me);
-    match Node::start(alloc, layout, me, disk) {
+    match start::<H>(alloc, &layout, me, disk) {
         Ok(node) => {
             let mut node = node;
             let ending = serve_link(alloc, host, out, &mut node, port, turns);
             (node.into_disk(), ending)
         }
-        Err((fault, disk)) => (disk, refusal_of(fault)),
+        Err((ending, disk)) => (disk, ending),
     }
 }
 
-/// The port of a brick of a layout.
-fn port_of(layout: &Layout, me: BrickId) -> u16
+/// Starts the brick whose store a disk holds; or hands the disk back, with how that ends the program.
+pub(crate) fn start<H: Host>(
+    alloc: Global,
+    layout: &Layout,
+    me: BrickId,
+    disk: H::Disk,
+) -> Result<Node<H::Disk>, (Ending, H::Disk)>
+    ensures starts { IfOk result (IsStarted (views H.Disk.Disk H.Link.Link H.Clock.Clock) layout.now me disk) }
+    ensures runs { IfOk result (λ node. node.brick.halted ≡ false) }
+    ensures durable { IfOk result (λ node. H.Disk.tells → LeavesBrick node.layout node.me (state_of node) (H.Disk.may_leave node.brick.disk)) }
+    ensures refuses { IfErr result (λ e. RefusesStore (views H.Disk.Disk H.Link.Link H.Clock.Clock) layout.now me disk e.1 e.0) }
+    ensures sound { H.Disk.sound disk → MatchResult result (λ node. H.Disk.sound node.brick.disk) (λ e. H.Disk.sound e.1) }
+    ensures sink { IfErr result (λ e. status_of e.0 ≢ 6) }
+    ensures done { H.Disk.sound disk → MayStart H.Disk.tells H.Disk.seen layout.now me disk → IfErr result (λ e. IsDone e.0) }
+{
+    let copied = match layout.copy(alloc) {
+        Ok(copied) => copied,
+        Err(_) => return Err((Ending::Memory, disk)),
+    };
+    match Node::start(alloc, copied, me, disk) {
+        Ok(node) => Ok(node),
+        Err((fault, disk)) => Err((refusal_of(fault), disk)),
+    }
+}
+
+/// The port of a brick of a layout. It is not 0.
+pub(crate) fn port_of(layout: &Layout, me: BrickId) -> u16
     requires { me.0 < layout.now.bricks }
-    ensures { result ≡ port_of (ports_of layout.now) me }
+    ensures value { result ≡ port_of (ports_of layout.now) me }
+    ensures some { 0 < result }
 {
     layout.port() + me.0
 }
@@ -139,7 +165,7 @@ fn serve_link<H: Host, K: Sink>(
 ) -> Ending
     requires runs { node.old.brick.halted ≡ false }
     requires durable { H.Disk.tells → LeavesBrick node.old.layout node.old.me (state_of node.old) (H.Disk.may_leave node.old.brick.disk) }
-    ensures serves { ServesByLink (views H.Disk.tells H.Disk.seen H.Disk.may_leave H.Disk.faults H.Link.waiting H.Link.sent H.Link.faults H.Clock.coming H.Clock.faults)
+    ensures serves { ServesByLink (views H.Disk.Disk H.Link.Link H.Clock.Clock)
         turns port (host_seen (H.faults host.old) (H.asked host.old) (H.holds host.old))
         (host_seen (H.faults host.new) (H.asked host.new) (H.holds host.new)) node.old node.new (K.told out.old) (K.told out.new) result }
     ensures disks { Told (H.holds host.old) (H.holds host.new) (λ h now. now.disks ≡ h.disks) }
@@ -173,7 +199,7 @@ fn serve_clock<H: Host, K: Sink>(
 ) -> Ending
     requires runs { node.old.brick.halted ≡ false }
     requires durable { H.Disk.tells → LeavesBrick node.old.layout node.old.me (state_of node.old) (H.Disk.may_leave node.old.brick.disk) }
-    ensures serves { ServesByClock (views H.Disk.tells H.Disk.seen H.Disk.may_leave H.Disk.faults H.Link.waiting H.Link.sent H.Link.faults H.Clock.coming H.Clock.faults)
+    ensures serves { ServesByClock (views H.Disk.Disk H.Link.Link H.Clock.Clock)
         turns (host_seen (H.faults host.old) (H.asked host.old) (H.holds host.old))
         (host_seen (H.faults host.new) (H.asked host.new) (H.holds host.new)) node.old node.new link.old link.new (K.told out.old) (K.told out.new) result }
     ensures others { Told (H.holds host.old) (H.holds host.new) (λ h now. (now.disks ≡ h.disks) × (now.links ≡ h.links)) }
@@ -208,7 +234,7 @@ fn serve_turns<D: Disk, L: Link, C: Clock, K: Sink>(
 ) -> Ending
     requires runs { node.old.brick.halted ≡ false }
     requires durable { D.tells → LeavesBrick node.old.layout node.old.me (state_of node.old) (D.may_leave node.old.brick.disk) }
-    ensures serves { ServesTurns (views D.tells D.seen D.may_leave D.faults L.waiting L.sent L.faults C.coming C.faults)
+    ensures serves { ServesTurns (views D.Disk L.Link C.Clock)
         turns node.old node.new link.old link.new clock.old clock.new (K.told out.old) (K.told out.new) result }
     ensures same { IsSameBrick node.old node.new }
     ensures durable { D.tells → result ≢ Ending.Disk → LeavesBrick node.new.layout node.new.me (state_of node.new) (D.may_leave node.new.brick.disk) }

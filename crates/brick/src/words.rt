@@ -4,14 +4,14 @@ ghost use Rattle.std.specs.Prelude.{◌≡◌, map, string_bytes, option_map};
 ghost use Rattle.std.specs.Char.{is_ascii_digit};
 ghost use Rattle.std.specs.List.{list_all};
 ghost use Rattle.lines.specs.Tokens.{number};
-ghost use Rattle.brick.specs.Words.{wanted, is_name, format_work, serve_work, wants, four_words, five_words, command_of};
+ghost use Rattle.brick.specs.Words.{wanted, is_name, format_work, serve_work, local_work, wants, four_words, five_words, command_of};
 
 /// What the words of a command line ask for.
 #[derive(Clone, Copy)]
 pub struct Words<'w> {
     /// The name of the source whose text is the layout.
     pub layout: &'w str,
-    /// The name of the disk.
+    /// The name of the disk, or what the names of the bricks' disks begin with.
     pub name: &'w str,
     /// What is to be done.
     pub work: Work,
@@ -30,6 +30,11 @@ pub enum Work {
         /// The number of the brick.
         id: u64,
         /// How many turns it is to serve.
+        turns: u64,
+    },
+    /// Commands are to be run over all bricks of the layout, by so many turns.
+    Local {
+        /// How many turns they may take.
         turns: u64,
     },
 }
@@ -61,12 +66,14 @@ pub(crate) fn parse(words: &[String]) -> Option<Words<'_>>
     None
 }
 
-/// What `format LAYOUT DISK ID` asks for.
-fn four_words<'w>(word: &str, layout: &'w str, disk: &'w str, id: &str) -> Option<Words<'w>>
-    ensures { option_map wanted result ≡ four_words word.now layout.now disk.now id.now }
+/// What `format LAYOUT DISK ID` or `local LAYOUT PREFIX TURNS` asks for.
+fn four_words<'w>(word: &str, layout: &'w str, name: &'w str, count: &str) -> Option<Words<'w>>
+    ensures { option_map wanted result ≡ four_words word.now layout.now name.now count.now }
 {
     if word == "format" {
-        wants(layout, disk, format_work(id))
+        wants(layout, name, format_work(count))
+    } else if word == "local" {
+        wants(layout, name, local_work(count))
     } else {
         None
     }
@@ -106,7 +113,15 @@ fn serve_work(id: &str, turns: &str) -> Option<Work>
     Some(Work::Serve { id, turns })
 }
 
-/// This work on the disk of this name.
+/// To run commands by TURNS turns.
+fn local_work(turns: &str) -> Option<Work>
+    ensures { result ≡ local_work turns.now }
+{
+    let turns = parse_number(turns)?;
+    Some(Work::Local { turns })
+}
+
+/// This work on the disk of this name, or those of this prefix.
 fn wants<'w>(layout: &'w str, name: &'w str, work: Option<Work>) -> Option<Words<'w>>
     ensures { option_map wanted result ≡ wants layout.now name.now work }
 {

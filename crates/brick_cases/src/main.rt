@@ -1,10 +1,12 @@
 //! Runs the program `brick` over files and ports of this machine, and over things in memory, and prints how each command ends.
 //!
 //! A line of standard input is the words of a command. A word that begins with `@` is a name in a folder of this process; `@layout` is the
-//! layout of `data/` with a port of this process before it. The line `empty NAME` makes an empty file.
+//! layout of `data/` with a port of this process before it. Behind ` < ` stands the name of a file in `data/`, which is the standard input of
+//! the command. The line `empty NAME` makes an empty file.
 //!
 //! A line `memory WORDS..` runs a command over a host in memory, which keeps what it holds from line to line, and holds the layout of `data/`
 //! as `layout`. Behind ` < ` stands the name of a file in `data/`: its lines `PORT HEX` are the datagrams that wait at the link of brick 0.
+//! After the line `fail` the next call of that host fails.
 //!
 //! For each command its line, its status and what it printed are printed, and behind ` < ` the datagrams that were sent.
 #![tactic(auto)]
@@ -87,15 +89,21 @@ impl Place {
         Ok(words)
     }
 
-    /// Runs a command over the system.
+    /// Runs a command over the system, with this file for its standard input.
     fn run(
         &self,
         rt: &(impl Files<File = File> + Net + time::Clock + AllocGlobal),
         command: &str,
+        input: &str,
     ) -> io::Result<Ending> {
         let alloc = rt.alloc();
         let words = self.words(alloc, command)?;
-        let input = MemSource::new(Vec::new(alloc));
+        let input = if input.is_empty() {
+            Vec::new(alloc)
+        } else {
+            fs::read(rt, input)?
+        };
+        let input = MemSource::new(input);
         let Ok(mut host) = OsHost::new(alloc, rt, input) else {
             return Err(refused());
         };
@@ -170,13 +178,17 @@ fn main(rt: HostRuntime) -> io::Result<()> {
         let line = line.as_str();
         if let Some(name) = line.strip_prefix("empty ") {
             fs::write(&rt, place.name(alloc, name)?.as_str(), b"".as_slice())?;
+        } else if line == "fail" {
+            let next = host.asked().len() as u64 + 1;
+            host.fail_at(vec![in alloc; next; 1]?);
         } else if let Some(rest) = line.strip_prefix("memory ") {
             let (command, datagrams) = rest.split_once(" < ").unwrap_or((rest, ""));
             let ending = place.run_in_memory(&rt, &mut host, command, datagrams)?;
             ending.print(&rt, line)?;
             print_sent(&rt, &host)?;
         } else {
-            place.run(&rt, line)?.print(&rt, line)?;
+            let (command, input) = line.split_once(" < ").unwrap_or((line, ""));
+            place.run(&rt, command, input)?.print(&rt, line)?;
         }
     }
     fs::remove_dir_all(&rt, place.folder.as_str())

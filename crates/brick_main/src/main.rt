@@ -1,4 +1,5 @@
-//! `brick format` makes the store of a brick on a file, and `brick serve` has the brick serve over it, a UDP port and the clock.
+//! `brick format` makes the store of a brick on a file, `brick serve` has the brick serve over it, a UDP port and the clock, and `brick local` runs
+//! the commands of standard input over all bricks of a layout.
 #![tactic(auto)]
 
 use brick::brick;

@@ -1,9 +1,10 @@
-//! Runs inputs of the program `replay`, each a file in `data/`, and says whether each prints and ends as it should.
+//! Runs inputs of the programs `replay` and `trace`, each a file in `data/`, and says whether each prints and ends as it should.
 //!
 //! A line of standard input names a case: `NAME`, `NAME STATUS` or `NAME STATUS WORD..`. The file NAME.in is run over ends in
 //! memory, with the words given or else the word `run`. It must end with the status given or else with 0, and must print what stands
 //! in NAME.out. The line `faults NAME` runs a case again and again: each read of its input in turn fails, and each write of its
-//! output. Such a run must end with the status of that fault, and print no more than a prefix of the output.
+//! output. Such a run must end with the status of that fault, and print no more than a prefix of the output. The line `trace NAME` runs the
+//! program `trace` over NAME.in with the word `text`: it must print what stands in NAME.trace.
 #![tactic(auto)]
 
 use fab_io::{MemSink, MemSource};
@@ -11,6 +12,7 @@ use replay::replay;
 use std::alloc::{AllocError, Global};
 use std::rt::Files;
 use std::{fmt, fs, io};
+use trace::trace;
 
 /// A source that fails gives its bytes in pieces of this length, so that a short input takes several reads.
 const PIECE: usize = 64;
@@ -58,6 +60,7 @@ struct Ending {
 struct Case {
     name: String,
     has_faults: bool,
+    is_trace: bool,
     words: Vec<String>,
     input: Vec<u8>,
     status: u8,
@@ -90,10 +93,16 @@ impl Case {
         let mut tokens = line.split_whitespace();
         let first = tokens.next().unwrap_or("");
         let has_faults = first == "faults";
-        let name = if has_faults {
+        let is_trace = first == "trace";
+        let name = if has_faults || is_trace {
             tokens.next().unwrap_or("")
         } else {
             first
+        };
+        let (word, kind) = if is_trace {
+            ("text", "trace")
+        } else {
+            ("run", "out")
         };
         let status = tokens.next().unwrap_or("0").parse().unwrap_or(u8::MAX);
         let mut words = Vec::new(alloc);
@@ -101,14 +110,15 @@ impl Case {
             words.push(String::from_str(alloc, token)?)?;
         }
         if words.is_empty() {
-            words.push(String::from_str(alloc, "run")?)?;
+            words.push(String::from_str(alloc, word)?)?;
         }
         let input = fs::read(rt, format!(in alloc; "{name}.in")?)?;
-        let output = fs::read(rt, format!(in alloc; "{name}.out")?)?;
+        let output = fs::read(rt, format!(in alloc; "{name}.{kind}")?)?;
         let name = String::from_str(alloc, name)?;
         Ok(Case {
             name,
             has_faults,
+            is_trace,
             words,
             input,
             status,
@@ -131,7 +141,13 @@ impl Case {
             }
             None => (),
         }
-        let status = replay(alloc, self.words.as_slice(), &mut source, &mut sink);
+        let words = self.words.as_slice();
+        let status = if self.is_trace {
+            let mut errors = MemSink::new(alloc);
+            trace(alloc, words, &mut source, &mut sink, &mut errors)
+        } else {
+            replay(alloc, words, &mut source, &mut sink)
+        };
         Ok(Ending { status, sink })
     }
 
@@ -185,7 +201,11 @@ fn main(rt: HostRuntime) -> io::Result<()> {
     for line in rt.lines(rt.alloc()) {
         let case = Case::read(&rt, line?.as_str())?;
         let name = case.name.as_str();
-        let with = if case.has_faults { " with faults" } else { "" };
+        let with = match (case.has_faults, case.is_trace) {
+            (true, _) => " with faults",
+            (false, true) => " traced",
+            (false, false) => "",
+        };
         match case.first_trouble(rt.alloc())? {
             None => println!(rt; "{name}{with} ok")?,
             Some(trouble) => println!(rt; "{name}{with} {trouble}")?,

@@ -1,5 +1,5 @@
 -- What was written of lines that were run, one after another.
-use Rattle.std.proofs.Common.{◌≡◌, ℕ, true, List, [], ◌∷◌, ◌++◌, Option, Some, Result, Ok, Err, IsErr, refl, sym, ap, ◌∙◌, subst, append-nil}
+use Rattle.std.proofs.Common.{◌≡◌, ◌≢◌, ℕ, true, List, [], ◌∷◌, ◌++◌, Option, Some, Result, Ok, Err, IsErr, refl, sym, ap, ◌∙◌, subst, append-nil}
 use Rattle.std.specs.Io.KnownBytes.{Appends, IsAtEnd, prepend_known}
 use Rattle.std.proofs.KnownBytes.{Appends-nil, Appends-trans, Keeps-refl, prepend_known-nil}
 use Rattle.fab_io.specs.Ends.{WriteTakes}
@@ -20,9 +20,9 @@ use Rattle.world.specs.Steps.{Ran, Runs}
 use Rattle.world.specs.Texts.{step_text}
 use Rattle.printed.specs.Outputs.{steps_text}
 use Rattle.replay.proofs.Steppings.{leads_none, leads_one, leads_both, leads_layout, leads_world, lines_both, steps_text-append, after_steps}
-use Rattle.trace_runs.specs.declared.endings.Verdict.{Verdict}
-use Rattle.trace_runs.specs.declared.endings.Verdict.TheVariants.{Whole, BadLayout}
-use Rattle.trace_runs.specs.declared.endings.Halt.{Halt}
+use Rattle.replay.specs.declared.endings.Verdict.{Verdict}
+use Rattle.replay.specs.declared.endings.Verdict.TheVariants.{Whole, BadLayout, Refuted}
+use Rattle.replay.specs.declared.endings.Halt.{Halt}
 use Rattle.trace.specs.Told.{IsTold, indented, IsStepText}
 use Rattle.trace.specs.Tales.{Takes, WritesTold, TellsRun, TellsNothing, TellsLines, TellsRest, EndsAs}
 use Rattle.trace.proofs.WholeTexts.{told-none, told-after, told-alone}
@@ -134,8 +134,8 @@ lines-more r value first before after source left next head raw text old mid new
 -- the run ended, or was stopped, and what was written since tells nothing
 pub lines-end : {S : Type 0} (ending : Result Verdict Halt) (value : S) (first last : Run) (source left : Option (List ℕ)) (head : List ℕ)
     (old mid new : Option (List ℕ)) → TellsLines {T = S} first last source left head old mid (Ok value) → WritesTold ending mid new []
-    → (ending ≡ Ok Whole → IsAtEnd left) → TellsRest first source head old new ending
-lines-end ending value first last source left head old mid new h writes all =
+    → (ending ≡ Ok Whole → IsAtEnd left) → ending ≢ Ok Refuted → TellsRest first source head old new ending
+lines-end ending value first last source left head old mid new h writes all ran =
     let text : List ℕ = steps_text (coding first.layout) (world_of first) h.steps in
     record {
       last = last;
@@ -149,22 +149,23 @@ lines-end ending value first last source left head old mid new h writes all =
         writes = subst (WritesTold ending old new) (append-nil text) (writes-after ending value old mid new text [] h.writes writes);
       };
       all = all;
+      ran = ran;
     }
 
--- a run that stops is not whole
-pub stopped : (halt : Halt) (P : Type 0) → (let r : Result Verdict Halt = Err halt in r ≡ Ok Whole → P)
-stopped halt P e = cc
+-- a run that stops does not end
+pub stopped : (halt : Halt) (verdict : Verdict) (P : Type 0) → (let r : Result Verdict Halt = Err halt in r ≡ Ok verdict → P)
+stopped halt verdict P e = cc
 
 -- the run was stopped in the midst of a line's text
 pub lines-stopped : (halt : Halt) (first last : Run) (source left : Option (List ℕ)) (head : List ℕ) (old new : Option (List ℕ))
     → (let r : Result Verdict Halt = Err halt in TellsLines first last source left head old new r → TellsRest first source head old new r)
 lines-stopped halt first last source left head old new h =
-    record { last = last; left = left; lines = h; all = stopped halt (IsAtEnd left) }
+    record { last = last; left = left; lines = h; all = stopped halt Whole (IsAtEnd left); ran = stopped halt Refuted ⊥ }
 
--- an end that is not whole
-pub ends_not : (verdict : Verdict) (ending : Result Verdict Halt) → EndsAs verdict ending → (verdict ≡ Whole → ⊥) → ending ≡ Ok Whole → ⊥
-ends_not verdict (Ok one) same other e = other (sym same ∙ (let is : one ≡ Whole = cc in is))
-ends_not verdict (Err halt) same other e = cc
+-- a run that goes on to one end has no other
+pub ends_not : (verdict other : Verdict) (ending : Result Verdict Halt) → EndsAs verdict ending → verdict ≢ other → ending ≢ Ok other
+ends_not verdict other (Ok one) same differs e = differs (sym same ∙ (let is : one ≡ other = cc in is))
+ends_not verdict other (Err halt) same differs e = cc
 
 -- a run over a layout's disk, from its first line on
 pub run-told : (source old new : Option (List ℕ)) (ending : Result Verdict Halt) (head : List ℕ) (first : Run) → layout_of head ≡ Ok first.layout
@@ -193,21 +194,29 @@ run-told source old new ending head first is first_is fresh rest =
           ∙ ap (λ (r : Run). steps_text (coding first.layout) (world_of r) steps) first_is;
       taken = rest.lines.writes.taken;
       all = rest.all;
+      ran = rest.ran;
     }
 
 -- no line was run, and what was written tells nothing
-pub nothing-told : (old new : Option (List ℕ)) (ending : Result Verdict Halt) → WritesTold ending old new [] → (ending ≡ Ok Whole → ⊥)
+pub nothing-told : (old new : Option (List ℕ)) (ending : Result Verdict Halt) → WritesTold ending old new [] → ending ≢ Ok Whole → ending ≢ Ok Refuted
     → TellsNothing old new ending
-nothing-told old new ending writes not_all = record {
+nothing-told old new ending writes not_all ran = record {
   text = writes.text;
   told = told-alone writes.text [] writes.is_told;
   taken = writes.taken;
   not_all = not_all;
+  ran = ran;
 }
 
--- a layout that is none is an end that is not whole
-pub bad_layout : BadLayout ≡ Whole → ⊥
-bad_layout e = cc
+-- ends of a run, and what they are not
+pub layout_not_whole : BadLayout ≢ Whole
+layout_not_whole e = cc
+
+pub layout_not_refuted : BadLayout ≢ Refuted
+layout_not_refuted e = cc
+
+pub whole_not_refuted : Whole ≢ Refuted
+whole_not_refuted e = cc
 
 -- nothing was read before
 pub from-start : (source left : Option (List ℕ)) (unread head : List ℕ) → unread ≡ [] → ReadsSchedule (prepend_known unread source) left head []

@@ -1,5 +1,5 @@
 -- What `trace text` writes of a run.
-use Rattle.std.specs.Prelude.{◌≡◌, ℕ, ◌<◌, ◌⊎◌, List, [], ◌∷◌, ⊤, Option, Result, Ok, Err, slice_index, string_bytes}
+use Rattle.std.specs.Prelude.{◌≡◌, ◌≢◌, ℕ, ◌<◌, ◌⊎◌, List, [], ◌∷◌, ⊤, Option, Result, Ok, Err, slice_index, string_bytes}
 use Rattle.std.specs.Io.KnownBytes.{Appends, IsAtEnd}
 use Rattle.fab_io.specs.Ends.{AppendsFront}
 use Rattle.fab_base.specs.Layouts.{Layout}
@@ -13,9 +13,9 @@ use Rattle.world.specs.Disks.{ShowsDisks}
 use Rattle.world.specs.Steps.{Ran}
 use Rattle.printed.specs.Outputs.{steps_text}
 use Rattle.printed.specs.LineSteps.{LeadsTo, AreLinesOfSteps, AreStepsOf}
-use Rattle.trace_runs.specs.declared.endings.Verdict.{Verdict}
-use Rattle.trace_runs.specs.declared.endings.Verdict.TheVariants.{Whole}
-use Rattle.trace_runs.specs.declared.endings.Halt.{Halt}
+use Rattle.replay.specs.declared.endings.Verdict.{Verdict}
+use Rattle.replay.specs.declared.endings.Verdict.TheVariants.{Whole, Refuted}
+use Rattle.replay.specs.declared.endings.Halt.{Halt}
 use Rattle.trace.specs.Told.{told_in, IsTold}
 use Rattle.trace.specs.declared.schedules.Opening.{Opening}
 use Rattle.trace.specs.declared.schedules.Opening.TheVariants as opening
@@ -34,7 +34,7 @@ pub record WritesTold {T : Type 0} (result : Result T Halt) (old new : Option (L
   pub taken : Takes result old new text
 
 -- The first lines of a schedule were run over a layout, and a text was written that tells what `replay` prints for them, before it closes its
--- output. Where all was run, no line is left.
+-- output. Where all was run, no line is left. No run is refuted: an audit alone is.
 pub record TellsRun (source old new : Option (List ℕ)) (ending : Result Verdict Halt) : Type 0 where
   pub head : List ℕ
   pub lines : List (List ℕ)
@@ -48,13 +48,15 @@ pub record TellsRun (source old new : Option (List ℕ)) (ending : Result Verdic
   pub told : told_in text ≡ steps_text (coding layout) (first_world layout) steps
   pub taken : Takes ending old new text
   pub all : ending ≡ Ok Whole → IsAtEnd left
+  pub ran : ending ≢ Ok Refuted
 
 -- no line was run, and a text was written that tells nothing
 pub record TellsNothing (old new : Option (List ℕ)) (ending : Result Verdict Halt) : Type 0 where
   pub text : List ℕ
   pub told : told_in text ≡ []
   pub taken : Takes ending old new text
-  pub not_all : ending ≡ Ok Whole → ⊥
+  pub not_all : ending ≢ Ok Whole
+  pub ran : ending ≢ Ok Refuted
 
 -- what `trace text` writes of an input
 abbrev pub Tells : Option (List ℕ) → Option (List ℕ) → Option (List ℕ) → Result Verdict Halt → Type 0
@@ -84,7 +86,7 @@ Opens start now (opening.Refused why) = IsSolid (string_bytes why)
 abbrev pub IsRefusal : Turn → Type 0
 IsRefusal (turn.Ran line taken) = ⊥
 IsRefusal turn.Ended = ⊥
-IsRefusal (turn.Refused verdict why) = (verdict ≡ Whole → ⊥) × IsSolid (string_bytes why)
+IsRefusal (turn.Refused verdict why) = (verdict ≢ Whole) × (verdict ≢ Refuted) × IsSolid (string_bytes why)
 
 -- a line was run, or is none
 abbrev pub RunsLine : Run → Run → List ℕ → Turn → Type 0
@@ -114,6 +116,7 @@ pub record TellsRest (first : Run) (source : Option (List ℕ)) (head : List ℕ
   pub left : Option (List ℕ)
   pub lines : TellsLines first last source left head old new ending
   pub all : ending ≡ Ok Whole → IsAtEnd left
+  pub ran : ending ≢ Ok Refuted
 
 -- a run that goes on to this end, where it is not stopped
 abbrev pub EndsAs : Verdict → Result Verdict Halt → Type 0

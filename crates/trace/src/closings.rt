@@ -4,7 +4,7 @@ use brick_store::State;
 use fab_base::{BrickId, Bytes, GroupId, NoMem, Stamp, StripeNo};
 use reg_model::Happening;
 use std::alloc::Global;
-use trace_runs::{Deed, Hex, Journal, Reached, answer_at, is_up, op_at};
+use trace_runs::{Deed, Hex, Journal, Reached, answer_of, is_up, op_of};
 use world::World;
 
 /// A happening: its operation and position, and what it read or wrote.
@@ -17,11 +17,13 @@ fn happening_text(
     let number = happening.operation;
     let position = happening.position;
     let mut text = format!(in alloc; "happened {number}@{position}")?;
-    if let Some(op) = op_at(world, journal, number) {
-        write!(text, " {}", Deed(op))?;
-    }
-    if let Some(answer) = answer_at(world, journal, number) {
-        write!(text, ": {}", Reached(answer))?;
+    if let Some(operation) = journal.operation(number) {
+        if let Some(op) = op_of(world, operation) {
+            write!(text, " {}", Deed(op))?;
+        }
+        if let Some(answer) = answer_of(world, operation) {
+            write!(text, ": {}", Reached(answer))?;
+        }
     }
     Ok(text)
 }

@@ -3,8 +3,9 @@
 use crate::schedules::{Opening, Turn, open, take_turn};
 use fab_io::{Sink, Source};
 use lines::{Unread, content_of};
+use replay::{Halt, Verdict, write};
 use std::alloc::Global;
-use trace_runs::{Film, Halt, Journal, Verdict, draw_run, write};
+use trace_runs::{Drawing, Journal};
 use world::World;
 
 /// The most lines that are drawn.
@@ -17,16 +18,16 @@ fn say<E: Sink>(alloc: Global, errors: &mut E, text: &str) -> Result<(), Halt> {
 }
 
 /// Writes the picture of what was run, of a schedule with so many lines.
-fn draw_film<K: Sink, E: Sink>(
+fn finish<K: Sink, E: Sink>(
     alloc: Global,
     world: &World,
     journal: &Journal,
-    film: &Film,
+    drawing: Drawing,
     lines: u64,
     sink: &mut K,
     errors: &mut E,
 ) -> Result<Verdict, Halt> {
-    let text = draw_run(alloc, world, journal, film)?;
+    let text = drawing.finish(world, journal)?;
     write(sink, text.as_bytes())?;
     if lines > MOST_DRAWN {
         let notice = format!(in alloc; "the first {MOST_DRAWN} of {lines} lines are drawn")?;
@@ -45,17 +46,17 @@ fn draw_lines<S: Source, K: Sink, E: Sink>(
     errors: &mut E,
 ) -> Result<Verdict, Halt> {
     let mut journal = Journal::new(alloc);
-    let mut film = Film::new(alloc);
+    let mut drawing = Drawing::new(alloc);
     for count in 0..u64::MAX {
         match take_turn(alloc, world, &mut journal, source, unread, count)? {
             Turn::Ran(line, taken) => {
                 if count < MOST_DRAWN && taken.account.is_event {
                     let content = content_of(line.as_slice());
-                    film.add(world, count + 1, content, &taken.account)?;
+                    drawing.add(world, count + 1, content, &taken.account)?;
                 }
             }
             Turn::Ended => {
-                return draw_film(alloc, world, &journal, &film, count, sink, errors);
+                return finish(alloc, world, &journal, drawing, count, sink, errors);
             }
             Turn::Refused(verdict, why) => {
                 say(alloc, errors, why.as_str())?;

@@ -1,38 +1,14 @@
 //! The program's top call.
 
 ghost use Rattle.std.specs.Prelude.{◌≡◌, true, codes, map, string_bytes};
-ghost use Rattle.trace.specs.Words.{is_word, status_of, TextEnds};
+ghost use Rattle.replay.specs.Replays.{is_word};
+ghost use Rattle.trace.specs.Words.{TextEnds};
 
 use crate::drawings::draw;
 use crate::tales::tell;
 use fab_io::{Sink, Source};
+use replay::{is_word, status_of, write};
 use std::alloc::Global;
-use trace_runs::{Halt, Verdict, write};
-
-/// Whether the words are this one word.
-fn is_word(words: &[String], wanted: &str) -> bool
-    ensures { result ≡ is_word wanted.now (map string_bytes words.now) }
-{
-    match words {
-        [word] => word.as_str() == wanted,
-        _ => false,
-    }
-}
-
-/// The exit status of an end.
-fn status_of(ending: Result<Verdict, Halt>) -> u8
-    ensures { result ≡ status_of ending }
-{
-    match ending {
-        Ok(Verdict::Whole) => 0,
-        Ok(Verdict::BadLayout) => 3,
-        Ok(Verdict::BadLine(_)) => 4,
-        Ok(Verdict::TooManyLines) => 8,
-        Err(Halt::Source) => 5,
-        Err(Halt::Sink) => 6,
-        Err(Halt::Memory) => 7,
-    }
-}
 
 /// Runs the program `trace` with these words (its own name left out), and answers its exit status. The input is that of `replay run`.
 ///

@@ -8,8 +8,9 @@ use fab_base::Bytes;
 use fab_io::Source;
 use layout::{Layout, LayoutFault};
 use lines::{LINE_LIMIT, Piece, Unread, content_of};
+use replay::{Halt, Head, MOST_LINES, Verdict, next, read_head};
 use std::alloc::Global;
-use trace_runs::{Halt, Head, Journal, MOST_LINES, Taken, Verdict, next, read_head, take_line};
+use trace_runs::{Journal, Taken, take_line};
 use world::World;
 
 /// What stands before a schedule.

@@ -13,8 +13,9 @@ use crate::schedules::{Opening, Turn, open, take_turn};
 use fab_base::{GroupId, NoMem, StripeNo};
 use fab_io::{Sink, Source};
 use lines::{Unread, content_of};
+use replay::{Halt, Verdict, write};
 use std::alloc::Global;
-use trace_runs::{Halt, Journal, Taken, Verdict, write};
+use trace_runs::{Journal, Taken};
 use world::World;
 
 /// Adds notes to a page.

@@ -22,7 +22,7 @@ fn command<'a>(alloc: Global) -> Result<Command<'a>, AllocError> {
 }
 
 /// Runs the program, and answers its exit status.
-fn run(rt: &HostRuntime) -> anyhow::Result<u8> {
+fn run(rt: &HostRuntime) -> io::Result<u8> {
     let alloc = rt.alloc();
     let words: Vec<String> = env::args(rt)?.skip(1).collect(alloc)?;
     if let Err(error) = command(alloc)?.try_get_matches_from(words.as_slice()) {

@@ -1,6 +1,6 @@
 //! What operations do, what they were answered, and what they do to registers.
 
-use crate::journals::Journal;
+use crate::journals::Operation;
 use crate::packets::Hex;
 use fab_base::{Answer, Cause, Op};
 use reg_model::Mark;
@@ -41,18 +41,16 @@ impl<'a> fmt::Display for Reached<'a> {
     }
 }
 
-/// What an operation is asked to do, by its number.
-pub fn op_at<'a>(world: &'a World, journal: &Journal, number: u64) -> Option<&'a Op> {
-    let operation = journal.operation(number)?;
+/// What an operation is asked to do.
+pub fn op_of<'a>(world: &'a World, operation: &Operation) -> Option<&'a Op> {
     match world.marks().get(operation.begin)? {
         Mark::Begin { ask, .. } => Some(&ask.op),
         Mark::End { .. } | Mark::Crash { .. } => None,
     }
 }
 
-/// The answer that an operation was given, by its number.
-pub fn answer_at<'a>(world: &'a World, journal: &Journal, number: u64) -> Option<&'a Answer> {
-    let operation = journal.operation(number)?;
+/// The answer that an operation was given. None where it is open, or was cut off.
+pub fn answer_of<'a>(world: &'a World, operation: &Operation) -> Option<&'a Answer> {
     match world.marks().get(operation.end?)? {
         Mark::End { answer, .. } => Some(answer),
         Mark::Begin { .. } | Mark::Crash { .. } => None,

@@ -1,12 +1,12 @@
-//! A run as a picture: a bar for each operation, a lane for each brick and each stripe, and an arrow for each message.
+//! A run as a picture: a lane for each brick, an arrow for each message, a bar for each operation, and a lane for each stripe.
 
-use crate::accounts::{Fate, packet_at};
-use crate::deeds::{Deed, Reached, answer_at, op_at, put_deed};
-use crate::films::{Cell, Film};
-use crate::journals::Journal;
-use crate::packets::{Hex, words_of};
+use crate::accounts::{Account, Fate, is_up, packet_at};
+use crate::deeds::{Deed, Reached, answer_of, op_of, put_deed};
+use crate::journals::{Journal, Operation};
+use crate::packets::{Hex, kind_of, word_of};
 use crate::pictures::{Picture, left_of};
 use fab_base::{Answer, BrickId, GroupId, NoMem, StripeNo};
+use messages::Packet;
 use reg_model::{Happening, Mark};
 use std::alloc::Global;
 use world::World;
@@ -17,28 +17,57 @@ const NAMES: u64 = 8;
 /// How far the lines of the schedule are from the top.
 const HEADER: u64 = 44;
 
-/// How far the first bar is from the top.
-const BARS: u64 = 56;
-
-/// How high a bar is, with the gap below it.
-const ROW: u64 = 19;
+/// How far the line of the first brick's lane is from the top.
+const BRICKS: u64 = 86;
 
 /// How high a lane is.
 const LANE: u64 = 66;
 
-/// Keys of the colours.
-const KEYS: [&str; 6] = ["order", "read", "write", "collect", "reply", "refusal"];
+/// How high a bar is, with the gap below it.
+const ROW: u64 = 19;
 
-/// A run that is drawn.
+/// A run that is drawn, a line of its schedule after another.
 #[derive(Drop)]
-struct Canvas<'a> {
+pub struct Drawing {
     alloc: Global,
-    world: &'a World,
-    journal: &'a Journal,
-    film: &'a Film,
-    picture: &'a mut Picture,
-    /// How far the line of the first brick's lane is from the top.
-    bricks: u64,
+    picture: Picture,
+    /// How many columns there are: one for a line, or for each delivery of it.
+    columns: usize,
+    /// The column in which each message was sent, by number from 1.
+    senders: Vec<usize>,
+    /// The column in which each mark was made.
+    makers: Vec<usize>,
+}
+
+/// How far the line of a brick's lane is from the top.
+fn lane_of(brick: BrickId) -> u64 {
+    u64::from(brick.0)
+        .saturating_mul(LANE)
+        .saturating_add(BRICKS)
+}
+
+/// Where a brick sends messages in a column.
+fn departure(column: usize, brick: BrickId) -> (u64, u64) {
+    (left_of(column).saturating_add(124), lane_of(brick))
+}
+
+/// The column in which a message was sent, of those of a line from this one on: the last in which its sender was handed an earlier one.
+fn sender_of(
+    world: &World,
+    account: &Account,
+    first: usize,
+    number: u64,
+    packet: &Packet,
+) -> usize {
+    let mut sender = first;
+    for (place, (delivered, _)) in account.deliveries.iter().enumerate() {
+        if let Some(handed) = packet_at(world, *delivered) {
+            if *delivered < number && handed.to == packet.from {
+                sender = first.saturating_add(place);
+            }
+        }
+    }
+    sender
 }
 
 /// The first row that is free from this column on, which is taken up to the last.
@@ -53,182 +82,193 @@ fn take_row(ends: &mut Vec<usize>, first: usize, last: usize) -> Result<u64, NoM
     Ok((ends.len() as u64).saturating_sub(1))
 }
 
-impl<'a> Canvas<'a> {
-    /// Writes a label.
-    fn label(&mut self, x: u64, y: u64, text: &str) -> Result<(), NoMem> {
-        self.picture.label(self.alloc, x, y, text.as_bytes())
+impl Drawing {
+    /// Nothing is drawn yet.
+    pub fn new(alloc: Global) -> Drawing {
+        Drawing {
+            alloc,
+            picture: Picture::new(alloc),
+            columns: 0,
+            senders: Vec::new(alloc),
+            makers: Vec::new(alloc),
+        }
     }
 
-    /// Draws the keys of the colours.
-    fn draw_keys(&mut self) -> Result<(), NoMem> {
-        let mut x = NAMES;
-        for key in KEYS {
-            self.picture.line(key, (x, 14), (x.saturating_add(22), 14))?;
-            self.label(x.saturating_add(28), 18, key)?;
-            x = x.saturating_add(100);
-        }
+    /// Draws a line that was just run.
+    pub fn add(
+        &mut self,
+        world: &World,
+        number: u64,
+        content: &[u8],
+        account: &Account,
+    ) -> Result<(), NoMem> {
+        let first = self.columns;
+        self.columns = first.saturating_add(account.deliveries.len().max(1));
+        self.draw_title(world, number, content, first)?;
+        self.add_marks(world, account.marks)?;
+        self.add_messages(world, account, first)?;
+        self.draw_deliveries(world, account, first);
+        self.draw_lanes(world, account.started, first);
         Ok(())
     }
 
-    /// How far the line of a brick's lane is from the top.
-    fn lane_of(&self, brick: BrickId) -> u64 {
-        u64::from(brick.0)
-            .saturating_mul(LANE)
-            .saturating_add(self.bricks)
-    }
-
-    /// Draws the operations, and finds where the lanes of the bricks begin.
-    fn draw_bars(&mut self) -> Result<(), NoMem> {
-        let mut ends = Vec::new(self.alloc);
-        for (place, cell) in self.film.makers.iter().enumerate() {
-            if let Some(Mark::Begin { operation, .. }) = self.world.marks().get(place) {
-                self.draw_bar(&mut ends, *operation, *cell)?;
-            }
-        }
-        self.bricks = (ends.len() as u64)
-            .saturating_mul(ROW)
-            .saturating_add(BARS + 30);
-        Ok(())
-    }
-
-    /// Draws an operation, which begins in this column.
-    fn draw_bar(&mut self, ends: &mut Vec<usize>, number: u64, first: usize) -> Result<(), NoMem> {
-        let end = self
-            .journal
-            .operation(number)
-            .and_then(|operation| operation.end);
-        let end = end.and_then(|end| self.film.makers.get(end).copied());
-        let last = end.unwrap_or(self.film.cells.len().saturating_sub(1));
-        let y = take_row(ends, first, last)?
-            .saturating_mul(ROW)
-            .saturating_add(BARS);
-        let answer = answer_at(self.world, self.journal, number);
-        let class = match answer {
-            Some(Answer::Data(_) | Answer::Done) => "done",
-            _ => "undone",
-        };
-        self.picture.bar(class, first, last, y)?;
-        if let Some(op) = op_at(self.world, self.journal, number) {
-            let title = format!(in self.alloc; "{number} {}", Deed(op))?;
-            self.label(
-                left_of(first).saturating_add(6),
-                y.saturating_add(11),
-                title.as_str(),
-            )?;
-        }
-        if first < last && end.is_some() {
-            let text = match answer {
-                Some(answer) => format!(in self.alloc; "{}", Reached(answer))?,
-                None => String::from_str(self.alloc, "cut off")?,
-            };
-            self.label(
-                left_of(last).saturating_add(6),
-                y.saturating_add(11),
-                text.as_str(),
-            )?;
-        }
-        Ok(())
-    }
-
-    /// Draws the lane of a brick, with gaps where it was down.
-    fn draw_lane(&mut self, brick: BrickId) -> Result<(), NoMem> {
-        let y = self.lane_of(brick);
-        let name = format!(in self.alloc; "brick {brick}")?;
-        self.label(NAMES, y.saturating_add(4), name.as_str())?;
-        let mut since = Some(left_of(0).saturating_sub(8));
-        for (place, cell) in self.film.cells.iter().enumerate() {
-            let x = left_of(place).saturating_add(4);
-            if cell.started == Some(brick) {
-                since = Some(x);
-                self.picture.dot("start", x, y)?;
-                self.label(x.saturating_add(6), y.saturating_add(26), "start")?;
-            }
-            if cell.stopped == Some(brick) {
-                self.draw_up(&mut since, x.saturating_add(8), y)?;
-                self.picture.dot("stop", x.saturating_add(8), y)?;
-                self.label(x.saturating_add(6), y.saturating_add(26), "stop")?;
-            }
-        }
-        self.draw_up(&mut since, left_of(self.film.cells.len()), y)
-    }
-
-    /// Draws a brick's lane since it came up.
-    fn draw_up(&mut self, since: &mut Option<u64>, x: u64, y: u64) -> Result<(), NoMem> {
-        match since.take() {
-            Some(from) => self.picture.line("lane", (from, y), (x, y)),
-            None => Ok(()),
-        }
-    }
-
-    /// Where a brick sends messages in a column.
-    fn departure(&self, column: usize, brick: BrickId) -> (u64, u64) {
-        (left_of(column).saturating_add(124), self.lane_of(brick))
-    }
-
-    /// Draws what was delivered in a column: an arrow from where it was sent.
-    fn draw_delivery(&mut self, column: usize, number: u64, fate: Fate) -> Result<(), NoMem> {
-        let Some(packet) = packet_at(self.world, number) else {
-            return Ok(());
-        };
-        let place = (number as usize).wrapping_sub(1);
-        let sender = self.film.senders.get(place).copied().unwrap_or(column);
-        let (word, kind) = words_of(&packet.message);
-        let class = match fate {
-            Fate::Down => format!(in self.alloc; "{kind} lost")?,
-            _ => String::from_str(self.alloc, kind)?,
-        };
-        let x = left_of(column).saturating_add(4);
-        let y = self.lane_of(packet.to);
-        let from = self.departure(sender, packet.from);
-        self.picture.line(class.as_str(), from, (x, y))?;
-        let text = format!(in self.alloc; "#{number} {word}")?;
-        self.label(x.saturating_add(6), y.saturating_sub(6), text.as_str())
-    }
-
-    /// Draws what was sent in a column.
-    fn draw_sent(&mut self, column: usize, first: u64, last: u64) -> Result<(), NoMem> {
-        let Some(packet) = packet_at(self.world, first) else {
-            return Ok(());
-        };
-        let (word, _) = words_of(&packet.message);
-        let text = if first == last {
-            format!(in self.alloc; "+#{first} {word}")?
-        } else {
-            format!(in self.alloc; "+#{first}-{last} {word}")?
-        };
-        let y = self.lane_of(packet.from).saturating_add(14);
-        self.label(left_of(column).saturating_add(10), y, text.as_str())
-    }
-
-    /// Draws a column.
-    fn draw_cell(&mut self, column: usize, cell: &Cell) -> Result<(), NoMem> {
+    /// Draws where a line begins: its number, and what stands on it.
+    fn draw_title(
+        &mut self,
+        world: &World,
+        number: u64,
+        content: &[u8],
+        column: usize,
+    ) -> Result<(), NoMem> {
+        let mut title = format!(in self.alloc; "{number} ")?.into_bytes();
+        title.extend_from_slice(content)?;
         let x = left_of(column);
-        if !cell.title.is_empty() {
-            let bottom = self.lane_of(BrickId(self.world.layout().bricks()));
-            self.picture.line("guide", (x, HEADER - 12), (x, bottom))?;
-            self.picture.label(
-                self.alloc,
-                x.saturating_add(4),
-                HEADER,
-                cell.title.as_slice(),
-            )?;
-        }
-        if let Some((number, fate)) = cell.delivery {
-            self.draw_delivery(column, number, fate)?;
-        }
-        if let Some((first, last)) = cell.sent {
-            self.draw_sent(column, first, last)?;
+        let bottom = lane_of(BrickId(world.layout().bricks()));
+        self.picture
+            .line("guide", false, (x, HEADER - 12), (x, bottom));
+        self.picture
+            .write_label(x.saturating_add(4), HEADER, title.as_slice());
+        Ok(())
+    }
+
+    /// Notes the marks of a line, and draws the bricks that it stopped.
+    fn add_marks(&mut self, world: &World, first: usize) -> Result<(), NoMem> {
+        let column = self.columns.saturating_sub(1);
+        let marks = world.marks();
+        for place in first..marks.len() {
+            self.makers.push(column)?;
+            if let Mark::Crash { brick, .. } = &marks[place] {
+                self.draw_power("stop", column, *brick);
+            }
         }
         Ok(())
+    }
+
+    /// Draws a brick that starts, or stops.
+    fn draw_power(&mut self, word: &str, column: usize, brick: BrickId) {
+        let x = left_of(column).saturating_add(4);
+        let y = lane_of(brick);
+        self.picture.dot(word, x, y);
+        self.picture
+            .label(x.saturating_add(6), y.saturating_add(26), word);
+    }
+
+    /// Notes where the messages of a line were sent, and draws how many.
+    fn add_messages(
+        &mut self,
+        world: &World,
+        account: &Account,
+        column: usize,
+    ) -> Result<(), NoMem> {
+        let sent = world.sent();
+        for place in account.sent..sent.len() {
+            let number = (place as u64).saturating_add(1);
+            let sender = sender_of(world, account, column, number, &sent[place]);
+            self.senders.push(sender)?;
+        }
+        let mut first = account.sent;
+        for place in account.sent..sent.len() {
+            let sender = self.senders.get(place).copied();
+            if self.senders.get(place.saturating_add(1)).copied() != sender {
+                self.draw_sent(&sent[place], first, place, sender.unwrap_or(column));
+                first = place.saturating_add(1);
+            }
+        }
+        Ok(())
+    }
+
+    /// Draws that messages were sent, from one place to another among all, the last of which is this.
+    fn draw_sent(&mut self, packet: &Packet, first: usize, last: usize, column: usize) {
+        let word = word_of(&packet.message);
+        let x = left_of(column).saturating_add(10);
+        let y = lane_of(packet.from).saturating_add(14);
+        let number = (last as u64).saturating_add(1);
+        if first == last {
+            self.picture.label(x, y, format_args!("+#{number} {word}"));
+        } else {
+            let first = (first as u64).saturating_add(1);
+            self.picture
+                .label(x, y, format_args!("+#{first}-{number} {word}"));
+        }
+    }
+
+    /// Draws the messages that a line was to deliver.
+    fn draw_deliveries(&mut self, world: &World, account: &Account, first: usize) {
+        for (place, (number, fate)) in account.deliveries.iter().enumerate() {
+            if let Some(packet) = packet_at(world, *number) {
+                let is_lost = matches!(fate, Fate::Down);
+                self.draw_delivery(packet, *number, is_lost, first.saturating_add(place));
+            }
+        }
+    }
+
+    /// Draws a message that was to be delivered in a column: an arrow from where it was sent.
+    fn draw_delivery(&mut self, packet: &Packet, number: u64, is_lost: bool, column: usize) {
+        let place = (number as usize).wrapping_sub(1);
+        let sender = self.senders.get(place).copied().unwrap_or(column);
+        let word = word_of(&packet.message);
+        let x = left_of(column).saturating_add(4);
+        let y = lane_of(packet.to);
+        let from = departure(sender, packet.from);
+        self.picture
+            .line(kind_of(&packet.message), is_lost, from, (x, y));
+        self.picture.label(
+            x.saturating_add(6),
+            y.saturating_sub(6),
+            format_args!("#{number} {word}"),
+        );
+    }
+
+    /// Draws the lanes of the bricks that are up, from a column on, and the brick that started there.
+    fn draw_lanes(&mut self, world: &World, started: Option<BrickId>, column: usize) {
+        let end = left_of(self.columns);
+        for number in 0..world.layout().bricks() {
+            let brick = BrickId(number);
+            if is_up(world, brick) {
+                let y = lane_of(brick);
+                self.picture
+                    .line("lane", false, (left_of(column), y), (end, y));
+            }
+        }
+        if let Some(brick) = started {
+            self.draw_power("start", column, brick);
+        }
+    }
+
+    /// The picture of the run, as the text of an SVG document.
+    pub fn finish(mut self, world: &World, journal: &Journal) -> Result<String, NoMem> {
+        self.draw_names(world);
+        self.draw_stubs(world);
+        let mut y = self.draw_bars(world, journal)?;
+        for (group, stripe) in journal.stripes() {
+            self.draw_course(world, journal, y, GroupId(*group), StripeNo(*stripe))?;
+            y = y.saturating_add(LANE);
+        }
+        self.picture.text(self.columns, y)
+    }
+
+    /// Draws the names of the bricks.
+    fn draw_names(&mut self, world: &World) {
+        for number in 0..world.layout().bricks() {
+            let y = lane_of(BrickId(number)).saturating_add(4);
+            self.picture.label(NAMES, y, format_args!("brick {number}"));
+        }
+    }
+
+    /// Draws the messages that were never delivered.
+    fn draw_stubs(&mut self, world: &World) {
+        for (place, packet) in world.sent().iter().enumerate() {
+            let number = (place as u64).saturating_add(1);
+            let sender = self.senders.get(place).copied();
+            if let (Some(sender), false) = (sender, world.was_delivered(number)) {
+                self.draw_stub(packet, sender);
+            }
+        }
     }
 
     /// Draws a message that was never delivered as a stub, up or down as its receiver is.
-    fn draw_stub(&mut self, number: u64, sender: usize) -> Result<(), NoMem> {
-        let Some(packet) = packet_at(self.world, number) else {
-            return Ok(());
-        };
-        let (_, kind) = words_of(&packet.message);
-        let (x, y) = self.departure(sender, packet.from);
+    fn draw_stub(&mut self, packet: &Packet, sender: usize) {
+        let (x, y) = departure(sender, packet.from);
         let lanes = u64::from(packet.to.0.abs_diff(packet.from.0).min(3));
         let rise = lanes.saturating_mul(6);
         let end = if packet.to.0 < packet.from.0 {
@@ -236,94 +276,142 @@ impl<'a> Canvas<'a> {
         } else {
             y.saturating_add(rise)
         };
-        let class = format!(in self.alloc; "{kind} lost")?;
+        let kind = kind_of(&packet.message);
         self.picture
-            .line(class.as_str(), (x, y), (x.saturating_add(16), end))
+            .line(kind, true, (x, y), (x.saturating_add(16), end));
+    }
+
+    /// Draws the operations below the bricks, and answers where the first stripe's lane is.
+    fn draw_bars(&mut self, world: &World, journal: &Journal) -> Result<u64, NoMem> {
+        let top = lane_of(BrickId(world.layout().bricks()));
+        let mut ends = Vec::new(self.alloc);
+        for (place, operation) in journal.operations().iter().enumerate() {
+            if let Some(first) = self.makers.get(operation.begin).copied() {
+                let end = match operation.end {
+                    Some(mark) => self.makers.get(mark).copied(),
+                    None => None,
+                };
+                let last = end.unwrap_or(self.columns.saturating_sub(1));
+                let row = take_row(&mut ends, first, last)?;
+                let y = row.saturating_mul(ROW).saturating_add(top);
+                let number = (place as u64).saturating_add(1);
+                self.draw_bar(world, number, operation, (first, last), y);
+                if first < last && end.is_some() {
+                    self.draw_answer(world, operation, last, y);
+                }
+            }
+        }
+        let rows = (ends.len() as u64).saturating_mul(ROW);
+        Ok(rows.saturating_add(top).saturating_add(30))
+    }
+
+    /// Draws an operation over the columns from one to another.
+    fn draw_bar(
+        &mut self,
+        world: &World,
+        number: u64,
+        operation: &Operation,
+        columns: (usize, usize),
+        y: u64,
+    ) {
+        let (first, last) = columns;
+        let class = match answer_of(world, operation) {
+            Some(Answer::Data(_) | Answer::Done) => "done",
+            _ => "undone",
+        };
+        self.picture.bar(class, first, last, y);
+        if let Some(op) = op_of(world, operation) {
+            self.picture.label(
+                left_of(first).saturating_add(6),
+                y.saturating_add(11),
+                format_args!("{number} {}", Deed(op)),
+            );
+        }
+    }
+
+    /// Writes how an operation ended, in the last column of its bar.
+    fn draw_answer(&mut self, world: &World, operation: &Operation, column: usize, y: u64) {
+        let x = left_of(column).saturating_add(6);
+        let y = y.saturating_add(11);
+        match answer_of(world, operation) {
+            Some(answer) => self.picture.label(x, y, Reached(answer)),
+            None => self.picture.label(x, y, "cut off"),
+        }
     }
 
     /// Draws the lane of a stripe: what its registers hold at first, and from each happening on.
-    fn draw_course(&mut self, y: u64, group: GroupId, stripe: StripeNo) -> Result<(), NoMem> {
-        let Some(found) = self.world.layout().group(group) else {
-            return Ok(());
-        };
-        let block = usize::from(self.world.layout().block());
-        let blocks = usize::from(found.m());
-        let mut registers = vec![in self.alloc; 0u8; blocks.saturating_mul(block)]?;
-        let name = format!(in self.alloc; "stripe {} {}", group.0, stripe.0)?;
-        self.label(NAMES, y.saturating_sub(6), name.as_str())?;
-        self.draw_content(NAMES, y, registers.as_slice())?;
-        let end = left_of(self.film.cells.len());
+    fn draw_course(
+        &mut self,
+        world: &World,
+        journal: &Journal,
+        y: u64,
+        group: GroupId,
+        stripe: StripeNo,
+    ) -> Result<(), NoMem> {
+        self.picture.label(
+            NAMES,
+            y.saturating_sub(6),
+            format_args!("stripe {} {}", group.0, stripe.0),
+        );
         self.picture
-            .line("lane", (left_of(0).saturating_sub(8), y), (end, y))?;
-        let happenings = self.world.happenings(group, stripe)?;
-        let mut title = String::from_str(self.alloc, "op")?;
+            .line("lane", false, (left_of(0), y), (left_of(self.columns), y));
+        let block = usize::from(world.layout().block());
+        let blocks = match world.layout().group(group) {
+            Some(found) => usize::from(found.m()),
+            None => 0,
+        };
+        let mut registers = vec![in self.alloc; 0u8; blocks.saturating_mul(block)]?;
+        self.picture
+            .label(NAMES, y.saturating_add(14), Hex(registers.as_slice()));
+        let happenings = world.happenings(group, stripe)?;
+        self.draw_happenings(world, journal, y, &mut registers, happenings.as_slice())
+    }
+
+    /// Draws a stripe's happenings, which change what its registers hold.
+    fn draw_happenings(
+        &mut self,
+        world: &World,
+        journal: &Journal,
+        y: u64,
+        registers: &mut Vec<u8>,
+        happenings: &[Happening],
+    ) -> Result<(), NoMem> {
+        let block = usize::from(world.layout().block());
+        let mut operations = String::new(self.alloc);
         for (place, happening) in happenings.iter().enumerate() {
-            let Some(column) = self.column_of(happening) else {
-                break;
-            };
             let number = happening.operation;
-            write!(title, " {number}")?;
-            if let Some(op) = op_at(self.world, self.journal, number) {
-                put_deed(op, block, &mut registers);
+            write!(operations, " {number}")?;
+            if let Some(operation) = journal.operation(number) {
+                if let Some(op) = op_of(world, operation) {
+                    put_deed(op, block, registers);
+                }
             }
-            let next = happenings.get(place.saturating_add(1));
-            if next.and_then(|next| self.column_of(next)) != Some(column) {
-                let x = left_of(column).saturating_add(4);
-                self.picture.dot("happening", x, y)?;
-                self.label(x.saturating_add(6), y.saturating_sub(6), title.as_str())?;
-                self.draw_content(x.saturating_add(6), y, registers.as_slice())?;
-                title = String::from_str(self.alloc, "op")?;
+            let is_last = match happenings.get(place.saturating_add(1)) {
+                Some(next) => next.position != happening.position,
+                None => true,
+            };
+            if is_last {
+                self.draw_happening(
+                    happening.position,
+                    y,
+                    operations.as_str(),
+                    registers.as_slice(),
+                );
+                operations.clear();
             }
         }
         Ok(())
     }
 
-    /// The column of a happening, where it is drawn.
-    fn column_of(&self, happening: &Happening) -> Option<usize> {
-        self.film.makers.get(happening.position as usize).copied()
-    }
-
-    /// Writes what registers hold.
-    fn draw_content(&mut self, x: u64, y: u64, registers: &[u8]) -> Result<(), NoMem> {
-        let text = format!(in self.alloc; "{}", Hex(registers))?;
-        self.label(x, y.saturating_add(14), text.as_str())
-    }
-}
-
-/// The picture of a run, as the text of an SVG document.
-pub fn draw_run(
-    alloc: Global,
-    world: &World,
-    journal: &Journal,
-    film: &Film,
-) -> Result<String, NoMem> {
-    let mut picture = Picture::new(alloc);
-    let mut canvas = Canvas {
-        alloc,
-        world,
-        journal,
-        film,
-        picture: &mut picture,
-        bricks: 0,
-    };
-    canvas.draw_keys()?;
-    canvas.draw_bars()?;
-    for brick in 0..world.layout().bricks() {
-        canvas.draw_lane(BrickId(brick))?;
-    }
-    for (column, cell) in film.cells.iter().enumerate() {
-        canvas.draw_cell(column, cell)?;
-    }
-    for (place, sender) in film.senders.iter().enumerate() {
-        let number = (place as u64).saturating_add(1);
-        if !world.was_delivered(number) {
-            canvas.draw_stub(number, *sender)?;
+    /// Draws that operations happened at a mark, and what a stripe's registers hold from there on.
+    fn draw_happening(&mut self, mark: u64, y: u64, operations: &str, registers: &[u8]) {
+        if let Some(column) = self.makers.get(mark as usize).copied() {
+            let x = left_of(column).saturating_add(4);
+            self.picture.dot("happening", x, y);
+            let x = x.saturating_add(6);
+            self.picture
+                .label(x, y.saturating_sub(6), format_args!("op{operations}"));
+            self.picture.label(x, y.saturating_add(14), Hex(registers));
         }
     }
-    let mut y = canvas.lane_of(BrickId(world.layout().bricks()));
-    for (group, stripe) in journal.stripes() {
-        canvas.draw_course(y, GroupId(*group), StripeNo(*stripe))?;
-        y = y.saturating_add(LANE);
-    }
-    picture.text(alloc, film.cells.len(), y)
 }

@@ -1,5 +1,6 @@
 //! What is known of the operations of a run, from its marks and messages.
 
+use crate::accounts::Fate;
 use fab_base::{BrickId, NoMem};
 use messages::{Call, Message, Packet};
 use reg_model::Mark;
@@ -30,14 +31,16 @@ pub struct Journal {
     alloc: Global,
     /// The operations by number, from 1.
     operations: Vec<Operation>,
-    /// The numbers of those that are open.
-    open: Vec<u64>,
+    /// How many had begun when each brick stopped the last time: of those its own have ended.
+    stopped: BTreeMap<u16, usize>,
     /// The numbers of operations by their coordinator, its boot and their call.
     numbers: BTreeMap<(u16, u32, u64), u64>,
     /// The stripes that operations named, by group and number.
     stripes: BTreeSet<(u32, u32)>,
     /// An operation that began, and none of whose messages was seen yet.
     nameless: Option<u64>,
+    /// The numbers of the messages that were delivered to a brick that was up.
+    delivered: BTreeSet<u64>,
 }
 
 /// The coordinator and the call that a message is of. None where it is of no operation.
@@ -60,16 +63,22 @@ impl Journal {
         Journal {
             alloc,
             operations: Vec::new(alloc),
-            open: Vec::new(alloc),
+            stopped: BTreeMap::new(alloc),
             numbers: BTreeMap::new(alloc),
             stripes: BTreeSet::new(alloc),
             nameless: None,
+            delivered: BTreeSet::new(alloc),
         }
     }
 
     /// The operation of a number.
     pub fn operation(&self, number: u64) -> Option<&Operation> {
         self.operations.get((number as usize).wrapping_sub(1))
+    }
+
+    /// All operations, number 1 first.
+    pub fn operations(&self) -> &[Operation] {
+        self.operations.as_slice()
     }
 
     /// The stripes that operations named, in order.
@@ -85,52 +94,52 @@ impl Journal {
             .copied()
     }
 
-    /// Notes that a reply is delivered to a brick that is up, and answers whether its operation counts it: one a brick, of the newest phase.
-    pub fn note_reply(&mut self, packet: &Packet) -> Result<bool, NoMem> {
-        let number = self.operation_of(packet).unwrap_or(0);
-        if let (Some((_, call)), Some(operation)) = (
-            call_of(packet),
-            operation_at(&mut self.operations, number),
-        ) {
-            if operation.end.is_none()
-                && call.phase == operation.phase
-                && !operation.replied.contains(&packet.from)
-            {
+    /// Notes that a message was delivered to a brick that was up, and answers what came of it where nothing else tells it. An operation counts the first
+    /// reply of each brick in its newest phase.
+    pub(crate) fn note_delivery(&mut self, number: u64, packet: &Packet) -> Result<Fate, NoMem> {
+        self.delivered.insert(number)?;
+        let Message::Reply(call, _) = &packet.message else {
+            return Ok(Fate::Ignored);
+        };
+        let operation = self.operation_of(packet).unwrap_or(0);
+        if let Some(operation) = operation_at(&mut self.operations, operation) {
+            let is_due = operation.end.is_none() && call.phase == operation.phase;
+            if is_due && !operation.replied.contains(&packet.from) {
                 operation.replied.push(packet.from)?;
-                return Ok(true);
+                return Ok(Fate::Counted);
             }
         }
-        Ok(false)
+        Ok(Fate::NotCounted)
     }
 
-    /// Notes what a line did, before which there were so many marks, and so many messages had been sent.
-    pub fn note_line(&mut self, world: &World, marks: usize, sent: usize) -> Result<(), NoMem> {
-        for (place, mark) in world.marks().iter().enumerate().skip(marks) {
-            self.note_mark(place, mark)?;
-        }
-        for (place, packet) in world.sent().iter().enumerate().skip(sent) {
-            self.note_sent((place as u64).saturating_add(1), packet)?;
+    /// Notes the messages of an operation that were delivered as it ran alone.
+    pub(crate) fn note_deliveries(
+        &mut self,
+        world: &World,
+        operation: u64,
+        deliveries: &mut Vec<(u64, Fate)>,
+    ) -> Result<(), NoMem> {
+        if let Some(operation) = operation_at(&mut self.operations, operation) {
+            for number in &operation.messages {
+                if world.was_delivered(*number) && self.delivered.insert(*number)? {
+                    deliveries.push((*number, Fate::Told))?;
+                }
+            }
         }
         Ok(())
     }
 
-    /// Notes that an operation ended, or was cut off, at this mark.
-    fn close(&mut self, number: u64, place: usize) {
-        self.open.retain(|open| *open != number);
-        if let Some(operation) = operation_at(&mut self.operations, number) {
-            operation.end = Some(place);
+    /// Notes what a line did, before which there were so many marks, and so many messages had been sent.
+    pub fn note_line(&mut self, world: &World, marks: usize, sent: usize) -> Result<(), NoMem> {
+        let all = world.marks();
+        for place in marks..all.len() {
+            self.note_mark(place, &all[place])?;
         }
-    }
-
-    /// The first operation of a brick that is open.
-    fn open_at(&self, brick: BrickId) -> Option<u64> {
-        self.open
-            .iter()
-            .copied()
-            .find(|number| match self.operation(*number) {
-                Some(operation) => operation.brick == brick,
-                None => false,
-            })
+        let all = world.sent();
+        for place in sent..all.len() {
+            self.note_sent((place as u64).saturating_add(1), &all[place])?;
+        }
+        Ok(())
     }
 
     /// Notes the mark at this place.
@@ -151,16 +160,21 @@ impl Journal {
                     phase: 0,
                     replied: Vec::new(self.alloc),
                 })?;
-                self.open.push(*operation)?;
                 self.nameless = Some(*operation);
             }
-            Mark::End { operation, .. } => self.close(*operation, place),
+            Mark::End { operation, .. } => {
+                if let Some(operation) = operation_at(&mut self.operations, *operation) {
+                    operation.end = Some(place);
+                }
+            }
             Mark::Crash { brick, .. } => {
-                for _ in 0..self.open.len() {
-                    if let Some(number) = self.open_at(*brick) {
-                        self.close(number, place);
+                let first = self.stopped.get(&brick.0).copied().unwrap_or(0);
+                for operation in self.operations.iter_mut().skip(first) {
+                    if operation.brick == *brick && operation.end.is_none() {
+                        operation.end = Some(place);
                     }
                 }
+                self.stopped.insert(brick.0, self.operations.len())?;
             }
         }
         Ok(())

@@ -1,6 +1,6 @@
 //! A message as it is shown.
 
-use fab_base::BrickId;
+use fab_base::Stamp;
 use messages::{Look, Message, Packet, Reply, Request, Version, Want};
 use std::fmt;
 
@@ -24,124 +24,156 @@ impl<'a> fmt::Display for Hex<'a> {
     }
 }
 
-/// The word for a request, and the kind that it is drawn as.
-fn request_words(request: &Request) -> (&'static str, &'static str) {
+/// The word for a request.
+fn request_word(request: &Request) -> &'static str {
     match request {
-        Request::Read { .. } => ("read", "read"),
-        Request::Order { .. } => ("order", "order"),
-        Request::OrderRead { .. } => ("orderread", "order"),
-        Request::Write { .. } => ("write", "write"),
-        Request::Modify { .. } => ("modify", "write"),
-        Request::Collect { .. } => ("collect", "collect"),
-        Request::OldRead { .. } => ("oldread", "read"),
-        Request::Prepare { .. } => ("prepare", "collect"),
-        Request::Accept { .. } => ("accept", "collect"),
+        Request::Read { .. } => "read",
+        Request::Order { .. } => "order",
+        Request::OrderRead { .. } => "orderread",
+        Request::Write { .. } => "write",
+        Request::Modify { .. } => "modify",
+        Request::Collect { .. } => "collect",
+        Request::OldRead { .. } => "oldread",
+        Request::Prepare { .. } => "prepare",
+        Request::Accept { .. } => "accept",
     }
 }
 
-/// The word for a reply, and the kind that it is drawn as.
-fn reply_words(reply: &Reply) -> (&'static str, &'static str) {
+/// The word for a reply.
+fn reply_word(reply: &Reply) -> &'static str {
     match reply {
-        Reply::Found { .. } => ("found", "reply"),
-        Reply::Ordered => ("ordered", "reply"),
-        Reply::OrderedRead { .. } => ("orderedread", "reply"),
-        Reply::Stored => ("stored", "reply"),
-        Reply::Behind { .. } => ("behind", "refusal"),
-        Reply::Later { .. } => ("later", "refusal"),
-        Reply::Full { .. } => ("full", "refusal"),
-        Reply::Moved { .. } => ("moved", "refusal"),
-        Reply::Old { .. } => ("old", "reply"),
-        Reply::Retired => ("retired", "refusal"),
-        Reply::Promise { .. } => ("promise", "reply"),
-        Reply::Accepted => ("accepted", "reply"),
-        Reply::Outbid { .. } => ("outbid", "refusal"),
-        Reply::NotSynced => ("notsynced", "refusal"),
+        Reply::Found { .. } => "found",
+        Reply::Ordered => "ordered",
+        Reply::OrderedRead { .. } => "orderedread",
+        Reply::Stored => "stored",
+        Reply::Behind { .. } => "behind",
+        Reply::Later { .. } => "later",
+        Reply::Full { .. } => "full",
+        Reply::Moved { .. } => "moved",
+        Reply::Old { .. } => "old",
+        Reply::Retired => "retired",
+        Reply::Promise { .. } => "promise",
+        Reply::Accepted => "accepted",
+        Reply::Outbid { .. } => "outbid",
+        Reply::NotSynced => "notsynced",
     }
 }
 
-/// The word for a message, and the kind that it is drawn as.
-pub fn words_of(message: &Message) -> (&'static str, &'static str) {
+/// The word for a message.
+pub(crate) fn word_of(message: &Message) -> &'static str {
     match message {
-        Message::Request(_, request) => request_words(request),
-        Message::Reply(_, reply) => reply_words(reply),
-        Message::Learn { .. } => ("learn", "collect"),
-        Message::Synced { .. } => ("synced", "collect"),
-        Message::Client(_) => ("client", "read"),
-        Message::ClientReply { .. } => ("clientreply", "reply"),
+        Message::Request(_, request) => request_word(request),
+        Message::Reply(_, reply) => reply_word(reply),
+        Message::Learn { .. } => "learn",
+        Message::Synced { .. } => "synced",
+        Message::Client(_) => "client",
+        Message::ClientReply { .. } => "clientreply",
     }
 }
 
-/// Writes what a request says, behind a space. Of the agreement on a view's successor nothing is shown.
+/// The kind that a message is drawn as.
+pub(crate) fn kind_of(message: &Message) -> &'static str {
+    match message {
+        Message::Request(_, request) => match request {
+            Request::Order { .. } | Request::OrderRead { .. } => "order",
+            Request::Read { .. } | Request::OldRead { .. } => "read",
+            Request::Write { .. } | Request::Modify { .. } => "write",
+            Request::Collect { .. } | Request::Prepare { .. } | Request::Accept { .. } => "collect",
+        },
+        Message::Reply(_, reply) => match reply {
+            Reply::Behind { .. } | Reply::Later { .. } | Reply::Full { .. } | Reply::Moved { .. } =>
+                "refusal",
+            Reply::Retired | Reply::Outbid { .. } | Reply::NotSynced => "refusal",
+            _ => "reply",
+        },
+        Message::Learn { .. } | Message::Synced { .. } => "collect",
+        Message::Client(_) => "read",
+        Message::ClientReply { .. } => "reply",
+    }
+}
+
+/// The stamp that a request is of.
+fn stamp_of(request: &Request) -> Option<Stamp> {
+    match request {
+        Request::Order { stamp }
+        | Request::OrderRead { stamp, .. }
+        | Request::Write { stamp, .. }
+        | Request::Modify { stamp, .. }
+        | Request::Collect { stamp } => Some(*stamp),
+        _ => None,
+    }
+}
+
+/// Writes a part of what a message says, behind a space: its name, and its value.
+fn write_part<W: fmt::Write, D: fmt::Display + Drop>(
+    f: &mut fmt::Formatter<W>,
+    name: &str,
+    value: D,
+) -> fmt::Result {
+    write!(f, " {name} {value}")
+}
+
+/// Writes what a request says. Of the agreement on a view's successor nothing is shown.
 fn write_request<W: fmt::Write>(f: &mut fmt::Formatter<W>, request: &Request) -> fmt::Result {
+    if let Some(stamp) = stamp_of(request) {
+        write_part(f, "stamp", stamp)?;
+    }
     match request {
         Request::Read {
             want: Want::Seat(seat),
-        } => write!(f, " block of seat {seat}"),
-        Request::Read { want: Want::All } => write!(f, " all blocks"),
-        Request::Order { stamp } => write!(f, " stamp {stamp}"),
+        } => write_part(f, "block of seat", *seat),
+        Request::Read { want: Want::All } => f.write_str(" all blocks"),
         Request::OrderRead {
-            stamp,
             look: Look::Below(other),
             ..
-        } => write!(f, " stamp {stamp} below {other}"),
+        } => write_part(f, "below", *other),
         Request::OrderRead {
-            stamp,
             look: Look::At(other),
             ..
-        } => write!(f, " stamp {stamp} at {other}"),
-        Request::Write { stamp, block } => write!(
-            f,
-            " stamp {stamp} block {}",
-            Hex(block.as_slice())
-        ),
+        } => write_part(f, "at", *other),
+        Request::Write { block, .. } => write_part(f, "block", Hex(block.as_slice())),
         Request::Modify {
-            stamp,
             base,
             data_block,
             delta,
-        } => write!(
-            f,
-            " stamp {stamp} base {base} of {data_block} delta {}",
-            Hex(delta.as_slice())
-        ),
-        Request::Collect { stamp } => write!(f, " stamp {stamp}"),
-        Request::OldRead { .. } | Request::Prepare { .. } | Request::Accept { .. } => Ok(()),
+            ..
+        } => {
+            write_part(f, "base", *base)?;
+            write_part(f, "of", *data_block)?;
+            write_part(f, "delta", Hex(delta.as_slice()))
+        }
+        _ => Ok(()),
     }
 }
 
-/// Writes a version that was found, behind a space, with its block where it was told.
+/// Writes a version that was found, with its block where it was told.
 fn write_version<W: fmt::Write>(
     f: &mut fmt::Formatter<W>,
     version: &Option<Version>,
 ) -> fmt::Result {
     match version {
         Some(version) => {
-            let stamp = version.stamp;
-            write!(
-                f,
-                " version {stamp} block {}",
-                Hex(version.block.as_slice())
-            )
+            write_part(f, "version", version.stamp)?;
+            write_part(f, "block", Hex(version.block.as_slice()))
         }
         None => f.write_str(" version none"),
     }
 }
 
-/// Writes what a reply says, behind a space. Of the agreement on a view's successor nothing is shown.
+/// Writes what a reply says. Of the agreement on a view's successor nothing is shown.
 fn write_reply<W: fmt::Write>(f: &mut fmt::Formatter<W>, reply: &Reply) -> fmt::Result {
     match reply {
         Reply::Found { order, newest } => {
-            write!(f, " order {order}")?;
+            write_part(f, "order", *order)?;
             write_version(f, newest)
         }
-        Reply::OrderedRead { found } => write_version(f, found),
-        Reply::Old { found } => write_version(f, found),
+        Reply::OrderedRead { found } | Reply::Old { found } => write_version(f, found),
         Reply::Behind {
             newest: Some(stamp),
-        } => write!(f, " newest {stamp}"),
-        Reply::Later { stamp } => write!(f, " stamp {stamp}"),
-        Reply::Full { live } => write!(f, " live {live}"),
-        Reply::Moved { view, .. } => write!(f, " view {}", view.0),
+        } => write_part(f, "newest", *stamp),
+        Reply::Later { stamp } => write_part(f, "stamp", *stamp),
+        Reply::Full { live } => write_part(f, "live", *live),
+        Reply::Moved { view, .. } => write_part(f, "view", view.0),
         _ => Ok(()),
     }
 }
@@ -161,18 +193,18 @@ impl<'a> fmt::Display for Sent<'a> {
     fn fmt<W: fmt::Write>(&self, f: &mut fmt::Formatter<W>) -> fmt::Result {
         let number = self.number;
         let Packet { from, to, message } = self.packet;
-        let (word, _) = words_of(message);
+        let word = word_of(message);
         write!(f, "#{number} {word} {from}>{to}")?;
         if let Some(operation) = self.operation {
-            write!(f, " op {operation}")?;
+            write_part(f, "op", operation)?;
         }
         match message {
             Message::Request(call, request) => {
-                write!(f, " phase {}", call.phase)?;
+                write_part(f, "phase", call.phase)?;
                 write_request(f, request)
             }
             Message::Reply(call, reply) => {
-                write!(f, " phase {}", call.phase)?;
+                write_part(f, "phase", call.phase)?;
                 write_reply(f, reply)
             }
             _ => Ok(()),

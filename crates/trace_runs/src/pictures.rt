@@ -2,6 +2,7 @@
 
 use fab_base::NoMem;
 use std::alloc::Global;
+use std::fmt;
 
 /// The most characters of a label.
 const CHARACTERS: usize = 20;
@@ -45,11 +46,24 @@ line { stroke-width: 1.4 }
 </style>
 ";
 
-/// A picture.
+/// The keys of the colours.
+const LEGEND: &str =
+    "<line class=\"order\" x1=\"8\" y1=\"14\" x2=\"30\" y2=\"14\"/><text x=\"36\" y=\"18\">order</text>
+<line class=\"read\" x1=\"108\" y1=\"14\" x2=\"130\" y2=\"14\"/><text x=\"136\" y=\"18\">read</text>
+<line class=\"write\" x1=\"208\" y1=\"14\" x2=\"230\" y2=\"14\"/><text x=\"236\" y=\"18\">write</text>
+<line class=\"collect\" x1=\"308\" y1=\"14\" x2=\"330\" y2=\"14\"/><text x=\"336\" y=\"18\">collect</text>
+<line class=\"reply\" x1=\"408\" y1=\"14\" x2=\"430\" y2=\"14\"/><text x=\"436\" y=\"18\">reply</text>
+<line class=\"refusal\" x1=\"508\" y1=\"14\" x2=\"530\" y2=\"14\"/><text x=\"536\" y=\"18\">refusal</text>
+";
+
+/// A picture. A shape for which no memory is left is missing, and then the picture has no text.
 #[derive(Drop)]
 pub(crate) struct Picture {
+    alloc: Global,
     shapes: String,
     labels: String,
+    /// Whether a shape or a label is missing.
+    has_gap: bool,
 }
 
 /// The left end of a column.
@@ -76,77 +90,79 @@ impl Picture {
     /// Nothing is drawn yet.
     pub(crate) fn new(alloc: Global) -> Picture {
         Picture {
+            alloc,
             shapes: String::new(alloc),
             labels: String::new(alloc),
+            has_gap: false,
         }
     }
 
-    /// Draws a line.
-    pub(crate) fn line(
-        &mut self,
-        class: &str,
-        from: (u64, u64),
-        to: (u64, u64),
-    ) -> Result<(), NoMem> {
+    /// Draws a shape.
+    fn draw<D: fmt::Display + Drop>(&mut self, shape: D) {
+        if write!(self.shapes, "{shape}").is_err() {
+            self.has_gap = true;
+        }
+    }
+
+    /// Draws a line, dashed or not.
+    pub(crate) fn line(&mut self, class: &str, is_dashed: bool, from: (u64, u64), to: (u64, u64)) {
         let ((x1, y1), (x2, y2)) = (from, to);
-        write!(
-            self.shapes,
-            "<line class=\"{class}\" x1=\"{x1}\" y1=\"{y1}\" x2=\"{x2}\" y2=\"{y2}\"/>\n"
-        )?;
-        Ok(())
+        let dash = if is_dashed { " lost" } else { "" };
+        self.draw(format_args!(
+            "<line class=\"{class}{dash}\" x1=\"{x1}\" y1=\"{y1}\" x2=\"{x2}\" y2=\"{y2}\"/>\n"
+        ));
     }
 
     /// Draws a bar over the columns from one to another.
-    pub(crate) fn bar(
-        &mut self,
-        class: &str,
-        first: usize,
-        last: usize,
-        y: u64,
-    ) -> Result<(), NoMem> {
+    pub(crate) fn bar(&mut self, class: &str, first: usize, last: usize, y: u64) {
         let x = left_of(first).saturating_add(2);
         let width = left_of(last).saturating_add(COLUMN - 2).saturating_sub(x);
-        write!(
-            self.shapes,
+        self.draw(format_args!(
             "<rect class=\"{class}\" x=\"{x}\" y=\"{y}\" width=\"{width}\" height=\"16\" rx=\"4\"/>\n"
-        )?;
-        Ok(())
+        ));
     }
 
     /// Draws a moment.
-    pub(crate) fn dot(&mut self, class: &str, x: u64, y: u64) -> Result<(), NoMem> {
-        write!(
-            self.shapes,
-            "<circle class=\"{class}\" cx=\"{x}\" cy=\"{y}\" r=\"4\"/>\n"
-        )?;
-        Ok(())
+    pub(crate) fn dot(&mut self, class: &str, x: u64, y: u64) {
+        self.draw(format_args!("<circle class=\"{class}\" cx=\"{x}\" cy=\"{y}\" r=\"4\"/>\n"));
     }
 
     /// Writes a label, of 20 characters at most, which begins at a place of its line.
-    pub(crate) fn label(
-        &mut self,
-        alloc: Global,
-        x: u64,
-        y: u64,
-        text: &[u8],
-    ) -> Result<(), NoMem> {
-        let shown = shown(alloc, text)?;
-        let top = y.saturating_sub(9);
-        let width = (shown.len() as u64).saturating_mul(CHARACTER);
-        write!(
-            self.labels,
-            "<rect class=\"ground\" x=\"{x}\" y=\"{top}\" width=\"{width}\" height=\"12\"/><text x=\"{x}\" y=\"{y}\">{shown}</text>\n"
-        )?;
-        Ok(())
+    pub(crate) fn label<D: fmt::Display + Drop>(&mut self, x: u64, y: u64, text: D) {
+        match format!(in self.alloc; "{text}") {
+            Ok(text) => self.write_label(x, y, text.as_bytes()),
+            Err(_) => self.has_gap = true,
+        }
+    }
+
+    /// Writes a label of these bytes.
+    pub(crate) fn write_label(&mut self, x: u64, y: u64, text: &[u8]) {
+        match shown(self.alloc, text) {
+            Ok(shown) => {
+                let top = y.saturating_sub(9);
+                let width = (shown.len() as u64).saturating_mul(CHARACTER);
+                let written = write!(
+                    self.labels,
+                    "<rect class=\"ground\" x=\"{x}\" y=\"{top}\" width=\"{width}\" height=\"12\"/><text x=\"{x}\" y=\"{y}\">{shown}</text>\n"
+                );
+                if written.is_err() {
+                    self.has_gap = true;
+                }
+            }
+            Err(_) => self.has_gap = true,
+        }
     }
 
     /// The text of the picture, up to the end of so many columns and down to a place.
-    pub(crate) fn text(&self, alloc: Global, columns: usize, height: u64) -> Result<String, NoMem> {
+    pub(crate) fn text(&self, columns: usize, height: u64) -> Result<String, NoMem> {
+        if self.has_gap {
+            return Err(NoMem::NoMemory);
+        }
         let width = left_of(columns).max(640);
         let shapes = self.shapes.as_str();
         let labels = self.labels.as_str();
-        Ok(format!(in alloc;
-            "<?xml version=\"1.0\" encoding=\"UTF-8\"?>\n<svg xmlns=\"http://www.w3.org/2000/svg\" version=\"1.1\" width=\"{width}\" height=\"{height}\" viewBox=\"0 0 {width} {height}\" font-family=\"monospace\" font-size=\"11\">\n{STYLE}<rect width=\"{width}\" height=\"{height}\" fill=\"#FFFFFF\"/>\n{shapes}{labels}</svg>\n"
+        Ok(format!(in self.alloc;
+            "<?xml version=\"1.0\" encoding=\"UTF-8\"?>\n<svg xmlns=\"http://www.w3.org/2000/svg\" version=\"1.1\" width=\"{width}\" height=\"{height}\" viewBox=\"0 0 {width} {height}\" font-family=\"monospace\" font-size=\"11\">\n{STYLE}<rect width=\"100%\" height=\"100%\" fill=\"#FFFFFF\"/>\n{LEGEND}{shapes}{labels}</svg>\n"
         )?)
     }
 }

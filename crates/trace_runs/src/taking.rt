@@ -1,12 +1,11 @@
 //! A line of a schedule that is run, with what it did.
 
 ghost use Rattle.std.specs.Prelude.{IfOk};
-ghost use Rattle.trace_runs.specs.Taking.{RunsLine, TakesLine};
+ghost use Rattle.trace_runs.specs.Taking.{TakesLine};
 
-use crate::accounts::{Account, Outlook};
-use crate::endings::Halt;
+use crate::accounts::Account;
 use crate::journals::Journal;
-use fab_base::Bytes;
+use fab_base::{Bytes, NoMem};
 use std::alloc::Global;
 use world::{StepFault, World};
 
@@ -19,30 +18,23 @@ pub struct Taken {
     pub printed: Bytes,
 }
 
-/// Runs a line, and answers what `replay` prints for it. None where it is no line.
-fn run_line(world: &mut World, content: &[u8]) -> Result<Option<Bytes>, Halt>
-    ensures { IfOk result (RunsLine world.old world.new content.now) }
-{
-    match world.step(content) {
-        Ok(text) => Ok(Some(text)),
-        Err(StepFault::BadLine) => Ok(None),
-        Err(StepFault::NoMemory) => Err(Halt::Memory),
-    }
-}
-
 /// Runs a line, and answers what it did. None where it is no line.
 pub fn take_line(
     alloc: Global,
     world: &mut World,
     journal: &mut Journal,
     content: &[u8],
-) -> Result<Option<Taken>, Halt>
+) -> Result<Option<Taken>, NoMem>
     ensures { IfOk result (TakesLine world.old world.new content.now) }
 {
-    let outlook = Outlook::of(alloc, world, journal, content)?;
-    let Some(printed) = run_line(world, content)? else {
-        return Ok(None);
-    };
-    let account = outlook.account(alloc, world, journal)?;
-    Ok(Some(Taken { account, printed }))
+    let mut account = Account::new(alloc, world);
+    match world.step(content) {
+        Ok(printed) => {
+            let is_idle = printed.as_slice() == b"idle\n".as_slice();
+            account.note(alloc, world, journal, content, is_idle)?;
+            Ok(Some(Taken { account, printed }))
+        }
+        Err(StepFault::BadLine) => Ok(None),
+        Err(StepFault::NoMemory) => Err(NoMem::NoMemory),
+    }
 }

@@ -7,6 +7,7 @@ use Rattle.brick.specs.Hosts.{host_seen}
 use Rattle.brick.specs.Views.{views}
 use Rattle.brick.proofs.Completing.{found_done, format_done, serve_goes}
 use Rattle.brick.proofs.Found.{found_not_sink}
+use Rattle.brick.proofs.MayHosting.{local_goes}
 use Rattle.brick.proofs.programs.work.Goals as goal
 
 pub returns-in-Err : goal.returns-in-Err
@@ -32,7 +33,7 @@ returns-in-Format g c =
     let d = g.H.Disk.Disk in
     let l = g.H.Link.Link in
     let k = g.H.Clock.Clock in
-    let v = views d.tells d.seen d.may_leave d.faults l.waiting l.sent l.faults k.coming k.faults in
+    let v = views d l k in
     let before = host_seen (host.faults c.args.host.now) (host.asked c.args.host.now) (host.holds c.args.host.now) in
     let between = host_seen (host.faults c.find_layout.new.host) (host.asked c.find_layout.new.host) (host.holds c.find_layout.new.host) in
     let after = host_seen (host.faults c.format.new.host) (host.asked c.format.new.host) (host.holds c.format.new.host) in
@@ -43,7 +44,7 @@ returns-in-Format g c =
         found = Ok c.in-Ok.layout;
         between = between;
         finds = found.found;
-        goes_on = subst (λ (w : Work). DoesWork v c.in-Ok.layout c.args.words.name.now w between after (g.K.Sink.told c.args.out.now)
+        goes_on = subst (λ (w : Work). DoesWork source.told source.faults v c.in-Ok.layout c.args.words.name.now w between after (g.K.Sink.told c.args.out.now)
             (g.K.Sink.told c.args.out.now) c.format.result) (sym c.in-Format.is)
             (made.formats, refl);
       };
@@ -61,7 +62,7 @@ returns-in-Serve g c =
     let d = g.H.Disk.Disk in
     let l = g.H.Link.Link in
     let k = g.H.Clock.Clock in
-    let v = views d.tells d.seen d.may_leave d.faults l.waiting l.sent l.faults k.coming k.faults in
+    let v = views d l k in
     let before = host_seen (host.faults c.args.host.now) (host.asked c.args.host.now) (host.holds c.args.host.now) in
     let between = host_seen (host.faults c.find_layout.new.host) (host.asked c.find_layout.new.host) (host.holds c.find_layout.new.host) in
     let after = host_seen (host.faults c.serve.new.host) (host.asked c.serve.new.host) (host.holds c.serve.new.host) in
@@ -72,7 +73,7 @@ returns-in-Serve g c =
         found = Ok c.in-Ok.layout;
         between = between;
         finds = found.found;
-        goes_on = subst (λ (w : Work). DoesWork v c.in-Ok.layout c.args.words.name.now w between after (g.K.Sink.told c.args.out.now)
+        goes_on = subst (λ (w : Work). DoesWork source.told source.faults v c.in-Ok.layout c.args.words.name.now w between after (g.K.Sink.told c.args.out.now)
             (g.K.Sink.told c.serve.new.out) c.serve.result) (sym c.in-Serve.is) served.serves;
       };
       stays = λ s. served.stays (found.stays s);
@@ -81,4 +82,31 @@ returns-in-Serve g c =
           let goes = serve_goes source.told d.tells d.seen source.faults before between c.args.words.layout.now c.args.words.name.now c.args.words.work
           c.in-Serve.id c.in-Serve.turns c.in-Ok.layout c.in-Serve.is found.found may in
           served.done (found.stays s) sink goes.0 goes.1;
+    }
+
+pub returns-in-Local : goal.returns-in-Local
+returns-in-Local g c =
+    let host = g.H.Host in
+    let source = g.H.Source.Source in
+    let d = g.H.Disk.Disk in
+    let l = g.H.Link.Link in
+    let k = g.H.Clock.Clock in
+    let v = views d l k in
+    let before = host_seen (host.faults c.args.host.now) (host.asked c.args.host.now) (host.holds c.args.host.now) in
+    let between = host_seen (host.faults c.find_layout.new.host) (host.asked c.find_layout.new.host) (host.holds c.find_layout.new.host) in
+    let after = host_seen (host.faults c.local.new.host) (host.asked c.local.new.host) (host.holds c.local.new.host) in
+    let found = c.in-Ok.ensures in
+    let hosted = c.local.ensures in
+    record {
+      works = record {
+        found = Ok c.in-Ok.layout;
+        between = between;
+        finds = found.found;
+        goes_on = subst (λ (w : Work). DoesWork source.told source.faults v c.in-Ok.layout c.args.words.name.now w between after (g.K.Sink.told c.args.out.now)
+            (g.K.Sink.told c.local.new.out) c.local.result) (sym c.in-Local.is) hosted.hosts;
+      };
+      stays = λ s. hosted.stays (found.stays s);
+      sink = hosted.sink;
+      done = λ s sink may. hosted.done (found.stays s) sink (local_goes source.told d.tells d.seen source.faults before between c.args.words.layout.now
+          c.args.words.name.now c.args.words.work c.in-Local.turns c.in-Ok.layout c.in-Local.is found.found may);
     }

@@ -1,7 +1,7 @@
 -- The page tells nothing, and it was written, or some of it.
 use Rattle.std.proofs.Common.{[], Result}
-use Rattle.trace_runs.specs.declared.endings.Verdict.{Verdict}
-use Rattle.trace_runs.specs.declared.endings.Halt.{Halt}
+use Rattle.replay.specs.declared.endings.Verdict.{Verdict}
+use Rattle.replay.specs.declared.endings.Halt.{Halt}
 use Rattle.trace.specs.Tales.{WritesTold}
 use Rattle.trace.proofs.WholeTexts.{told-none}
 use Rattle.trace.proofs.LinesTold.{at_err, page-told}
@@ -15,7 +15,7 @@ returns-in_err-write-clause-writes g c =
     (λ halt. record {
       text = c.as_slice.result.now;
       is_told = page-told c.as_slice.result.now c.head.new.self [] c.as_slice.ensures told;
-      taken = c.in_err-write.ensures;
+      taken = c.in_err-write.ensures.content;
     })
     c.from_residual-in_err-write.ensures.0
 
@@ -25,5 +25,5 @@ returns-clause-writes g c =
     record {
       text = c.as_slice.result.now;
       is_told = page-told c.as_slice.result.now c.head.new.self [] c.as_slice.ensures told;
-      taken = c.in_ok-write.ensures;
+      taken = c.in_ok-write.ensures.content;
     }

@@ -1,16 +1,16 @@
 use Rattle.std.proofs.Common.{Result, Err, inl, inr}
-use Rattle.trace_runs.specs.declared.endings.Verdict.{Verdict}
-use Rattle.trace_runs.specs.declared.endings.Verdict.TheVariants.{BadLayout}
-use Rattle.trace_runs.specs.declared.endings.Halt.{Halt}
+use Rattle.replay.specs.declared.endings.Verdict.{Verdict}
+use Rattle.replay.specs.declared.endings.Verdict.TheVariants.{Whole, BadLayout, Refuted}
+use Rattle.replay.specs.declared.endings.Halt.{Halt}
 use Rattle.trace.specs.Tales.{Tells}
-use Rattle.trace.proofs.LinesTold.{at_err, writes-stopped, stopped, bad_layout, ends_not, run-told, nothing-told, from-start}
+use Rattle.trace.proofs.LinesTold.{at_err, writes-stopped, stopped, layout_not_whole, layout_not_refuted, ends_not, run-told, nothing-told, from-start}
 use Rattle.trace.proofs.tales.tell.Goals as goal
 
 pub returns-in_err-world : goal.returns-in_err-world
 returns-in_err-world g c =
     let sink = g.K.Sink.told c.args.sink.now in
     at_err c.from_residual.result (λ (r : Result Verdict Halt). Tells (g.S.Source.told c.args.source.now) sink sink r)
-    (λ halt. inr (nothing-told sink sink (Err halt) (writes-stopped halt sink) (stopped halt _))) c.from_residual.ensures.0
+    (λ halt. inr (nothing-told sink sink (Err halt) (writes-stopped halt sink) (stopped halt Whole ⊥) (stopped halt Refuted ⊥))) c.from_residual.ensures.0
 
 pub returns-in-Opened : goal.returns-in-Opened
 returns-in-Opened g c =
@@ -21,4 +21,6 @@ returns-in-Opened g c =
 
 pub returns : goal.returns
 returns g c =
-    inr (nothing-told _ _ c.refuse.result c.refuse.ensures.writes (λ e. ends_not BadLayout c.refuse.result c.refuse.ensures.ends bad_layout e))
+    inr (nothing-told _ _ c.refuse.result c.refuse.ensures.writes
+    (ends_not BadLayout Whole c.refuse.result c.refuse.ensures.ends layout_not_whole)
+    (ends_not BadLayout Refuted c.refuse.result c.refuse.ensures.ends layout_not_refuted))

@@ -1,5 +1,5 @@
 use Rattle.std.proofs.Common.{Result}
-use Rattle.trace_runs.specs.declared.endings.Halt.{Halt}
+use Rattle.replay.specs.declared.endings.Halt.{Halt}
 use Rattle.trace.specs.Tales.{WritesTold}
 use Rattle.trace.proofs.LinesTold.{at_err, writes-page, writes-line-stopped}
 use Rattle.trace.proofs.tales.tell_line.Goals as goal
@@ -13,4 +13,4 @@ returns-in_err-page g c =
 pub returns : goal.returns
 returns g c =
     writes-page c.write.result (g.K.Sink.told c.args.sink.now) (g.K.Sink.told c.write.new.sink) c.as_slice.result.now c.in_ok-page.page
-    c.args.taken.now.printed c.write.ensures c.as_slice.ensures c.in_ok-page.ensures
+    c.args.taken.now.printed c.write.ensures.content c.as_slice.ensures c.in_ok-page.ensures

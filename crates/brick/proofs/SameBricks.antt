@@ -1,0 +1,117 @@
+-- The bricks that a process hosts stay the same bricks, in order, whatever turns they take.
+use Rattle.std.proofs.Common.{◌≡◌, ℕ, ◌<◌, arith, List, [], ◌∷◌, ◌++◌, length, Option, Err, inl, inr, refl, sym, ap, ◌∙◌, subst}
+use Rattle.std.specs.List.{AllByRecursion}
+use Rattle.node.specs.Running.{IsSameBrick}
+use Rattle.fab_base.specs.Layouts.{Layout}
+use Rattle.serving.specs.declared.faults.ServeFault.{ServeFault}
+use Rattle.serving.specs.declared.faults.ServeFault.TheVariants as serving
+use Rattle.hosting.specs.declared.faults.HostFault.{HostFault}
+use Rattle.hosting.specs.declared.hosted_bricks.TimedBricks.{TimedBricks}
+use Rattle.hosting.specs.Hosted.{Hosted, IsTurn, TakeTurns, StopTurns}
+use Rattle.hosting.specs.Hosting.{Hosts, HostsUntil, rounds_of}
+use Rattle.hosting.specs.Rounds as client
+use Rattle.hosting.specs.Rounds.{Heard, Took, AreStopped}
+use Rattle.brick.specs.Locals.{AreSame, Takes, Stops}
+use Rattle.brick.specs.Views.{Views}
+
+pub same_refl : {D L : Type 0} (bricks : List (Hosted D L)) → AreSame bricks bricks
+same_refl [] = tt
+same_refl (brick ∷ more) = (record { layout = refl; me = refl }, same_refl more)
+
+same_equal : {D L : Type 0} (bricks after : List (Hosted D L)) → after ≡ bricks → AreSame bricks after
+same_equal {D} {L} bricks after is = subst (λ (b : List (Hosted D L)). AreSame bricks b) (sym is) (same_refl bricks)
+
+same_then : {D L : Type 0} (a b c : List (Hosted D L)) → AreSame a b → AreSame b c → AreSame a c
+same_then [] [] [] p q = tt
+same_then [] [] (z ∷ c) p q = absurd q
+same_then [] (y ∷ b) c p q = absurd p
+same_then (x ∷ a) [] c p q = absurd p
+same_then (x ∷ a) (y ∷ b) [] p q = absurd q
+same_then (x ∷ a) (y ∷ b) (z ∷ c) p q =
+    (record { layout = q.0.layout ∙ p.0.layout; me = q.0.me ∙ p.0.me }, same_then a b c p.1 q.1)
+
+-- none is the last of no bricks
+same_some : {D L : Type 0} (a : List (Hosted D L)) (x : Hosted D L) → AreSame (a ++ (x ∷ [])) [] → ⊥
+same_some [] x p = p
+same_some (y ∷ a) x p = p
+
+some_same : {D L : Type 0} (b : List (Hosted D L)) (y : Hosted D L) → AreSame [] (b ++ (y ∷ [])) → ⊥
+some_same [] y p = p
+some_same (z ∷ b) y p = p
+
+-- those before the last one, and the last one
+pub same_last : {D L : Type 0} (a b : List (Hosted D L)) (x y : Hosted D L) → AreSame (a ++ (x ∷ [])) (b ++ (y ∷ []))
+    → AreSame a b × IsSameBrick x.node y.node
+same_last [] [] x y p = (tt, p.0)
+same_last [] (z ∷ b) x y p = absurd (some_same b y p.1)
+same_last (z ∷ a) [] x y p = absurd (same_some a x p.1)
+same_last (z ∷ a) (w ∷ b) x y p = let more = same_last a b x y p.1 in ((p.0, more.0), more.1)
+
+-- there is a last one
+pub some_last : {D L : Type 0} (a b : List (Hosted D L)) (x : Hosted D L) → AreSame (a ++ (x ∷ [])) b → 0 < length b
+some_last a [] x p = absurd (same_some a x p)
+some_last a (y ∷ b) x p = omega arith
+
+-- ---- all of them
+
+-- what is so of each is so with one more, and of each that was before the last one, and of that
+pub all_more : {X : Type 0} (P : X → Type 0) (a : List X) (x : X) → AllByRecursion P a → P x → AllByRecursion P (a ++ (x ∷ []))
+all_more P [] x all last = (last, tt)
+all_more P (y ∷ a) x all last = (all.0, all_more P a x all.1 last)
+
+pub all_last : {X : Type 0} (P : X → Type 0) (a : List X) (x : X) → AllByRecursion P (a ++ (x ∷ [])) → AllByRecursion P a × P x
+all_last P [] x all = (tt, all.0)
+all_last P (y ∷ a) x all = let more = all_last P a x all.1 in ((all.0, more.0), more.1)
+
+-- ---- turns
+
+module _ {D L C : Type 0} (v : Views D L C) where
+  same_turn : (before after : Hosted D L) (clock clock_after : C) (fault : ServeFault)
+      → IsTurn v.disk v.link v.clock before after clock clock_after (Err fault) → IsSameBrick before.node after.node
+  same_turn before after clock clock_after serving.Disk t = t.same
+  same_turn before after clock clock_after serving.Link t = t.same
+  same_turn before after clock clock_after serving.Clock t = t.same
+  same_turn before after clock clock_after serving.NoMemory t = t.same
+  same_turn before after clock clock_after serving.Halted t =
+      record { layout = ap (λ (b : Hosted D L). b.node.layout) t.1; me = ap (λ (b : Hosted D L). b.node.me) t.1 }
+
+  same_taken : (bricks after : List (Hosted D L)) (clock clock_after : C) → TakeTurns v.disk v.link v.clock bricks after clock clock_after
+      → AreSame bricks after
+  same_taken [] [] clock clock_after t = tt
+  same_taken [] (y ∷ after) clock clock_after t = absurd t
+  same_taken (x ∷ bricks) [] clock clock_after t = absurd t
+  same_taken (x ∷ bricks) (y ∷ after) clock clock_after t = (t.2.same, same_taken bricks after t.0 clock_after t.3)
+
+  same_stopped : (fault : ServeFault) (bricks after : List (Hosted D L)) (clock clock_after : C)
+      → StopTurns v.disk v.link v.clock fault bricks after clock clock_after → AreSame bricks after
+  same_stopped fault [] [] clock clock_after t = absurd t
+  same_stopped fault [] (y ∷ after) clock clock_after t = absurd t
+  same_stopped fault (x ∷ bricks) [] clock clock_after t = absurd t
+  same_stopped fault (x ∷ bricks) (y ∷ after) clock clock_after (inl t) = (same_turn x y clock clock_after fault t.0, same_equal bricks after t.1)
+  same_stopped fault (x ∷ bricks) (y ∷ after) clock clock_after (inr t) = (t.2.same, same_stopped fault bricks after t.0 clock_after t.3)
+
+  same_took : (rounds : List Heard) (before after : TimedBricks D L C) → Took (Takes v) rounds before after
+      → AreSame before.bricks.bricks after.bricks.bricks
+  same_took [] before after t = same_equal before.bricks.bricks after.bricks.bricks (ap (λ (b : TimedBricks D L C). b.bricks.bricks) t)
+  same_took (round ∷ rounds) before after t =
+      same_then before.bricks.bricks t.0.bricks.bricks after.bricks.bricks
+      (same_taken before.bricks.bricks t.0.bricks.bricks before.clock t.0.clock t.1) (same_took rounds t.0 after t.2)
+
+  same_end : (before after : TimedBricks D L C) (fault : HostFault) → AreStopped (Takes v) (Stops v) before after fault
+      → AreSame before.bricks.bricks after.bricks.bricks
+  same_end before after fault (inl t) = same_stopped t.0 before.bricks.bricks after.bricks.bricks before.clock after.clock t.2
+  same_end before after fault (inr (other, inl is)) =
+      same_equal before.bricks.bricks after.bricks.bricks (ap (λ (b : TimedBricks D L C). b.bricks.bricks) is)
+  same_end before after fault (inr (other, inr t)) = same_taken before.bricks.bricks after.bricks.bricks before.clock after.clock t
+
+  module _ (layout : Layout) (turns : ℕ) (source source_after out said : Option (List ℕ)) (link link_after : client.Told) (before after : TimedBricks D L C) where
+    -- commands were run, to their end or to a fault
+    pub same_hosts : Hosts (Takes v) layout turns source source_after link link_after before after out said → AreSame before.bricks.bricks after.bricks.bricks
+    same_hosts h = same_took (rounds_of h.played) before after h.took
+
+    pub same_until : (fault : HostFault) → HostsUntil (Takes v) (Stops v) layout turns source source_after link link_after before after out said fault
+        → AreSame before.bricks.bricks after.bricks.bricks
+    same_until fault h =
+        same_then before.bricks.bricks h.bricks_then.bricks.bricks after.bricks.bricks (same_took (rounds_of h.played) before h.bricks_then h.took)
+        (same_then h.bricks_then.bricks.bricks h.stopped.mid.bricks.bricks after.bricks.bricks
+        (same_took h.stopped.rounds h.bricks_then h.stopped.mid h.stopped.took) (same_end h.stopped.mid after fault h.stopped.stopped))

@@ -1,0 +1,32 @@
+-- The commands were run to their end, or until a fault.
+use Rattle.std.proofs.Common.{◌≡◌, Err, inl, inr, refl, sym, ap, ◌∙◌, subst}
+use Rattle.fab_io.proofs.Keeping.{Kept-narrower}
+use Rattle.brick.specs.Endings.{status_of, IsDone}
+use Rattle.brick.specs.Views.{views}
+use Rattle.brick.proofs.MayHosting.{six_is_sink, rose_by, run_done}
+use Rattle.brick.proofs.SameBricks.{same_hosts, same_until}
+use Rattle.brick.proofs.commands.run.Goals as goal
+
+pub returns-in-Ok-clause-runs : goal.returns-in-Ok-clause-runs
+returns-in-Ok-clause-runs g c = inl (refl, c.in-Ok.ensures.hosts)
+
+pub returns-in-Ok-clause-same : goal.returns-in-Ok-clause-same
+returns-in-Ok-clause-same g c = same_hosts (views g.D.Disk g.L.Link g.C.Clock) _ _ _ _ _ _ _ _ _ _ c.in-Ok.ensures.hosts
+
+pub returns-in-Err : goal.returns-in-Err
+returns-in-Err g c =
+    let ran = c.in-Err.ensures in
+    record {
+      runs = inr (
+        c.in-Err.fault,
+        c.ending_by.ensures,
+        ran.stopped,
+        rose_by c.in-Err.fault _ _ _ _ (λ e. ran.link.rose (ap (λ z. Err z) e)) (λ e. ran.source.rose (ap (λ z. Err z) e)),
+      );
+      same = same_until (views g.D.Disk g.L.Link g.C.Clock) _ _ _ _ _ _ _ _ _ _ c.in-Err.fault ran.stopped;
+      bricks = ran.bricks.stays;
+      link = ran.link.stays;
+      source = ran.source.stays;
+      sink = Kept-narrower (λ e. ap (λ z. Err z) (six_is_sink c.in-Err.fault (ap status_of (sym c.ending_by.ensures) ∙ e))) ran.sink;
+      done = λ bricks link source sink. subst IsDone (sym c.ending_by.ensures) (run_done (Err c.in-Err.fault) c.in-Err.fault refl (ran.sound bricks link source sink));
+    }

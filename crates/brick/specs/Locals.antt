@@ -1,0 +1,209 @@
+-- What `brick local` does to its host, once the layout was found, and how it ends.
+use Rattle.std.specs.Prelude.{◌≡◌, ◌⊎◌, ℕ, zero, suc, ◌+◌, ◌-◌, ◌<◌, ◌≤◌, false, List, [], ◌∷◌, ◌++◌, codes, ⊤, Option, Result}
+use Rattle.std.specs.Fmt.{decimal}
+use Rattle.fab_base.specs.declared.identities.BrickId.{BrickId}
+use Rattle.fab_base.specs.Layouts.{Layout}
+use Rattle.fab_io.specs.Ends.{Rose}
+use Rattle.fab_host.specs.declared.hosts.Asked.TheVariants as calls
+use Rattle.fab_host.specs.Held.{here, IsMissing}
+use Rattle.fab_host.specs.Holdings.{Holdings, with_source, with_disk, with_link, with_clock}
+use Rattle.node.specs.Running.{Running, IsSameBrick}
+use Rattle.serving.specs.Ports.{ports_of, port_of}
+use Rattle.hosting.specs.declared.faults.HostFault.{HostFault}
+use Rattle.hosting.specs.declared.faults.HostFault.TheVariants as faults
+use Rattle.hosting.specs.declared.hosted_bricks.TimedBricks.{TimedBricks}
+use Rattle.hosting.specs.Hosted.{Hosted, Begins, TakeTurns, StopTurns}
+use Rattle.hosting.specs.Faults.{fault_of}
+use Rattle.hosting.specs.Hosting.{Hosts, HostsUntil}
+use Rattle.hosting.specs.Rounds as client
+use Rattle.serving.specs.declared.faults.ServeFault.{ServeFault}
+use Rattle.brick.specs.declared.endings.Ending.{Ending}
+use Rattle.brick.specs.declared.endings.Ending.TheVariants.{Commanded, Source, Sink, Memory, Disk, Host}
+use Rattle.brick.specs.Hosts.{HostSeen, IsRefused, Borrows}
+use Rattle.brick.specs.Layouts.{HoldsLayout}
+use Rattle.brick.specs.Serves.{IsStarted, IsLeft, RefusesStore, MayStart, HasClock}
+use Rattle.brick.specs.Views.{Views}
+
+-- ---- the commands
+
+-- the name of the source of the commands: standard input
+abbrev pub standard_input : List ℕ
+standard_input = codes "-"
+
+-- the bricks that a process hosts, with their clock; there is room for all bricks of the layout
+abbrev pub timed : {D L C : Type 0} → Layout → List (Hosted D L) → C → TimedBricks D L C
+timed layout bricks clock = record { bricks = record { bricks = bricks; room = layout.bricks }; clock = clock }
+
+-- each brick took a turn, in order; or one was stopped in it
+abbrev pub Takes : {D L C : Type 0} → Views D L C → TimedBricks D L C → TimedBricks D L C → Type 0
+Takes v before after = TakeTurns v.disk v.link v.clock before.bricks.bricks after.bricks.bricks before.clock after.clock
+
+abbrev pub Stops : {D L C : Type 0} → Views D L C → TimedBricks D L C → TimedBricks D L C → HostFault → Type 0
+Stops v before after fault = (met : ServeFault) × (fault ≡ fault_of met)
+    × StopTurns v.disk v.link v.clock met before.bricks.bricks after.bricks.bricks before.clock after.clock
+
+-- how a fault of a run of commands ends the program
+abbrev pub ending_by : HostFault → Ending
+ending_by faults.Disk = Disk
+ending_by faults.Link = Host
+ending_by faults.ClientLink = Host
+ending_by faults.Clock = Host
+ending_by faults.Source = Source
+ending_by faults.Sink = Sink
+ending_by faults.NoMemory = Memory
+
+-- the count of faults of the client's link or of the source rose, where that failed; the turns of the bricks tell it of theirs
+abbrev pub RoseBy : HostFault → ℕ → ℕ → ℕ → ℕ → Type 0
+RoseBy faults.ClientLink link link_after source source_after = Rose link link_after
+RoseBy faults.Source link link_after source source_after = Rose source source_after
+RoseBy other link link_after source source_after = ⊤
+
+-- The commands of a source were run over the bricks, until the turns were used up or the source was at its end; or until a fault.
+abbrev pub RunsCommands : {S D L C : Type 0} → (S → Option (List ℕ)) → (S → ℕ) → Views D L C → Layout → ℕ → TimedBricks D L C → TimedBricks D L C
+    → L → L → S → S → Option (List ℕ) → Option (List ℕ) → Ending → Type 0
+RunsCommands told failed v layout turns bricks bricks_after link link_after source source_after out said ending =
+    ((ending ≡ Commanded) × Hosts (Takes v) layout turns (told source) (told source_after) (client.told (v.link.waiting link) (v.link.sent link))
+    (client.told (v.link.waiting link_after) (v.link.sent link_after)) bricks bricks_after out said)
+    ⊎ ((fault : HostFault) × (ending ≡ ending_by fault) × HostsUntil (Takes v) (Stops v) layout turns (told source) (told source_after)
+    (client.told (v.link.waiting link) (v.link.sent link)) (client.told (v.link.waiting link_after) (v.link.sent link_after)) bricks bricks_after out said fault
+    × RoseBy fault (v.link.faults link) (v.link.faults link_after) (failed source) (failed source_after))
+
+-- ---- the source, the client's link and the clock
+
+-- The source was lent, and its commands were run; or it was refused.
+abbrev pub HostsBySource : {S D L C : Type 0} → (S → Option (List ℕ)) → (S → ℕ) → Views D L C → Layout → ℕ → HostSeen S D L C → HostSeen S D L C
+    → TimedBricks D L C → TimedBricks D L C → L → L → Option (List ℕ) → Option (List ℕ) → Ending → Type 0
+HostsBySource {S} {D} {L} {C} told failed v layout turns before after bricks bricks_after link link_after out said ending =
+    (IsRefused before after (calls.Source standard_input) ending × (bricks_after ≡ bricks) × (link_after ≡ link) × (said ≡ out))
+    ⊎ ((source back : S) × Borrows before after (calls.Source standard_input) (λ h. h.sources standard_input) (λ h. with_source h standard_input) source back
+    (λ began ended. (ended ≡ began) × RunsCommands told failed v layout turns bricks bricks_after link link_after source back out said ending))
+
+-- The client's link was lent, at any free port, and then the source was asked for; or the link was refused.
+abbrev pub HostsByClient : {S D L C : Type 0} → (S → Option (List ℕ)) → (S → ℕ) → Views D L C → Layout → ℕ → HostSeen S D L C → HostSeen S D L C
+    → TimedBricks D L C → TimedBricks D L C → Option (List ℕ) → Option (List ℕ) → Ending → Type 0
+HostsByClient {S} {D} {L} {C} told failed v layout turns before after bricks bricks_after out said ending =
+    (IsRefused before after (calls.Link 0) ending × (bricks_after ≡ bricks) × (said ≡ out))
+    ⊎ ((link back : L) × Borrows before after (calls.Link 0) (λ h. h.links 0) (λ h. with_link h 0) link back
+    (λ began ended. HostsBySource told failed v layout turns began ended bricks bricks_after link back out said ending))
+
+-- The clock was lent to the bricks, and then the client's link was asked for; or the clock was refused.
+abbrev pub HostsByClock : {S D L C : Type 0} → (S → Option (List ℕ)) → (S → ℕ) → Views D L C → Layout → ℕ → HostSeen S D L C → HostSeen S D L C
+    → List (Hosted D L) → List (Hosted D L) → Option (List ℕ) → Option (List ℕ) → Ending → Type 0
+HostsByClock {S} {D} {L} {C} told failed v layout turns before after bricks bricks_after out said ending =
+    (IsRefused before after calls.Clock ending × (bricks_after ≡ bricks) × (said ≡ out))
+    ⊎ ((clock : C) × (timed_after : TimedBricks D L C) × (timed_after.bricks.bricks ≡ bricks_after)
+    × Borrows before after calls.Clock (λ h. h.clock) with_clock clock timed_after.clock
+    (λ began ended. HostsByClient told failed v layout turns began ended (timed layout bricks clock) timed_after out said ending))
+
+-- ---- the bricks, one after another
+
+-- the same bricks, in order
+abbrev pub AreSame : {D L : Type 0} → List (Hosted D L) → List (Hosted D L) → Type 0
+AreSame [] [] = Unit {0}
+AreSame (brick ∷ more) (after ∷ more_after) = IsSameBrick brick.node after.node × AreSame more more_after
+AreSame bricks bricks_after = ⊥
+
+-- what is done with the bricks that were started so far, and with the host
+abbrev pub Deed : Type 0 → Type 0 → Type 0 → Type 0 → Type 1
+Deed S D L C = List (Hosted D L) → List (Hosted D L) → HostSeen S D L C → HostSeen S D L C → Type 0
+
+-- The link of this port was lent to a brick, and the brick stood behind those that were started before it for what was done next; or the link was refused.
+abbrev pub HostsByLink : {S D L C : Type 0} → ℕ → Deed S D L C → HostSeen S D L C → HostSeen S D L C → List (Hosted D L) → List (Hosted D L)
+    → Running D → Running D → Option (List ℕ) → Option (List ℕ) → Ending → Type 0
+HostsByLink {S} {D} {L} {C} port next before after bricks bricks_after node node_after out said ending =
+    (IsRefused before after (calls.Link port) ending × (bricks_after ≡ bricks) × (node_after ≡ node) × (said ≡ out))
+    ⊎ ((link back : L) × Borrows before after (calls.Link port) (λ h. h.links port) (λ h. with_link h port) link back
+    (λ began ended. (brick brick_after : Hosted D L) × Begins brick node link × (brick_after.node ≡ node_after) × (brick_after.link ≡ back)
+    × next (bricks ++ brick ∷ []) (bricks_after ++ brick_after ∷ []) began ended))
+
+-- The disk's store was opened, and then the link of the brick's port was asked for. The disk is whole unless the brick is halted: it failed in a turn.
+pub record HostsStarted {S D L C : Type 0} (v : Views D L C) (layout : Layout) (me : BrickId) (next : Deed S D L C) (disk back : D)
+    (before after : HostSeen S D L C) (bricks bricks_after : List (Hosted D L)) (out said : Option (List ℕ)) (ending : Ending) : Type 0 where
+  pub node : Running D
+  pub node_after : Running D
+  pub started : IsStarted v layout me disk node
+  pub hosts : HostsByLink (port_of (ports_of layout) me) next before after bricks bricks_after node node_after out said ending
+  pub left : IsLeft v layout me node_after back (node_after.brick.halted ≡ false)
+
+-- a disk was lent: its store was opened; or it was not, and nothing else was asked for
+abbrev pub HostsOver : {S D L C : Type 0} → Views D L C → Layout → BrickId → Deed S D L C → D → D → HostSeen S D L C → HostSeen S D L C
+    → List (Hosted D L) → List (Hosted D L) → Option (List ℕ) → Option (List ℕ) → Ending → Type 0
+HostsOver v layout me next disk back before after bricks bricks_after out said ending =
+    (RefusesStore v layout me disk back ending × (after ≡ before) × (bricks_after ≡ bricks) × (said ≡ out))
+    ⊎ HostsStarted v layout me next disk back before after bricks bricks_after out said ending
+
+-- The disk of this name was lent, and its store was to be opened; or the disk was refused.
+abbrev pub HostsByDisk : {S D L C : Type 0} → Views D L C → Layout → BrickId → List ℕ → Deed S D L C → HostSeen S D L C → HostSeen S D L C
+    → List (Hosted D L) → List (Hosted D L) → Option (List ℕ) → Option (List ℕ) → Ending → Type 0
+HostsByDisk {S} {D} {L} {C} v layout me name next before after bricks bricks_after out said ending =
+    (IsRefused before after (calls.Disk name false) ending × (bricks_after ≡ bricks) × (said ≡ out))
+    ⊎ ((disk back : D) × Borrows before after (calls.Disk name false) (λ h. h.disks name) (λ h. with_disk h name) disk back
+    (λ began ended. HostsOver v layout me next disk back began ended bricks bricks_after out said ending))
+
+-- the name of the disk of a brick: the prefix, a dot and its number
+abbrev pub disk_name : List ℕ → BrickId → List ℕ
+disk_name prefix me = prefix ++ (codes "." ++ decimal me.0)
+
+-- The bricks that are left were hosted, from this number on, beside those that were started; past the last one the commands were run.
+abbrev pub HostsBricks : {S D L C : Type 0} → (S → Option (List ℕ)) → (S → ℕ) → Views D L C → Layout → List ℕ → ℕ → Option (List ℕ) → Option (List ℕ)
+    → Ending → ℕ → ℕ → Deed S D L C
+HostsBricks told failed v layout prefix turns out said ending zero id bricks bricks_after before after =
+    HostsByClock told failed v layout turns before after bricks bricks_after out said ending
+HostsBricks told failed v layout prefix turns out said ending (suc left) id bricks bricks_after before after =
+    HostsByDisk v layout (record { 0 = id }) (disk_name prefix (record { 0 = id }))
+    (HostsBricks told failed v layout prefix turns out said ending left (id + 1)) before after bricks bricks_after out said ending
+
+-- the bricks of a layout from this number on
+abbrev pub HostsFrom : {S D L C : Type 0} → (S → Option (List ℕ)) → (S → ℕ) → Views D L C → Layout → List ℕ → ℕ → Option (List ℕ) → Option (List ℕ)
+    → Ending → ℕ → Deed S D L C
+HostsFrom told failed v layout prefix turns out said ending id =
+    HostsBricks told failed v layout prefix turns out said ending (layout.bricks - id) id
+
+-- A layout was found: all its bricks were hosted, from the first on; or there was no memory for them, and nothing was asked for.
+abbrev pub HostsLayout : {S D L C : Type 0} → (S → Option (List ℕ)) → (S → ℕ) → Views D L C → Layout → List ℕ → ℕ → HostSeen S D L C → HostSeen S D L C
+    → Option (List ℕ) → Option (List ℕ) → Ending → Type 0
+HostsLayout told failed v layout prefix turns before after out said ending =
+    ((ending ≡ Memory) × (after ≡ before) × (said ≡ out))
+    ⊎ HostsFrom told failed v layout prefix turns out said ending 0 [] [] before after
+
+-- ---- what may be hosted
+
+-- the host holds standard input, to be lent
+abbrev pub HasCommands : {S D L C : Type 0} → Holdings S D L C → Type 0
+HasCommands h = IsMissing (h.sources standard_input) → ⊥
+
+-- and a link for the client
+abbrev pub HasClient : {S D L C : Type 0} → Holdings S D L C → Type 0
+HasClient h = (IsMissing (h.links 0) → ⊥) × HasCommands h
+
+-- and the clock
+abbrev pub HasEnds : {S D L C : Type 0} → Holdings S D L C → Type 0
+HasEnds h = HasClock h × HasClient h
+
+-- the host holds, under its name, a disk that may be started as this brick, and the link of its port
+pub record HasBrick {S D L C : Type 0} (tells : Type 0) (seen : D → List ℕ) (layout : Layout) (prefix : List ℕ) (me : BrickId)
+    (h : Holdings S D L C) : Type 0 where
+  pub disk : D
+  pub held : h.disks (disk_name prefix me) ≡ here disk
+  pub starts : MayStart tells seen layout me disk
+  pub link : IsMissing (h.links (port_of (ports_of layout) me)) → ⊥
+
+-- the same for each brick of the layout from this number on; and the rest
+pub record HasBricks {S D L C : Type 0} (tells : Type 0) (seen : D → List ℕ) (layout : Layout) (prefix : List ℕ) (id : ℕ)
+    (h : Holdings S D L C) : Type 0 where
+  pub each : (k : ℕ) → id ≤ k → k < layout.bricks → HasBrick tells seen layout prefix (record { 0 = k }) h
+  pub ends : HasEnds h
+
+-- the same once the disk of this brick was lent: its link, and the bricks behind it
+pub record HasRest {S D L C : Type 0} (tells : Type 0) (seen : D → List ℕ) (layout : Layout) (prefix : List ℕ) (me : BrickId)
+    (h : Holdings S D L C) : Type 0 where
+  pub link : IsMissing (h.links (port_of (ports_of layout) me)) → ⊥
+  pub bricks : HasBricks tells seen layout prefix (me.0 + 1) h
+
+-- The host holds a source with the text of a layout, the store of each of its bricks and the links of their ports, the clock, a link for the client,
+-- and standard input.
+pub record MayHost {S D L C : Type 0} (told : S → Option (List ℕ)) (tells : Type 0) (seen : D → List ℕ) (h : Holdings S D L C) (source prefix : List ℕ)
+    : Type 0 where
+  pub layout : Layout
+  pub holds : HoldsLayout told h source layout
+  pub bricks : HasBricks tells seen layout prefix 0 h

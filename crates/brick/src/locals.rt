@@ -1,0 +1,203 @@
+//! `brick local`.
+
+ghost use Rattle.std.specs.Prelude.{◌≡◌, ◌<◌, ◌≤◌, ◌+◌, [], Some, false, length, IfOk, string_bytes};
+ghost use Rattle.std.specs.List.{AllByRecursion};
+ghost use Rattle.fab_io.specs.Ends.{Kept};
+ghost use Rattle.hosting.specs.Hosted.{TakesLast, IsSound};
+ghost use Rattle.node.specs.Running.{IsSameBrick};
+ghost use Rattle.serving.specs.Ports.{ports_of, port_of};
+ghost use Rattle.brick.specs.Endings.{status_of, IsDone};
+ghost use Rattle.brick.specs.Hosts.{host_seen, Told, Has, KnowsStill};
+ghost use Rattle.brick.specs.Locals.{disk_name, AreSame, HostsByLink, HostsOver, HostsFrom, HostsLayout, HasRest, HasBricks};
+ghost use Rattle.brick.specs.Serves.{MayStart};
+ghost use Rattle.brick.specs.Views.{views};
+
+use crate::commands::run_by_clock;
+use crate::endings::Ending;
+use crate::serves::{port_of, start};
+use fab_base::BrickId;
+use fab_disk::Disk;
+use fab_host::Host;
+use fab_io::{Link, Sink};
+use hosting::HostedBricks;
+use layout::Layout;
+use node::Node;
+use std::alloc::{AllocError, Global};
+
+/// Hosts all bricks of a layout, over disks whose names begin with this prefix, runs commands over them, and gives back to the host what it opened.
+pub(crate) fn local<H: Host, K: Sink>(
+    alloc: Global,
+    host: &mut H,
+    out: &mut K,
+    prefix: &str,
+    layout: &Layout,
+    turns: u64,
+) -> Ending
+    ensures hosts { HostsLayout H.Source.told H.Source.faults (views H.Disk.Disk H.Link.Link H.Clock.Clock) layout.now prefix.now turns
+        (host_seen (H.faults host.old) (H.asked host.old) (H.holds host.old)) (host_seen (H.faults host.new) (H.asked host.new) (H.holds host.new))
+        (K.told out.old) (K.told out.new) result }
+    ensures stays { H.sound host.old → H.sound host.new }
+    ensures sink { Kept (K.faults out.old) (K.faults out.new) (K.sound out.old) (K.sound out.new) (status_of result ≡ 6) }
+    ensures done { H.sound host.old → K.sound out.old
+        → Has (H.holds host.old) (HasBricks H.Disk.tells H.Disk.seen layout.now prefix.now 0) → IsDone result }
+{
+    let bricks = match HostedBricks::new(alloc, usize::from(layout.bricks())) {
+        Ok(bricks) => bricks,
+        Err(_) => return Ending::Memory,
+    };
+    let (_bricks, ending) = host_bricks(alloc, host, out, prefix, layout, turns, 0, bricks);
+    ending
+}
+
+/// The name of the disk of the brick of this number.
+fn disk_name(alloc: Global, prefix: &str, id: u16) -> Result<String, AllocError>
+    ensures { IfOk result (λ name. string_bytes name ≡ disk_name prefix.now (record { 0 = id })) }
+{
+    Ok(format!(in alloc; "{prefix}.{id}")?)
+}
+
+/// Hosts the bricks from this number on, beside those that were started, and past the last one runs the commands. It gives back to the host what it
+/// opened, and hands back the bricks that were started, as they are then.
+#[cycle(bricks)]
+fn host_bricks<H: Host, K: Sink>(
+    alloc: Global,
+    host: &mut H,
+    out: &mut K,
+    prefix: &str,
+    layout: &Layout,
+    turns: u64,
+    id: u16,
+    bricks: HostedBricks<H::Disk, H::Link>,
+) -> (HostedBricks<H::Disk, H::Link>, Ending)
+    requires count { length bricks.bricks ≡ id }
+    requires room { bricks.room ≡ layout.now.bricks }
+    ensures hosts { HostsFrom H.Source.told H.Source.faults (views H.Disk.Disk H.Link.Link H.Clock.Clock) layout.now prefix.now turns
+        (K.told out.old) (K.told out.new) result.1 id bricks.bricks result.0.bricks
+        (host_seen (H.faults host.old) (H.asked host.old) (H.holds host.old)) (host_seen (H.faults host.new) (H.asked host.new) (H.holds host.new)) }
+    ensures same { AreSame bricks.bricks result.0.bricks }
+    ensures knows { Told (H.holds host.old) (H.holds host.new) KnowsStill }
+    ensures stays { H.sound host.old → AllByRecursion (IsSound H.Disk.Disk H.Link.Link H.Clock.Clock) bricks.bricks
+        → H.sound host.new × AllByRecursion (IsSound H.Disk.Disk H.Link.Link H.Clock.Clock) result.0.bricks }
+    ensures sink { Kept (K.faults out.old) (K.faults out.new) (K.sound out.old) (K.sound out.new) (status_of result.1 ≡ 6) }
+    ensures done { H.sound host.old → AllByRecursion (IsSound H.Disk.Disk H.Link.Link H.Clock.Clock) bricks.bricks → K.sound out.old
+        → Has (H.holds host.old) (HasBricks H.Disk.tells H.Disk.seen layout.now prefix.now id) → IsDone result.1 }
+{
+    if id >= layout.bricks() {
+        return run_by_clock(alloc, host, out, layout, turns, bricks);
+    }
+    let name = match disk_name(alloc, prefix, id) {
+        Ok(name) => name,
+        Err(_) => return (bricks, Ending::Memory),
+    };
+    let name = name.as_str();
+    let disk = match host.disk(name, false) {
+        Ok(disk) => disk,
+        Err(fault) => return (bricks, Ending::refusal(fault)),
+    };
+    let me = BrickId(id);
+    let (bricks, disk, ending) = host_store(
+        alloc, host, out, prefix, layout, turns, me, bricks, disk,
+    );
+    host.keep_disk(name, disk);
+    (bricks, ending)
+}
+
+/// Starts the brick whose store a disk holds, hosts it and those behind it, and hands the disk back.
+#[cycle(bricks)]
+fn host_store<H: Host, K: Sink>(
+    alloc: Global,
+    host: &mut H,
+    out: &mut K,
+    prefix: &str,
+    layout: &Layout,
+    turns: u64,
+    me: BrickId,
+    bricks: HostedBricks<H::Disk, H::Link>,
+    disk: H::Disk,
+) -> (HostedBricks<H::Disk, H::Link>, H::Disk, Ending)
+    requires has { me.0 < layout.now.bricks }
+    requires few { layout.now.bricks ≤ 64 }
+    requires count { length bricks.bricks ≡ me.0 }
+    requires room { bricks.room ≡ layout.now.bricks }
+    ensures hosts { HostsOver (views H.Disk.Disk H.Link.Link H.Clock.Clock) layout.now me
+        (HostsFrom H.Source.told H.Source.faults (views H.Disk.Disk H.Link.Link H.Clock.Clock) layout.now prefix.now turns
+        (K.told out.old) (K.told out.new) result.2 (me.0 + 1)) disk result.1
+        (host_seen (H.faults host.old) (H.asked host.old) (H.holds host.old)) (host_seen (H.faults host.new) (H.asked host.new) (H.holds host.new))
+        bricks.bricks result.0.bricks (K.told out.old) (K.told out.new) result.2 }
+    ensures same { AreSame bricks.bricks result.0.bricks }
+    ensures knows { Told (H.holds host.old) (H.holds host.new) KnowsStill }
+    ensures stays { H.sound host.old → AllByRecursion (IsSound H.Disk.Disk H.Link.Link H.Clock.Clock) bricks.bricks → H.Disk.sound disk
+        → H.sound host.new × AllByRecursion (IsSound H.Disk.Disk H.Link.Link H.Clock.Clock) result.0.bricks × H.Disk.sound result.1 }
+    ensures sink { Kept (K.faults out.old) (K.faults out.new) (K.sound out.old) (K.sound out.new) (status_of result.2 ≡ 6) }
+    ensures done { H.sound host.old → AllByRecursion (IsSound H.Disk.Disk H.Link.Link H.Clock.Clock) bricks.bricks → H.Disk.sound disk → K.sound out.old
+        → MayStart H.Disk.tells H.Disk.seen layout.now me disk
+        → Has (H.holds host.old) (HasRest H.Disk.tells H.Disk.seen layout.now prefix.now me) → IsDone result.2 }
+{
+    match start::<H>(alloc, layout, me, disk) {
+        Ok(node) => {
+            let (bricks, node, ending) = host_link(
+                alloc, host, out, prefix, layout, turns, me, bricks, node,
+            );
+            (bricks, node.into_disk(), ending)
+        }
+        Err((ending, disk)) => (bricks, disk, ending),
+    }
+}
+
+/// Opens the link of a brick, hosts the brick and those behind it, and gives the link back.
+#[cycle(bricks)]
+fn host_link<H: Host, K: Sink>(
+    alloc: Global,
+    host: &mut H,
+    out: &mut K,
+    prefix: &str,
+    layout: &Layout,
+    turns: u64,
+    me: BrickId,
+    bricks: HostedBricks<H::Disk, H::Link>,
+    node: Node<H::Disk>,
+) -> (HostedBricks<H::Disk, H::Link>, Node<H::Disk>, Ending)
+    requires has { me.0 < layout.now.bricks }
+    requires few { layout.now.bricks ≤ 64 }
+    requires count { length bricks.bricks ≡ me.0 }
+    requires room { bricks.room ≡ layout.now.bricks }
+    ensures hosts { HostsByLink (port_of (ports_of layout.now) me)
+        (HostsFrom H.Source.told H.Source.faults (views H.Disk.Disk H.Link.Link H.Clock.Clock) layout.now prefix.now turns
+        (K.told out.old) (K.told out.new) result.2 (me.0 + 1))
+        (host_seen (H.faults host.old) (H.asked host.old) (H.holds host.old)) (host_seen (H.faults host.new) (H.asked host.new) (H.holds host.new))
+        bricks.bricks result.0.bricks node result.1 (K.told out.old) (K.told out.new) result.2 }
+    ensures same { AreSame bricks.bricks result.0.bricks }
+    ensures brick { IsSameBrick node result.1 }
+    ensures knows { Told (H.holds host.old) (H.holds host.new) KnowsStill }
+    ensures stays { H.sound host.old → AllByRecursion (IsSound H.Disk.Disk H.Link.Link H.Clock.Clock) bricks.bricks → node.brick.halted ≡ false
+        → H.Disk.sound node.brick.disk
+        → H.sound host.new × AllByRecursion (IsSound H.Disk.Disk H.Link.Link H.Clock.Clock) result.0.bricks × H.Disk.sound result.1.brick.disk }
+    ensures sink { Kept (K.faults out.old) (K.faults out.new) (K.sound out.old) (K.sound out.new) (status_of result.2 ≡ 6) }
+    ensures done { H.sound host.old → AllByRecursion (IsSound H.Disk.Disk H.Link.Link H.Clock.Clock) bricks.bricks → node.brick.halted ≡ false
+        → H.Disk.sound node.brick.disk → K.sound out.old
+        → Has (H.holds host.old) (HasRest H.Disk.tells H.Disk.seen layout.now prefix.now me) → IsDone result.2 }
+{
+    let port = port_of(layout, me);
+    let link = match host.link(port) {
+        Ok(link) => link,
+        Err(fault) => return (bricks, node, Ending::refusal(fault)),
+    };
+    let mut bricks = bricks;
+    bricks.add(node, link);
+    let (bricks, ending) = host_bricks(alloc, host, out, prefix, layout, turns, me.0 + 1, bricks);
+    let mut bricks = bricks;
+    let (node, link) = take_last(&mut bricks);
+    host.keep_link(port, link);
+    (bricks, node, ending)
+}
+
+/// Takes the last of these bricks away. There is one.
+fn take_last<D: Disk, L: Link>(bricks: &mut HostedBricks<D, L>) -> (Node<D>, L)
+    requires { 0 < length bricks.old.bricks }
+    ensures { TakesLast bricks.old.bricks bricks.new.bricks (Some result) }
+{
+    match bricks.pop() {
+        Some(taken) => taken,
+        None => unreachable!(),
+    }
+}
