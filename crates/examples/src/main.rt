@@ -3,8 +3,9 @@
 //! A line of standard input names a case: `NAME`, `NAME STATUS` or `NAME STATUS WORD..`. The file NAME.in is run over ends in
 //! memory, with the words given or else the word `run`. It must end with the status given or else with 0, and must print what stands
 //! in NAME.out. The line `faults NAME` runs a case again and again: each read of its input in turn fails, and each write of its
-//! output. Such a run must end with the status of that fault, and print no more than a prefix of the output. The line `trace NAME` runs the
-//! program `trace` over NAME.in with the word `text`: it must print what stands in NAME.trace.
+//! output. Such a run must end with the status of that fault, and print no more than a prefix of the output. The line `fronts NAME` runs
+//! each front of NAME.in: it must end with the status that stands at the place of its length in NAME.fronts, a digit each. The line
+//! `trace NAME` runs the program `trace` over NAME.in with the word `text`: it must print what stands in NAME.trace.
 #![tactic(auto)]
 
 use fab_io::{MemSink, MemSource};
@@ -48,6 +49,50 @@ impl Fault {
     }
 }
 
+/// What is done with an input.
+#[derive(Clone, Copy, PartialEq, Eq)]
+enum Kind {
+    /// It is run by `replay`.
+    Run,
+    /// The same, and then again with each read and each write failing in turn.
+    Faults,
+    /// Each of its fronts is run by `replay`.
+    Fronts,
+    /// It is run by `trace`.
+    Trace,
+}
+
+impl Kind {
+    /// The kind that a line's first word names. One that names none is the name of a case that is run.
+    fn of(word: &str) -> Kind {
+        match word {
+            "faults" => Kind::Faults,
+            "fronts" => Kind::Fronts,
+            "trace" => Kind::Trace,
+            _ => Kind::Run,
+        }
+    }
+
+    /// The last part of the name of the file that says what is wanted.
+    fn suffix(self) -> &'static str {
+        match self {
+            Kind::Run | Kind::Faults => "out",
+            Kind::Fronts => "fronts",
+            Kind::Trace => "trace",
+        }
+    }
+
+    /// What is said behind the name of a case.
+    fn said(self) -> &'static str {
+        match self {
+            Kind::Run => "",
+            Kind::Faults => " with faults",
+            Kind::Fronts => " cut short",
+            Kind::Trace => " traced",
+        }
+    }
+}
+
 /// How a run ended: its status and all that it printed.
 #[derive(Drop)]
 struct Ending {
@@ -59,19 +104,20 @@ struct Ending {
 #[derive(Drop)]
 struct Case {
     name: String,
-    has_faults: bool,
-    is_trace: bool,
+    kind: Kind,
     words: Vec<String>,
     input: Vec<u8>,
     status: u8,
     output: Vec<u8>,
 }
 
-/// What is wrong with a case: another status, another output, or another end where a fault comes.
+/// What is wrong with a case: another status, another output, another status after so many bytes of the input, or another end where a fault
+/// comes.
 #[derive(Drop)]
 enum Trouble {
     Status(u8),
     Output,
+    Front(usize, u8),
     After(Fault),
 }
 
@@ -80,6 +126,7 @@ impl fmt::Display for Trouble {
         match self {
             Trouble::Status(found) => write!(f, "ends with {found}"),
             Trouble::Output => write!(f, "prints something else"),
+            Trouble::Front(length, found) => write!(f, "ends with {found} after {length} bytes"),
             Trouble::After(Fault::Read(call)) => write!(f, "ends badly where read {call} fails"),
             Trouble::After(Fault::Write(call)) => write!(f, "ends badly where write {call} fails"),
         }
@@ -92,17 +139,10 @@ impl Case {
         let alloc = rt.alloc();
         let mut tokens = line.split_whitespace();
         let first = tokens.next().unwrap_or("");
-        let has_faults = first == "faults";
-        let is_trace = first == "trace";
-        let name = if has_faults || is_trace {
-            tokens.next().unwrap_or("")
-        } else {
-            first
-        };
-        let (word, kind) = if is_trace {
-            ("text", "trace")
-        } else {
-            ("run", "out")
+        let kind = Kind::of(first);
+        let name = match kind {
+            Kind::Run => first,
+            Kind::Faults | Kind::Fronts | Kind::Trace => tokens.next().unwrap_or(""),
         };
         let status = tokens.next().unwrap_or("0").parse().unwrap_or(u8::MAX);
         let mut words = Vec::new(alloc);
@@ -110,15 +150,15 @@ impl Case {
             words.push(String::from_str(alloc, token)?)?;
         }
         if words.is_empty() {
+            let word = if kind == Kind::Trace { "text" } else { "run" };
             words.push(String::from_str(alloc, word)?)?;
         }
         let input = fs::read(rt, format!(in alloc; "{name}.in")?)?;
-        let output = fs::read(rt, format!(in alloc; "{name}.{kind}")?)?;
+        let output = fs::read(rt, format!(in alloc; "{name}.{}", kind.suffix())?)?;
         let name = String::from_str(alloc, name)?;
         Ok(Case {
             name,
-            has_faults,
-            is_trace,
+            kind,
             words,
             input,
             status,
@@ -126,9 +166,14 @@ impl Case {
         })
     }
 
-    /// Runs the case, with a fault or with none.
-    fn run(&self, alloc: Global, fault: Option<Fault>) -> Result<Ending, AllocError> {
-        let mut source = MemSource::new(self.input.clone()?);
+    /// Runs the case over this input, with a fault or with none.
+    fn run_over(
+        &self,
+        alloc: Global,
+        input: Vec<u8>,
+        fault: Option<Fault>,
+    ) -> Result<Ending, AllocError> {
+        let mut source = MemSource::new(input);
         let mut sink = MemSink::new(alloc);
         match fault {
             Some(Fault::Read(call)) => {
@@ -142,13 +187,33 @@ impl Case {
             None => (),
         }
         let words = self.words.as_slice();
-        let status = if self.is_trace {
+        let status = if self.kind == Kind::Trace {
             let mut errors = MemSink::new(alloc);
             trace(alloc, words, &mut source, &mut sink, &mut errors)
         } else {
             replay(alloc, words, &mut source, &mut sink)
         };
         Ok(Ending { status, sink })
+    }
+
+    /// Runs the case over its whole input.
+    fn run(&self, alloc: Global, fault: Option<Fault>) -> Result<Ending, AllocError> {
+        self.run_over(alloc, self.input.clone()?, fault)
+    }
+
+    /// What is wrong with a front of the input: the first one that ends with another status.
+    fn trouble_of_fronts(&self, alloc: Global) -> Result<Option<Trouble>, AllocError> {
+        let mut front = Vec::new(alloc);
+        for (length, digit) in self.output.iter().enumerate() {
+            let status = self.run_over(alloc, front.clone()?, None)?.status;
+            if status != digit.wrapping_sub(b'0') {
+                return Ok(Some(Trouble::Front(length, status)));
+            }
+            if let Some(byte) = self.input.as_slice().get(length) {
+                front.push(*byte)?;
+            }
+        }
+        Ok(None)
     }
 
     /// What is wrong where no end fails.
@@ -187,9 +252,12 @@ impl Case {
 
     /// The first thing that is wrong: without a fault, and then with those that the case asks for.
     fn first_trouble(&self, alloc: Global) -> Result<Option<Trouble>, AllocError> {
+        if self.kind == Kind::Fronts {
+            return self.trouble_of_fronts(alloc);
+        }
         let mut found = self.trouble(alloc)?;
         for first in [Fault::Read(1), Fault::Write(1)] {
-            if found.is_none() && self.has_faults {
+            if found.is_none() && self.kind == Kind::Faults {
                 found = self.trouble_from(alloc, first)?;
             }
         }
@@ -201,11 +269,7 @@ fn main(rt: HostRuntime) -> io::Result<()> {
     for line in rt.lines(rt.alloc()) {
         let case = Case::read(&rt, line?.as_str())?;
         let name = case.name.as_str();
-        let with = match (case.has_faults, case.is_trace) {
-            (true, _) => " with faults",
-            (false, true) => " traced",
-            (false, false) => "",
-        };
+        let with = case.kind.said();
         match case.first_trouble(rt.alloc())? {
             None => println!(rt; "{name}{with} ok")?,
             Some(trouble) => println!(rt; "{name}{with} {trouble}")?,
