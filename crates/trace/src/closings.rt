@@ -3,29 +3,23 @@
 use brick_store::State;
 use fab_base::{BrickId, Bytes, GroupId, NoMem, Stamp, StripeNo};
 use reg_model::Happening;
-use std::alloc::Global;
-use trace_runs::{Deed, Hex, Journal, Reached, answer_of, is_up, op_of};
+use trace_runs::{Deed, Hex, Journal, Reached, Text, answer_of, is_up, op_of};
 use world::World;
 
-/// A happening: its operation and position, and what it read or wrote.
-fn happening_text(
-    alloc: Global,
-    world: &World,
-    journal: &Journal,
-    happening: &Happening,
-) -> Result<String, NoMem> {
+/// Notes a happening: its operation and position, and what it read or wrote.
+fn note_happening(notes: &mut Text, world: &World, journal: &Journal, happening: Happening) {
     let number = happening.operation;
     let position = happening.position;
-    let mut text = format!(in alloc; "happened {number}@{position}")?;
+    notes.put(format_args!("happened {number}@{position}"));
     if let Some(operation) = journal.operation(number) {
         if let Some(op) = op_of(world, operation) {
-            write!(text, " {}", Deed(op))?;
+            notes.put(format_args!(" {}", Deed(op)));
         }
         if let Some(answer) = answer_of(world, operation) {
-            write!(text, ": {}", Reached(answer))?;
+            notes.put(format_args!(": {}", Reached(answer)));
         }
     }
-    Ok(text)
+    notes.put("\n");
 }
 
 /// The newest version below a stamp, or of all.
@@ -36,47 +30,41 @@ fn older<'a>(log: &'a State<'_>, bound: Option<Stamp>) -> Option<(Stamp, &'a Byt
     }
 }
 
-/// The log of a stripe at a member, newest version first.
-fn log_text(
-    alloc: Global,
-    world: &World,
-    brick: BrickId,
-    group: GroupId,
-    stripe: StripeNo,
-) -> Result<String, NoMem> {
+/// Notes the log of a stripe at a member, newest version first.
+fn note_log(notes: &mut Text, world: &World, brick: BrickId, group: GroupId, stripe: StripeNo) {
     if !is_up(world, brick) {
-        return Ok(format!(in alloc; "brick {brick} is down")?);
+        notes.put(format_args!("brick {brick} is down\n"));
+        return;
     }
-    let mut text = format!(in alloc; "brick {brick} keeps")?;
+    notes.put(format_args!("brick {brick} keeps"));
     if let Some(log) = world.log_of(brick, group, stripe) {
         let mut bound = None;
         for _ in 0..log.len() {
             if let Some((stamp, block)) = older(&log, bound) {
-                write!(text, " {stamp}={}", Hex(block.as_slice()))?;
+                notes.put(format_args!(" {stamp}={}", Hex(block.as_slice())));
                 bound = Some(stamp);
             }
         }
     }
-    Ok(text)
+    notes.put("\n");
 }
 
-/// What a run left of a stripe: a note a line.
-pub(crate) fn stripe_notes(
-    alloc: Global,
+/// Notes what a run left of a stripe: a note a line.
+pub(crate) fn note_stripe(
+    notes: &mut Text,
     world: &World,
     journal: &Journal,
     group: GroupId,
     stripe: StripeNo,
-) -> Result<Vec<String>, NoMem> {
-    let mut notes = Vec::new(alloc);
+) -> Result<(), NoMem> {
     let happenings = world.happenings(group, stripe)?;
     for happening in &happenings {
-        notes.push(happening_text(alloc, world, journal, happening)?)?;
+        note_happening(notes, world, journal, *happening);
     }
     if let Some(found) = world.layout().group(group) {
         for brick in found.members().as_slice() {
-            notes.push(log_text(alloc, world, *brick, group, stripe)?)?;
+            note_log(notes, world, *brick, group, stripe);
         }
     }
-    Ok(notes)
+    Ok(())
 }

@@ -1,29 +1,15 @@
 //! What a line of a schedule did, in words.
 
-use fab_base::{BrickId, NoMem};
-use std::alloc::Global;
-use trace_runs::{Account, Fate, Journal, Sent, Stop, packet_at};
+use fab_base::BrickId;
+use trace_runs::{Account, Fate, Journal, Stop, Text, packet_at, put_message};
 use world::World;
 
-/// A message, with its number.
-fn message_text(
-    alloc: Global,
-    world: &World,
-    journal: &Journal,
-    number: u64,
-) -> Result<String, NoMem> {
-    Ok(match packet_at(world, number) {
-        Some(packet) => {
-            let operation = journal.operation_of(packet);
-            let sent = Sent {
-                number,
-                packet,
-                operation,
-            };
-            format!(in alloc; "{sent}")?
-        }
-        None => format!(in alloc; "#{number}")?,
-    })
+/// Writes a message, with its number.
+fn put_packet(notes: &mut Text, world: &World, journal: &Journal, number: u64) {
+    match packet_at(world, number) {
+        Some(packet) => put_message(notes, number, packet, journal.operation_of(packet)),
+        None => notes.put(format_args!("#{number}")),
+    }
 }
 
 /// What came of a message that was to be delivered, where no message or mark tells it.
@@ -38,43 +24,37 @@ fn fate_text(fate: Fate) -> &'static str {
     }
 }
 
-/// What befell a call of a brick's disk.
-fn stop_text(alloc: Global, brick: BrickId, stop: Stop) -> Result<String, NoMem> {
-    Ok(match stop {
-        Stop::Inside(call) => format!(in alloc;
-            "brick {brick} stopped inside call {call} of its disk"
-        )?,
-        Stop::Failed(call) => format!(in alloc;
-            "brick {brick} halted: call {call} of its disk failed"
-        )?,
-        Stop::Unreached(call) => format!(in alloc;
-            "brick {brick} made no call {call} of its disk"
-        )?,
-    })
+/// Notes what befell a call of a brick's disk.
+fn note_stop(notes: &mut Text, brick: BrickId, stop: Stop) {
+    match stop {
+        Stop::Inside(call) => notes.put(format_args!(
+            "brick {brick} stopped inside call {call} of its disk\n"
+        )),
+        Stop::Failed(call) => notes.put(format_args!(
+            "brick {brick} halted: call {call} of its disk failed\n"
+        )),
+        Stop::Unreached(call) => notes.put(format_args!(
+            "brick {brick} made no call {call} of its disk\n"
+        )),
+    }
 }
 
-/// What a line did, beside what `replay` prints for it: a note a line.
-pub(crate) fn account_notes(
-    alloc: Global,
-    world: &World,
-    journal: &Journal,
-    account: &Account,
-) -> Result<Vec<String>, NoMem> {
-    let mut notes = Vec::new(alloc);
+/// Notes what a line did, beside what `replay` prints for it: a note a line.
+pub(crate) fn note_account(notes: &mut Text, world: &World, journal: &Journal, account: &Account) {
     for (number, fate) in &account.deliveries {
-        let message = message_text(alloc, world, journal, *number)?;
-        let fate = fate_text(*fate);
-        notes.push(format!(in alloc; "delivered {message}{fate}")?)?;
+        notes.put("delivered ");
+        put_packet(notes, world, journal, *number);
+        notes.put(fate_text(*fate));
+        notes.put("\n");
     }
     if let Some((brick, stop)) = account.stop {
-        notes.push(stop_text(alloc, brick, stop)?)?;
+        note_stop(notes, brick, stop);
     }
     if let Some(brick) = account.started {
-        notes.push(format!(in alloc; "brick {brick} started")?)?;
+        notes.put(format_args!("brick {brick} started\n"));
     }
     for place in account.sent..world.sent().len() {
-        let number = (place as u64).saturating_add(1);
-        notes.push(message_text(alloc, world, journal, number)?)?;
+        put_packet(notes, world, journal, (place as u64).saturating_add(1));
+        notes.put("\n");
     }
-    Ok(notes)
 }

@@ -6,8 +6,8 @@ ghost use Rattle.lines.specs.Reading.{ReadsSchedule};
 ghost use Rattle.trace.specs.Told.{IsTold, IsStepText};
 ghost use Rattle.trace.specs.Tales.{EndsAs, IsSolid, Tells, TellsRest, WritesTold};
 
-use crate::closings::stripe_notes;
-use crate::notes::account_notes;
+use crate::closings::note_stripe;
+use crate::notes::note_account;
 use crate::pages::Page;
 use crate::schedules::{Opening, Turn, open, take_turn};
 use fab_base::{GroupId, NoMem, StripeNo};
@@ -15,14 +15,14 @@ use fab_io::{Sink, Source};
 use lines::{Unread, content_of};
 use replay::{Halt, Verdict, write};
 use std::alloc::Global;
-use trace_runs::{Journal, Taken};
+use trace_runs::{Journal, Taken, Text};
 use world::World;
 
-/// Adds notes to a page.
-fn add_notes(page: &mut Page, notes: &[String]) -> Result<(), NoMem>
+/// Adds notes to a page, a note a line.
+fn add_notes(page: &mut Page, notes: &str) -> Result<(), NoMem>
     ensures { OnOk result ((told : List ℕ) → IsTold page.old told → IsTold page.new told) }
 {
-    for note in notes {
+    for note in notes.lines() {
         page.note(note.as_bytes())?;
     }
     Ok(())
@@ -40,14 +40,15 @@ fn line_page(
     requires { IsStepText taken.now.printed }
     ensures { IfOk result (λ page. IsTold page taken.now.printed) }
 {
-    let notes = account_notes(alloc, world, journal, &taken.account)?;
+    let mut notes = Text::new(alloc);
+    note_account(&mut notes, world, journal, &taken.account);
     let number = format!(in alloc; "{number} ")?;
     let mut title = Vec::from_slice(alloc, number.as_bytes())?;
     title.extend_from_slice(content)?;
     let mut page = Page::new(alloc);
     page.head(title.as_slice())?;
     page.tell(taken.printed.as_slice())?;
-    add_notes(&mut page, notes.as_slice())?;
+    add_notes(&mut page, notes.whole()?)?;
     Ok(page)
 }
 
@@ -74,10 +75,17 @@ fn closing_page(alloc: Global, world: &World, journal: &Journal) -> Result<Page,
 {
     let mut page = Page::new(alloc);
     for (group, stripe) in journal.stripes() {
-        let notes = stripe_notes(alloc, world, journal, GroupId(*group), StripeNo(*stripe))?;
+        let mut notes = Text::new(alloc);
+        note_stripe(
+            &mut notes,
+            world,
+            journal,
+            GroupId(*group),
+            StripeNo(*stripe),
+        )?;
         let title = format!(in alloc; "stripe {group} {stripe}")?;
         page.head(title.as_bytes())?;
-        add_notes(&mut page, notes.as_slice())?;
+        add_notes(&mut page, notes.whole()?)?;
     }
     Ok(page)
 }

@@ -20,7 +20,7 @@ pub enum Fate {
     NotCounted,
     /// A request, of which nothing came.
     Ignored,
-    /// Messages or marks, which tell it.
+    /// Messages or marks, which tell it; or a Collect, which tells nobody what it drops.
     Told,
 }
 

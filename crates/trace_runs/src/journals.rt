@@ -2,7 +2,7 @@
 
 use crate::accounts::Fate;
 use fab_base::{BrickId, NoMem};
-use messages::{Call, Message, Packet};
+use messages::{Call, Message, Packet, Request};
 use reg_model::Mark;
 use std::alloc::Global;
 use std::collections::{BTreeMap, BTreeSet};
@@ -98,8 +98,10 @@ impl Journal {
     /// reply of each brick in its newest phase.
     pub(crate) fn note_delivery(&mut self, number: u64, packet: &Packet) -> Result<Fate, NoMem> {
         self.delivered.insert(number)?;
-        let Message::Reply(call, _) = &packet.message else {
-            return Ok(Fate::Ignored);
+        let call = match &packet.message {
+            Message::Reply(call, _) => call,
+            Message::Request(_, Request::Collect { .. }) => return Ok(Fate::Told),
+            _ => return Ok(Fate::Ignored),
         };
         let operation = self.operation_of(packet).unwrap_or(0);
         if let Some(operation) = operation_at(&mut self.operations, operation) {

@@ -10,10 +10,12 @@ mod journals;
 mod packets;
 mod pictures;
 mod taking;
+mod texts;
 
 pub use accounts::{Account, Fate, Stop, is_up, packet_at};
 pub use deeds::{Deed, Reached, answer_of, op_of};
 pub use drawing::Drawing;
 pub use journals::{Journal, Operation};
-pub use packets::{Hex, Sent};
+pub use packets::{Hex, put_message};
 pub use taking::{Taken, take_line};
+pub use texts::Text;

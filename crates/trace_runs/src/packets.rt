@@ -1,5 +1,6 @@
 //! A message as it is shown.
 
+use crate::texts::Text;
 use fab_base::Stamp;
 use messages::{Look, Message, Packet, Reply, Request, Version, Want};
 use std::fmt;
@@ -104,110 +105,85 @@ fn stamp_of(request: &Request) -> Option<Stamp> {
     }
 }
 
-/// Writes a part of what a message says, behind a space: its name, and its value.
-fn write_part<W: fmt::Write, D: fmt::Display + Drop>(
-    f: &mut fmt::Formatter<W>,
-    name: &str,
-    value: D,
-) -> fmt::Result {
-    write!(f, " {name} {value}")
-}
-
 /// Writes what a request says. Of the agreement on a view's successor nothing is shown.
-fn write_request<W: fmt::Write>(f: &mut fmt::Formatter<W>, request: &Request) -> fmt::Result {
+fn put_request(text: &mut Text, request: &Request) {
     if let Some(stamp) = stamp_of(request) {
-        write_part(f, "stamp", stamp)?;
+        text.put_part("stamp", stamp);
     }
     match request {
         Request::Read {
             want: Want::Seat(seat),
-        } => write_part(f, "block of seat", *seat),
-        Request::Read { want: Want::All } => f.write_str(" all blocks"),
+        } => text.put_part("block of seat", *seat),
+        Request::Read { want: Want::All } => text.put(" all blocks"),
         Request::OrderRead {
             look: Look::Below(other),
             ..
-        } => write_part(f, "below", *other),
+        } => text.put_part("below", *other),
         Request::OrderRead {
             look: Look::At(other),
             ..
-        } => write_part(f, "at", *other),
-        Request::Write { block, .. } => write_part(f, "block", Hex(block.as_slice())),
+        } => text.put_part("at", *other),
+        Request::Write { block, .. } => text.put_part("block", Hex(block.as_slice())),
         Request::Modify {
             base,
             data_block,
             delta,
             ..
         } => {
-            write_part(f, "base", *base)?;
-            write_part(f, "of", *data_block)?;
-            write_part(f, "delta", Hex(delta.as_slice()))
+            text.put_part("base", *base);
+            text.put_part("of", *data_block);
+            text.put_part("delta", Hex(delta.as_slice()));
         }
-        _ => Ok(()),
+        _ => {}
     }
 }
 
 /// Writes a version that was found, with its block where it was told.
-fn write_version<W: fmt::Write>(
-    f: &mut fmt::Formatter<W>,
-    version: &Option<Version>,
-) -> fmt::Result {
+fn put_version(text: &mut Text, version: &Option<Version>) {
     match version {
         Some(version) => {
-            write_part(f, "version", version.stamp)?;
-            write_part(f, "block", Hex(version.block.as_slice()))
+            text.put_part("version", version.stamp);
+            text.put_part("block", Hex(version.block.as_slice()));
         }
-        None => f.write_str(" version none"),
+        None => text.put(" version none"),
     }
 }
 
 /// Writes what a reply says. Of the agreement on a view's successor nothing is shown.
-fn write_reply<W: fmt::Write>(f: &mut fmt::Formatter<W>, reply: &Reply) -> fmt::Result {
+fn put_reply(text: &mut Text, reply: &Reply) {
     match reply {
         Reply::Found { order, newest } => {
-            write_part(f, "order", *order)?;
-            write_version(f, newest)
+            text.put_part("order", *order);
+            put_version(text, newest);
         }
-        Reply::OrderedRead { found } | Reply::Old { found } => write_version(f, found),
+        Reply::OrderedRead { found } | Reply::Old { found } => put_version(text, found),
         Reply::Behind {
             newest: Some(stamp),
-        } => write_part(f, "newest", *stamp),
-        Reply::Later { stamp } => write_part(f, "stamp", *stamp),
-        Reply::Full { live } => write_part(f, "live", *live),
-        Reply::Moved { view, .. } => write_part(f, "view", view.0),
-        _ => Ok(()),
+        } => text.put_part("newest", *stamp),
+        Reply::Later { stamp } => text.put_part("stamp", *stamp),
+        Reply::Full { live } => text.put_part("live", *live),
+        Reply::Moved { view, .. } => text.put_part("view", view.0),
+        _ => {}
     }
 }
 
-/// A message with its number and the number of its operation, as `#7 write 1>0 op 1 phase 2 stamp 1.1.0.1 block 41`.
-#[derive(Drop)]
-pub struct Sent<'a> {
-    /// Its number, in the order of sending.
-    pub number: u64,
-    /// The message.
-    pub packet: &'a Packet,
-    /// The operation that it is of.
-    pub operation: Option<u64>,
-}
-
-impl<'a> fmt::Display for Sent<'a> {
-    fn fmt<W: fmt::Write>(&self, f: &mut fmt::Formatter<W>) -> fmt::Result {
-        let number = self.number;
-        let Packet { from, to, message } = self.packet;
-        let word = word_of(message);
-        write!(f, "#{number} {word} {from}>{to}")?;
-        if let Some(operation) = self.operation {
-            write_part(f, "op", operation)?;
+/// Writes the message of a number, of this operation, as `#7 write 1>0 op 1 phase 2 stamp 1.1.0.1 block 41`.
+pub fn put_message(text: &mut Text, number: u64, packet: &Packet, operation: Option<u64>) {
+    let Packet { from, to, message } = packet;
+    let word = word_of(message);
+    text.put(format_args!("#{number} {word} {from}>{to}"));
+    if let Some(operation) = operation {
+        text.put_part("op", operation);
+    }
+    match message {
+        Message::Request(call, request) => {
+            text.put_part("phase", call.phase);
+            put_request(text, request);
         }
-        match message {
-            Message::Request(call, request) => {
-                write_part(f, "phase", call.phase)?;
-                write_request(f, request)
-            }
-            Message::Reply(call, reply) => {
-                write_part(f, "phase", call.phase)?;
-                write_reply(f, reply)
-            }
-            _ => Ok(()),
+        Message::Reply(call, reply) => {
+            text.put_part("phase", call.phase);
+            put_reply(text, reply);
         }
+        _ => {}
     }
 }

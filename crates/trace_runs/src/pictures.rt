@@ -1,5 +1,6 @@
 //! A picture in SVG 1.1. All places are in pixels, from the upper left corner.
 
+use crate::texts::Text;
 use fab_base::NoMem;
 use std::alloc::Global;
 use std::fmt;
@@ -56,14 +57,12 @@ const LEGEND: &str =
 <line class=\"refusal\" x1=\"508\" y1=\"14\" x2=\"530\" y2=\"14\"/><text x=\"536\" y=\"18\">refusal</text>
 ";
 
-/// A picture. A shape for which no memory is left is missing, and then the picture has no text.
+/// A picture.
 #[derive(Drop)]
 pub(crate) struct Picture {
     alloc: Global,
-    shapes: String,
-    labels: String,
-    /// Whether a shape or a label is missing.
-    has_gap: bool,
+    shapes: Text,
+    labels: Text,
 }
 
 /// The left end of a column.
@@ -74,16 +73,20 @@ pub(crate) fn left_of(column: usize) -> u64 {
 }
 
 /// A text as it is shown: its first characters, with `?` for what is no printable ASCII or has a meaning in SVG.
-fn shown(alloc: Global, text: &[u8]) -> Result<String, NoMem> {
-    let mut shown = String::new(alloc);
-    for byte in text.iter().take(CHARACTERS) {
-        shown.push(match byte {
-            b'<' | b'>' | b'&' | b'"' => '?',
-            b' '..=b'~' => char::from(*byte),
-            _ => '?',
-        })?;
+#[derive(Drop)]
+struct Shown<'a>(&'a [u8]);
+
+impl<'a> fmt::Display for Shown<'a> {
+    fn fmt<W: fmt::Write>(&self, f: &mut fmt::Formatter<W>) -> fmt::Result {
+        for byte in self.0.iter().take(CHARACTERS) {
+            f.write_char(match byte {
+                b'<' | b'>' | b'&' | b'"' => '?',
+                b' '..=b'~' => char::from(*byte),
+                _ => '?',
+            })?;
+        }
+        Ok(())
     }
-    Ok(shown)
 }
 
 impl Picture {
@@ -91,16 +94,8 @@ impl Picture {
     pub(crate) fn new(alloc: Global) -> Picture {
         Picture {
             alloc,
-            shapes: String::new(alloc),
-            labels: String::new(alloc),
-            has_gap: false,
-        }
-    }
-
-    /// Draws a shape.
-    fn draw<D: fmt::Display + Drop>(&mut self, shape: D) {
-        if write!(self.shapes, "{shape}").is_err() {
-            self.has_gap = true;
+            shapes: Text::new(alloc),
+            labels: Text::new(alloc),
         }
     }
 
@@ -108,7 +103,7 @@ impl Picture {
     pub(crate) fn line(&mut self, class: &str, is_dashed: bool, from: (u64, u64), to: (u64, u64)) {
         let ((x1, y1), (x2, y2)) = (from, to);
         let dash = if is_dashed { " lost" } else { "" };
-        self.draw(format_args!(
+        self.shapes.put(format_args!(
             "<line class=\"{class}{dash}\" x1=\"{x1}\" y1=\"{y1}\" x2=\"{x2}\" y2=\"{y2}\"/>\n"
         ));
     }
@@ -117,50 +112,41 @@ impl Picture {
     pub(crate) fn bar(&mut self, class: &str, first: usize, last: usize, y: u64) {
         let x = left_of(first).saturating_add(2);
         let width = left_of(last).saturating_add(COLUMN - 2).saturating_sub(x);
-        self.draw(format_args!(
+        self.shapes.put(format_args!(
             "<rect class=\"{class}\" x=\"{x}\" y=\"{y}\" width=\"{width}\" height=\"16\" rx=\"4\"/>\n"
         ));
     }
 
     /// Draws a moment.
     pub(crate) fn dot(&mut self, class: &str, x: u64, y: u64) {
-        self.draw(format_args!("<circle class=\"{class}\" cx=\"{x}\" cy=\"{y}\" r=\"4\"/>\n"));
+        self.shapes.put(format_args!(
+            "<circle class=\"{class}\" cx=\"{x}\" cy=\"{y}\" r=\"4\"/>\n"
+        ));
     }
 
     /// Writes a label, of 20 characters at most, which begins at a place of its line.
     pub(crate) fn label<D: fmt::Display + Drop>(&mut self, x: u64, y: u64, text: D) {
         match format!(in self.alloc; "{text}") {
             Ok(text) => self.write_label(x, y, text.as_bytes()),
-            Err(_) => self.has_gap = true,
+            Err(_) => self.labels.lose(),
         }
     }
 
     /// Writes a label of these bytes.
     pub(crate) fn write_label(&mut self, x: u64, y: u64, text: &[u8]) {
-        match shown(self.alloc, text) {
-            Ok(shown) => {
-                let top = y.saturating_sub(9);
-                let width = (shown.len() as u64).saturating_mul(CHARACTER);
-                let written = write!(
-                    self.labels,
-                    "<rect class=\"ground\" x=\"{x}\" y=\"{top}\" width=\"{width}\" height=\"12\"/><text x=\"{x}\" y=\"{y}\">{shown}</text>\n"
-                );
-                if written.is_err() {
-                    self.has_gap = true;
-                }
-            }
-            Err(_) => self.has_gap = true,
-        }
+        let top = y.saturating_sub(9);
+        let width = (text.len().min(CHARACTERS) as u64).saturating_mul(CHARACTER);
+        let shown = Shown(text);
+        self.labels.put(format_args!(
+            "<rect class=\"ground\" x=\"{x}\" y=\"{top}\" width=\"{width}\" height=\"12\"/><text x=\"{x}\" y=\"{y}\">{shown}</text>\n"
+        ));
     }
 
     /// The text of the picture, up to the end of so many columns and down to a place.
     pub(crate) fn text(&self, columns: usize, height: u64) -> Result<String, NoMem> {
-        if self.has_gap {
-            return Err(NoMem::NoMemory);
-        }
         let width = left_of(columns).max(640);
-        let shapes = self.shapes.as_str();
-        let labels = self.labels.as_str();
+        let shapes = self.shapes.whole()?;
+        let labels = self.labels.whole()?;
         Ok(format!(in self.alloc;
             "<?xml version=\"1.0\" encoding=\"UTF-8\"?>\n<svg xmlns=\"http://www.w3.org/2000/svg\" version=\"1.1\" width=\"{width}\" height=\"{height}\" viewBox=\"0 0 {width} {height}\" font-family=\"monospace\" font-size=\"11\">\n{STYLE}<rect width=\"100%\" height=\"100%\" fill=\"#FFFFFF\"/>\n{LEGEND}{shapes}{labels}</svg>\n"
         )?)
