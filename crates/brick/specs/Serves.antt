@@ -23,6 +23,7 @@ use Rattle.serving.specs.declared.faults.ServeFault.{ServeFault}
 use Rattle.serving.specs.declared.faults.ServeFault.TheVariants as faults
 use Rattle.serving.specs.Ports.{ports_of, port_of}
 use Rattle.serving.specs.Serves.{IsServed}
+use Rattle.serving.specs.Views.{SendsAll}
 use Rattle.brick.specs.declared.endings.Ending.{Ending}
 use Rattle.brick.specs.declared.endings.Ending.TheVariants.{Ended, Usage, Sink, Memory, Disk, Host, NotAStore, Worn}
 use Rattle.brick.specs.Endings.{serving_text}
@@ -48,13 +49,14 @@ RoseAt v disk disk_after link link_after clock clock_after (Err faults.Link) = R
 RoseAt v disk disk_after link link_after clock clock_after (Err faults.Clock) = Rose (v.clock.faults clock) (v.clock.faults clock_after)
 RoseAt v disk disk_after link link_after clock clock_after other = ⊤
 
--- A started brick said that it serves, and served so many turns over a link and a clock.
+-- A started brick said that it serves, and served so many turns over a link and a clock: each message that it sent could be sent.
 pub record TakesTurns {D L C : Type 0} (v : Views D L C) (turns : ℕ) (node node_after : Running D) (link link_after : L) (clock clock_after : C)
     (out said : Option (List ℕ)) (ending : Ending) : Type 0 where
   pub result : Result ℕ ServeFault
   pub says : Appends out said (serving_text node.me)
   pub served : IsServed (coding node.layout) node.me (state_of node) (state_of node_after) (outside_of v link clock)
       (outside_of v link_after clock_after) turns result
+  pub spelled : SendsAll node
   pub rose : RoseAt v node.brick.disk node_after.brick.disk link link_after clock clock_after result
   pub ends : ending ≡ ending_of turns result
 
@@ -89,12 +91,13 @@ ServesByLink {S} {D} {L} {C} v turns port before after node node_after out said 
     (λ began ended. ServesByClock v turns began ended node node_after link back out said ending))
 
 -- The brick that a disk's store is: there was one that was not opened as often as it can be, and the brick is what the disk showed, started
--- once more.
+-- once more, and what the disk shows now.
 pub record IsStarted {D L C : Type 0} (v : Views D L C) (layout : Layout) (me : BrickId) (disk : D) (node : Running D) : Type 0 where
   pub layout_is : node.layout ≡ layout
   pub me_is : node.me ≡ me
   pub found : v.disk.tells → (st : StateOf Version) × IsFound (shape_at layout me) st (v.disk.seen disk) × (st.boot < 2 ^ 32 - 1)
   pub state : v.disk.tells → (before : machine.Node) → ImageShows layout me before (v.disk.seen disk) → state_of node ≡ restarted 1 before
+  pub shows : v.disk.tells → ImageShows layout me (state_of node) (v.disk.seen node.brick.disk)
   pub later : v.disk.faults disk ≤ v.disk.faults node.brick.disk
 
 -- what a disk shows that is given back, where it is whole: the brick as it is then, also after a crash

@@ -17,7 +17,7 @@ use Rattle.serving.specs.declared.faults.ServeFault.TheVariants.{Disk, Halted, L
 use Rattle.serving.specs.declared.servers.Server.{Server}
 use Rattle.serving.specs.Serves.{outside, TakesTurn}
 use Rattle.serving.specs.Servings.{Serving, HasNoClient, begun}
-use Rattle.serving.specs.Views.{serving_of, IsServerOf}
+use Rattle.serving.specs.Views.{serving_of, IsServerOf, SendsAll}
 
 -- a brick that a process hosts: the clients that wait, by the numbers of their operations' calls, the moment of the last tick, its node, and its link
 pub record Hosted (D L : Type 0) : Type 0 where
@@ -40,11 +40,12 @@ pub record Hosting (D L : Type 0) : Type 0 where
   pub bricks : List (Hosted D L)
   pub room : ℕ
 
--- this node begins to serve over this link
+-- this node begins to serve over this link; if it was just started, each message that it sends can be sent
 pub record Begins {D L : Type 0} (brick : Hosted D L) (node : Running D) (link : L) : Type 0 where
   pub node_is : brick.node ≡ node
   pub link_is : brick.link ≡ link
   pub begins : serving_at brick ≡ begun (state_of node)
+  pub spelled : SendsAll node
 
 -- the last brick was taken away, and this node and link are its; or there was none
 abbrev pub TakesLast : {D L : Type 0} → List (Hosted D L) → List (Hosted D L) → Option (Running D × L) → Type 0

@@ -24,6 +24,7 @@ returns-in-Ok g c =
         says = subst (λ (b : BrickId). Appends (g.K.Sink.told c.args.out.now) (g.K.Sink.told c.say_serving.new.out) (serving_text b)) c.me.ensures
             c.in-Ok.ensures.content;
         served = turns.served c.requires.runs;
+        spelled = turns.spelled c.requires.runs;
         rose = rose_at (views d l k) c.args.node.now.brick.disk
             c.serve.new.node.brick.disk c.args.link.now c.serve.new.link c.args.clock.now c.serve.new.clock c.serve.result turns.disk.rose turns.link.rose turns.clock.rose;
         ends = c.ending_of.ensures;

@@ -16,6 +16,7 @@ returns-in-Ok-start-clause-starts g c =
       me_is = said.me;
       found = λ tells. (let found = said.found tells in (found.0, found.1, found.2));
       state = said.state;
+      shows = said.seen;
       later = said.cause.later;
     })
 
