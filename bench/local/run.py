@@ -5,10 +5,12 @@
 
 PROGRAM is the program `brick`. The stores lie in FOLDER, a new folder of /dev/shm where it isn't given: a memory file system, so that the
 syncs of a disk are not what is measured. For each layout it writes and reads whole stripes, then sends datagrams of the same number and
-sizes over a bare UDP socket, and prints both rates and their ratio. The project asks for at least a fifth.
+sizes over a bare UDP socket, and prints both rates, their ratio, and the ratio of the processor times, which other work on the machine hardly
+changes. The project asks for at least a fifth.
 """
 
 import os
+import resource
 import subprocess
 import sys
 import tempfile
@@ -45,8 +47,16 @@ def sizes(write, m, n, block):
     return [CLIENT + data] + order + store + [REPLY] + [HEAD + CALL + STAMP] * n
 
 
+def run_timed(words, **options):
+    """What a program ends with, and the seconds and processor seconds that it took."""
+    before, began = resource.getrusage(resource.RUSAGE_CHILDREN), time.monotonic()
+    ended = subprocess.run(words, text=True, capture_output=True, **options)
+    seconds, after = time.monotonic() - began, resource.getrusage(resource.RUSAGE_CHILDREN)
+    return ended, seconds, after.ru_utime + after.ru_stime - before.ru_utime - before.ru_stime
+
+
 def local(program, folder, write, m, n, block):
-    """Seconds for the operations by `brick local`, the start of the program left out."""
+    """Seconds and processor seconds for the operations by `brick local`, the start of the program left out."""
     port = 20000 + 64 * (os.getpid() % 512)
     layout = os.path.join(folder, "layout")
     with open(layout, "w") as text:
@@ -59,16 +69,15 @@ def local(program, folder, write, m, n, block):
     def run(operations):
         lines = [f"write {k % n} v {k % 64 * data} {'5a' * data}\n" if write else f"read {k % n} v {k % 64 * data} {data}\n"
                  for k in range(operations)]
-        began = time.monotonic()
-        ended = subprocess.run([program, "local", layout, stores, str(10**12)], input="".join(lines), text=True, capture_output=True)
-        seconds = time.monotonic() - began
+        ended, seconds, processor = run_timed([program, "local", layout, stores, str(10**12)], input="".join(lines))
         answers = ended.stdout.splitlines()
         good = sum(answer == "done" if write else answer.startswith("data ") for answer in answers)
         if ended.returncode != 0 or good != operations:
             raise SystemExit(f"local ended with {ended.returncode}: {good} of {operations} answered, last {answers[-1:]}")
-        return seconds
+        return seconds, processor
 
-    return run(OPERATIONS) - run(1)
+    whole, start = run(OPERATIONS), run(1)
+    return whole[0] - start[0], whole[1] - start[1]
 
 
 def main(words):
@@ -79,16 +88,17 @@ def main(words):
     with tempfile.TemporaryDirectory() as built:
         echo = os.path.join(built, "echo")
         subprocess.run(["rustc", "-O", "-o", echo, os.path.join(here, "echo.rs")], check=True)
-        print("operation m n block | local/s | echo/s | ratio")
+        print("operation m n block | local/s | echo/s | ratio | by processor time")
         for m, n in ((1, 3), (4, 6)):
             for block in (1024, 4096):
                 for write in (True, False):
                     with tempfile.TemporaryDirectory(dir=words[1] if len(words) == 2 else "/dev/shm") as folder:
-                        ours = OPERATIONS / local(words[0], folder, write, m, n, block)
+                        ours, ours_processor = local(words[0], folder, write, m, n, block)
                     datagrams = map(str, sizes(write, m, n, block))
-                    told = subprocess.run([echo, str(OPERATIONS), *datagrams], check=True, capture_output=True, text=True)
-                    bare = OPERATIONS / float(told.stdout)
-                    print(f"{'write' if write else 'read'} {m} {n} {block} | {ours:.0f} | {bare:.0f} | {ours / bare:.2f}")
+                    told, _, bare_processor = run_timed([echo, str(OPERATIONS), *datagrams], check=True)
+                    bare = float(told.stdout)
+                    print(f"{'write' if write else 'read'} {m} {n} {block} | {OPERATIONS / ours:.0f} | {OPERATIONS / bare:.0f} | {bare / ours:.2f}"
+                          f" | {bare_processor / ours_processor:.2f}")
     return 0
 
 
