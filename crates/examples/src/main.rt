@@ -86,6 +86,16 @@ impl fmt::Display for Trouble {
     }
 }
 
+/// The word that is given to a program where a line gives none.
+fn word_of(is_trace: bool) -> &'static str {
+    if is_trace { "text" } else { "run" }
+}
+
+/// How the name of the file ends in which stands what must be printed.
+fn ending_of(is_trace: bool) -> &'static str {
+    if is_trace { "trace" } else { "out" }
+}
+
 impl Case {
     /// What a line says, with the files that it names.
     fn read(rt: &(impl Files + AllocGlobal), line: &str) -> io::Result<Case> {
@@ -94,15 +104,11 @@ impl Case {
         let first = tokens.next().unwrap_or("");
         let has_faults = first == "faults";
         let is_trace = first == "trace";
-        let name = if has_faults || is_trace {
-            tokens.next().unwrap_or("")
-        } else {
+        let is_plain = !has_faults && !is_trace;
+        let name = if is_plain {
             first
-        };
-        let (word, kind) = if is_trace {
-            ("text", "trace")
         } else {
-            ("run", "out")
+            tokens.next().unwrap_or("")
         };
         let status = tokens.next().unwrap_or("0").parse().unwrap_or(u8::MAX);
         let mut words = Vec::new(alloc);
@@ -110,10 +116,11 @@ impl Case {
             words.push(String::from_str(alloc, token)?)?;
         }
         if words.is_empty() {
-            words.push(String::from_str(alloc, word)?)?;
+            words.push(String::from_str(alloc, word_of(is_trace))?)?;
         }
         let input = fs::read(rt, format!(in alloc; "{name}.in")?)?;
-        let output = fs::read(rt, format!(in alloc; "{name}.{kind}")?)?;
+        let ending = ending_of(is_trace);
+        let output = fs::read(rt, format!(in alloc; "{name}.{ending}")?)?;
         let name = String::from_str(alloc, name)?;
         Ok(Case {
             name,
