@@ -133,16 +133,6 @@ impl fmt::Display for Trouble {
     }
 }
 
-/// The word that is given to a program where a line gives none.
-fn word_of(is_trace: bool) -> &'static str {
-    if is_trace { "text" } else { "run" }
-}
-
-/// How the name of the file ends in which stands what must be printed.
-fn ending_of(is_trace: bool) -> &'static str {
-    if is_trace { "trace" } else { "out" }
-}
-
 impl Case {
     /// What a line says, with the files that it names.
     fn read(rt: &(impl Files + AllocGlobal), line: &str) -> io::Result<Case> {
