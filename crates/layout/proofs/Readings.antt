@@ -1,9 +1,11 @@
 -- Reading a list one element after another.
-use Rattle.std.proofs.Common.{◌≡◌, ℕ, ◌+◌, ◌<◌, List, [], ◌∷◌, ◌++◌, length, get_or, drop, Option, Some, None, option_map, option_and_then, Result, Ok, Err, map, refl, ap, sym, subst, ◌∙◌, append_assoc}
+use Rattle.std.proofs.Common.{◌≡◌, ◌≢◌, ℕ, ◌+◌, ◌<◌, ◌≤◌, List, [], ◌∷◌, ◌++◌, length, get_or, drop, Option, Some, None, option_map, option_and_then, Result, Ok, Err, map, refl, ap, sym, subst, ◌∙◌, append_assoc, drop_of_length-le}
 use Rattle.std.proofs.lemmas.List.{at_drop_more, flat_map_more}
 use Rattle.std.specs.BTreeMap.{BTreeMap}
 use Rattle.fab_base.specs.Layouts.{Group, Volume}
+use Rattle.std.specs.Prelude.{IfOk, IfErr}
 use Rattle.layout.specs.declared.faults.LayoutFault.{LayoutFault}
+use Rattle.layout.specs.declared.faults.LayoutFault.TheVariants.{NoMemory}
 use Rattle.toml.specs.Data.{Members}
 use Rattle.layout.specs.Checks.{◌>>=◌, group_in, groups_in, volume_in, volumes_in}
 use Rattle.layout.specs.Runs.{HasRuns}
@@ -70,6 +72,27 @@ volume_read {X} view groups before tables i d volume after after_is below gives 
     at_drop_more (λ (xs : List X). volumes_in groups before (map view xs)) tables i d below
     ∙ ap (λ (first : Result Volume LayoutFault). first >>= λ v. volumes_in groups (before ++ (v ∷ [])) (map view (drop (i + 1) tables))) gives
     ∙ ap (λ (volumes : List Volume). volumes_in groups volumes (map view (drop (i + 1) tables))) (sym after_is)
+
+-- and is refused by one that says none
+pub volume_refused : {X : Type 0} (view : X → Members) (groups : List Group) (before : List Volume) (tables : List X) (i : ℕ) (d : X) (fault : LayoutFault)
+    → i < length tables → volume_in groups before (view (get_or tables i d)) ≡ Err fault → volumes_in groups before (map view (drop i tables)) ≡ Err fault
+volume_refused {X} view groups before tables i d fault below gives =
+    at_drop_more (λ (xs : List X). volumes_in groups before (map view xs)) tables i d below
+    ∙ ap (λ (first : Result Volume LayoutFault). first >>= λ v. volumes_in groups (before ++ (v ∷ [])) (map view (drop (i + 1) tables))) gives
+
+-- no table is left
+pub volumes_read : {X : Type 0} (view : X → Members) (groups : List Group) (before : List Volume) (tables : List X) (i : ℕ) → length tables ≤ i
+    → volumes_in groups before (map view (drop i tables)) ≡ Ok before
+volumes_read {X} view groups before tables i all =
+    ap (λ (xs : List X). volumes_in groups before (map view xs)) (drop_of_length-le tables all)
+
+-- a fault that was met is the one that is answered
+pub passed_on : {T S : Type 0} (wanted : Result S LayoutFault) (r : Result T LayoutFault) (met said : LayoutFault) → r ≡ Err said → said ≡ met
+    → (met ≢ NoMemory → wanted ≡ Err met) → IfErr r (λ fault. fault ≢ NoMemory → wanted ≡ Err fault)
+passed_on wanted r met said is same h = subst (λ r. IfErr r (λ fault. fault ≢ NoMemory → wanted ≡ Err fault)) (sym (is ∙ ap Err same)) h
+
+pub not_ok : {T : Type 0} (P : T → Type 0) (r : Result T LayoutFault) (said : LayoutFault) → r ≡ Err said → IfOk r P
+not_ok P r said is = subst (λ r. IfOk r P) (sym is) tt
 
 -- the runs of some volumes and of one more are those of all of them
 pub runs_more : (ends : BTreeMap ℕ ℕ) (before : List Volume) (volume : Volume) (after : List Volume) → after ≡ before ++ (volume ∷ [])
