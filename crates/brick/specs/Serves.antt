@@ -49,7 +49,8 @@ RoseAt v disk disk_after link link_after clock clock_after (Err faults.Link) = R
 RoseAt v disk disk_after link link_after clock clock_after (Err faults.Clock) = Rose (v.clock.faults clock) (v.clock.faults clock_after)
 RoseAt v disk disk_after link link_after clock clock_after other = ⊤
 
--- A started brick said that it serves, and served so many turns over a link and a clock: each message that it sent could be sent.
+-- A started brick said that it serves, and served so many turns over a link and a clock. Each message that it sent could be sent, if a disk's image
+-- showed the brick and no operation of it was open: of one that was just started over a disk that tells and showed a brick, `IsStarted` says both.
 pub record TakesTurns {D L C : Type 0} (v : Views D L C) (turns : ℕ) (node node_after : Running D) (link link_after : L) (clock clock_after : C)
     (out said : Option (List ℕ)) (ending : Ending) : Type 0 where
   pub result : Result ℕ ServeFault

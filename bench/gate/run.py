@@ -1,0 +1,78 @@
+#!/usr/bin/env python3
+"""What the gate costs, crate by crate.
+
+    bench/gate/run.py [FILE]
+
+Runs `rt ci` in this repository, writes what it prints to FILE (bench/gate/printed, if it isn't given), and then prints the processor seconds
+(user and system) of each crate's proof with its programs' builds, and of its wrong bodies, and the sum that the system counts for the whole run.
+It looks at the running checks each half second, so that the last half second of each is missing: the sum of the crates is some hundredths less
+than the whole. Run it with nothing else on the machine. It ends with the status of `rt ci`.
+"""
+
+import collections
+import os
+import re
+import resource
+import subprocess
+import sys
+import threading
+import time
+
+TICKS = os.sysconf("SC_CLK_TCK")
+PAUSE = 0.5
+
+
+def running_checks():
+    """Each running check: its process and when that began, its crate, whether it tries a wrong body, and its processor seconds so far."""
+    for name in os.listdir("/proc"):
+        if not name.isdigit():
+            continue
+        try:
+            with open(f"/proc/{name}/cmdline", "rb") as it:
+                words = it.read().decode(errors="replace").split("\0")
+            if not words[0].endswith("/rattle") or "--crate-name" not in words:
+                continue
+            folder = os.readlink(f"/proc/{name}/cwd")
+            with open(f"/proc/{name}/stat") as it:
+                fields = it.read().rpartition(")")[2].split()
+        except OSError:
+            continue
+        seconds = (int(fields[11]) + int(fields[12])) / TICKS
+        yield (name, fields[19]), words[words.index("--crate-name") + 1], "rt-edit" in folder, seconds
+
+
+def watch(found, ended):
+    """Notes the running checks until `ended` is set."""
+    while not ended.wait(PAUSE):
+        for process, crate, is_edit, seconds in running_checks():
+            found[process] = (crate, is_edit, seconds)
+
+
+def main(words):
+    top = os.path.dirname(os.path.dirname(os.path.dirname(os.path.abspath(__file__))))
+    printed = words[0] if words else os.path.join(top, "bench", "gate", "printed")
+    found, ended = {}, threading.Event()
+    watcher = threading.Thread(target=watch, args=(found, ended))
+    began = time.monotonic()
+    watcher.start()
+    with open(printed, "w") as out:
+        status = subprocess.run(["rt", "ci"], cwd=top, stdout=out, stderr=subprocess.STDOUT, stdin=subprocess.DEVNULL).returncode
+    wall = time.monotonic() - began
+    ended.set()
+    watcher.join()
+    used = resource.getrusage(resource.RUSAGE_CHILDREN)
+    proofs, edits = collections.Counter(), collections.Counter()
+    for crate, is_edit, seconds in found.values():
+        (edits if is_edit else proofs)[crate] += seconds
+    print("crate | proof and builds, s | wrong bodies, s")
+    for crate in sorted({*proofs, *edits}, key=lambda it: -proofs[it]):
+        print(f"{crate} | {proofs[crate]:.0f} | {edits[crate]:.0f}")
+    print(f"all crates | {sum(proofs.values()):.0f} | {sum(edits.values()):.0f}")
+    print(f"the whole run: {(used.ru_utime + used.ru_stime) / 60:.1f} processor minutes, {wall / 60:.1f} minutes on {os.cpu_count()} processors")
+    with open(printed) as it:
+        last = [line for line in it if re.search(r"\d+ passed, \d+ failed", line)]
+    print(last[-1].strip() if last else "rt ci did not end")
+    return status
+
+
+sys.exit(main(sys.argv[1:]))
