@@ -57,6 +57,7 @@ pub const MOST_WAIT: u64 = 10;
 #[derive(Drop)]
 pub struct UdpLink {
     socket: UdpSocket,
+    waits: bool,
     faults: u64,
 }
 
@@ -68,14 +69,21 @@ impl UdpLink {
     pub fn bind<R: Net>(net: &R, port: u16) -> io::Result<UdpLink> {
         let socket = UdpSocket::bind(net, (Ipv4Addr::LOCALHOST, port))?;
         socket.set_read_timeout(Some(Duration::from_millis(MOST_WAIT)))?;
-        Ok(UdpLink { socket, faults: 0 })
+        Ok(UdpLink {
+            socket,
+            waits: true,
+            faults: 0,
+        })
     }
 
     /// From now on a look waits, or it doesn't. Where the system refuses, it goes on as before.
     pub fn set_waiting(&mut self, waits: bool)
         ensures { self.new.faults ≡ self.old.faults }
     {
-        let _ = self.socket.set_nonblocking(!waits);
+        // Each look says whether it waits, and the system is told only of a change.
+        if waits != self.waits && self.socket.set_nonblocking(!waits).is_ok() {
+            self.waits = waits;
+        }
     }
 }
 
