@@ -9,10 +9,16 @@ use std::io::{Seek, SeekFrom};
 use std::os::unix::fs::FileExt;
 
 /// A file that is open for reading and writing. Nothing is told of what it holds, and no call of it is known to succeed.
-#[derive(Drop)]
 pub struct FileDisk {
     file: File,
     faults: u64,
+}
+
+impl Drop for FileDisk {
+    // Written out, it is proved once: a derived one is proved anew, with that of each part, in each crate above that lets one go.
+    fn drop(self) {
+        let Self { file: _, faults: _ } = self;
+    }
 }
 
 impl FileDisk {

@@ -15,11 +15,21 @@ use std::marker::Model;
 ///
 /// It tells what its reader tells, and standard input tells nothing. Each error of the reader but an interruption is a
 /// fault. Nothing is promised of the outside, so it is never sound.
-#[derive(Drop)]
 pub struct StdSource<R: Read> {
     input: R,
     came: usize,
     faults: u64,
+}
+
+impl<R: Read + Drop> Drop for StdSource<R> {
+    // Written out, it is proved once: a derived one is proved anew, with that of each part, in each crate above that lets one go.
+    fn drop(self) {
+        let Self {
+            input: _,
+            came: _,
+            faults: _,
+        } = self;
+    }
 }
 
 impl<R: Read> Model for StdSource<R> {
@@ -84,9 +94,15 @@ fn read_once<R: Read>(input: &mut R, into: &mut [u8]) -> io::Result<usize>
 
 /// A source over a reader of std that holds bytes ahead, as a `BufReader` over the runtime's standard input. It is as a
 /// [`StdSource`] over that reader, and reads through a byte at once.
-#[derive(Drop)]
 pub struct BufferedSource<R: BufRead> {
     source: StdSource<R>,
+}
+
+impl<R: BufRead + Drop> Drop for BufferedSource<R> {
+    // Written out, it is proved once: a derived one is proved anew, with that of each part, in each crate above that lets one go.
+    fn drop(self) {
+        let Self { source: _ } = self;
+    }
 }
 
 impl<R: BufRead> Model for BufferedSource<R> {
@@ -193,10 +209,19 @@ fn count_through(last: u8, bytes: &[u8], most: usize) -> usize
 /// It tells what its writer tells, and standard output tells nothing. Each write is flushed before it is answered, so
 /// that nothing taken is lost when the process ends. Each error but an interruption is a fault, and so is a writer that
 /// takes nothing more. Nothing is promised of the outside, so it is never sound.
-#[derive(Drop)]
 pub struct StdSink<W: Write> {
     output: W,
     faults: u64,
+}
+
+impl<W: Write + Drop> Drop for StdSink<W> {
+    // Written out, it is proved once: a derived one is proved anew, with that of each part, in each crate above that lets one go.
+    fn drop(self) {
+        let Self {
+            output: _,
+            faults: _,
+        } = self;
+    }
 }
 
 impl<W: Write> Model for StdSink<W> {
