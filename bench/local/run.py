@@ -4,9 +4,10 @@
     bench/local/run.py PROGRAM [FOLDER]
 
 PROGRAM is the program `brick`. The stores lie in FOLDER, a new folder of /dev/shm where it isn't given: a memory file system, so that the
-syncs of a disk are not what is measured. For each layout it writes and reads whole stripes, then sends datagrams of the same number and
-sizes over a bare UDP socket, and prints both rates, their ratio, and the ratio of the processor times, which other work on the machine hardly
-changes. The project asks for at least a fifth.
+syncs of a disk are not what is measured. There lie also the commands, which the program reads from a file, and its answers, which it writes to
+one: with pipes, what is measured would be in part how fast this harness fills and empties them. The answers are checked afterwards. For each
+layout it writes and reads whole stripes, then sends datagrams of the same number and sizes over a bare UDP socket, and prints both rates, their
+ratio, and the ratio of the processor times, which other work on the machine hardly changes. The project asks for at least a fifth.
 """
 
 import os
@@ -47,10 +48,15 @@ def sizes(write, m, n, block):
     return [CLIENT + data] + order + store + [REPLY] + [HEAD + CALL + STAMP] * n
 
 
+def is_answer(line, write, data):
+    """Whether a line answers a command that writes, or one that reads so many bytes."""
+    return line == "done\n" if write else line.startswith("data ") and len(line) == len("data ") + 2 * data + 1
+
+
 def run_timed(words, **options):
     """What a program ends with, and the seconds and processor seconds that it took."""
     before, began = resource.getrusage(resource.RUSAGE_CHILDREN), time.monotonic()
-    ended = subprocess.run(words, text=True, capture_output=True, **options)
+    ended = subprocess.run(words, **options)
     seconds, after = time.monotonic() - began, resource.getrusage(resource.RUSAGE_CHILDREN)
     return ended, seconds, after.ru_utime + after.ru_stime - before.ru_utime - before.ru_stime
 
@@ -66,14 +72,18 @@ def local(program, folder, write, m, n, block):
         subprocess.run([program, "format", layout, f"{stores}.{brick}", str(brick)], check=True, stdout=subprocess.DEVNULL)
     data = m * block
 
+    commands, answers = os.path.join(folder, "commands"), os.path.join(folder, "answers")
+
     def run(operations):
-        lines = [f"write {k % n} v {k % 64 * data} {'5a' * data}\n" if write else f"read {k % n} v {k % 64 * data} {data}\n"
-                 for k in range(operations)]
-        ended, seconds, processor = run_timed([program, "local", layout, stores, str(10**12)], input="".join(lines))
-        answers = ended.stdout.splitlines()
-        good = sum(answer == "done" if write else answer.startswith("data ") for answer in answers)
+        with open(commands, "w") as text:
+            for k in range(operations):
+                text.write(f"write {k % n} v {k % 64 * data} {'5a' * data}\n" if write else f"read {k % n} v {k % 64 * data} {data}\n")
+        with open(commands) as given, open(answers, "w") as taken:
+            ended, seconds, processor = run_timed([program, "local", layout, stores, str(10**12)], stdin=given, stdout=taken)
+        with open(answers) as text:
+            good = sum(is_answer(line, write, data) for line in text)
         if ended.returncode != 0 or good != operations:
-            raise SystemExit(f"local ended with {ended.returncode}: {good} of {operations} answered, last {answers[-1:]}")
+            raise SystemExit(f"local ended with {ended.returncode}: {good} of {operations} answered")
         return seconds, processor
 
     whole, start = run(OPERATIONS), run(1)
@@ -95,7 +105,7 @@ def main(words):
                     with tempfile.TemporaryDirectory(dir=words[1] if len(words) == 2 else "/dev/shm") as folder:
                         ours, ours_processor = local(words[0], folder, write, m, n, block)
                     datagrams = map(str, sizes(write, m, n, block))
-                    told, _, bare_processor = run_timed([echo, str(OPERATIONS), *datagrams], check=True)
+                    told, _, bare_processor = run_timed([echo, str(OPERATIONS), *datagrams], text=True, stdout=subprocess.PIPE, check=True)
                     bare = float(told.stdout)
                     print(f"{'write' if write else 'read'} {m} {n} {block} | {OPERATIONS / ours:.0f} | {OPERATIONS / bare:.0f} | {bare / ours:.2f}"
                           f" | {bare_processor / ours_processor:.2f}")

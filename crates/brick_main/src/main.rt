@@ -4,7 +4,7 @@
 
 use brick::brick;
 use fab_host::OsHost;
-use fab_io::{StdSink, StdSource};
+use fab_io::{BufferedSource, StdSink};
 use std::env::Env;
 use std::io::{BufReader, ErrorKind};
 use std::process::ExitCode;
@@ -12,11 +12,10 @@ use std::{env, io};
 
 fn main(rt: HostRuntime) -> ExitCode {
     let mut out = StdSink::new(io::writer(&rt));
-    // The commands of `brick local` are read a byte at a time.
     let Ok(input) = BufReader::new(rt.alloc(), rt.reader()) else {
         return ExitCode::from(NO_MEMORY);
     };
-    let Ok(mut host) = OsHost::new(rt.alloc(), &rt, StdSource::new(input)) else {
+    let Ok(mut host) = OsHost::new(rt.alloc(), &rt, BufferedSource::new(input)) else {
         return ExitCode::from(NO_MEMORY);
     };
     let status = match words(&rt) {

@@ -12,12 +12,23 @@ use std::alloc::{AllocError, Global};
 /// Bytes in memory that behave as a disk, and tell all that they hold. Pages that were never written take no room.
 ///
 /// It fails at the calls that [`MemDisk::fail_at`] lists and by the plan that [`Armed::arm`] takes, and at no others.
-#[derive(Drop)]
 pub struct MemDisk {
     medium: Medium,
     plan: Plan,
     failing: FailingCalls,
     faults: u64,
+}
+
+impl Drop for MemDisk {
+    // Written out, it is proved once: a derived one is proved anew, with that of each part, in each crate above that lets one go.
+    fn drop(self) {
+        let Self {
+            medium: _,
+            plan: _,
+            failing: _,
+            faults: _,
+        } = self;
+    }
 }
 
 impl MemDisk {

@@ -1,6 +1,7 @@
 // A host over the system, which tells nothing of what the system does.
-ghost use Rattle.std.specs.Prelude.{◌≡◌, IfOk};
-ghost use Rattle.std.specs.Io.{ReadsAtMost};
+ghost use Rattle.std.specs.Prelude.{◌≡◌, take, IfOk, MatchResult};
+ghost use Rattle.std.specs.Io.{ReadsAtMost, StopsAt};
+ghost use Rattle.fab_io.specs.Ends.{Kept};
 
 use crate::asking::{ask, name_of};
 use crate::hosts::{Asked, Host};
@@ -20,13 +21,25 @@ use std::{io, time};
 /// A disk is a file that is locked while it is open, so that one that is open elsewhere is a fault. A fresh one is made
 /// exclusively, and its folder is synced. Each error of the system is a fault. A host tells the calls asked of it and nothing
 /// else, and is never sound; what it is given back it closes.
-#[derive(Drop)]
 pub struct OsHost<'r, R: Files<File = File> + Net + time::Clock, I: Source + Drop> {
     system: &'r R,
     input: Option<I>,
     turns: Rc<Turns>,
     asked: Vec<Asked>,
     faults: u64,
+}
+
+impl<'r, R: Files<File = File> + Net + time::Clock, I: Source + Drop> Drop for OsHost<'r, R, I> {
+    // Written out, it is proved once: a derived one is proved anew, with that of each part, in each crate above that lets one go.
+    fn drop(self) {
+        let Self {
+            system: _,
+            input: _,
+            turns: _,
+            asked: _,
+            faults: _,
+        } = self;
+    }
 }
 
 impl<'r, R: Files<File = File> + Net + time::Clock, I: Source + Drop> OsHost<'r, R, I> {
@@ -142,11 +155,21 @@ fn sync_folder<R: Files<File = File>>(files: &R, name: &str) -> io::Result<()> {
 }
 
 /// A source of an [`OsHost`]: a file, or the source that it gives as standard input. It tells nothing, and is never sound.
-#[derive(Drop)]
 pub struct OsSource<I: Source + Drop> {
     origin: Origin<I>,
     came: usize,
     faults: u64,
+}
+
+impl<I: Source + Drop> Drop for OsSource<I> {
+    // Written out, it is proved once: a derived one is proved anew, with that of each part, in each crate above that lets one go.
+    fn drop(self) {
+        let Self {
+            origin: _,
+            came: _,
+            faults: _,
+        } = self;
+    }
 }
 
 // Where the bytes come from.
@@ -164,6 +187,23 @@ impl<I: Source + Drop> OsSource<I> {
             faults: 0,
         }
     }
+
+    // Tells what a read of the origin came to, and answers it. A fault of the origin is one of the source.
+    fn answer(&mut self, read: Result<usize, IoFault>) -> Result<usize, IoFault>
+        ensures same { result ≡ read }
+        ensures came { MatchResult result (λ n. self.new.came ≡ n) (λ _. self.new.came ≡ 0) }
+        ensures kept { Kept self.old.faults self.new.faults ⊥ ⊥ (result ≡ Err IoFault.Failed) }
+    {
+        self.came = 0;
+        match read {
+            Ok(count) => {
+                self.came = count;
+                Ok(count)
+            }
+            Err(IoFault::Failed) => Err(raise(&mut self.faults)),
+            Err(IoFault::NoMemory) => Err(IoFault::NoMemory),
+        }
+    }
 }
 
 impl<I: Source + Drop> Source for OsSource<I> {
@@ -178,15 +218,13 @@ impl<I: Source + Drop> Source for OsSource<I> {
     ghost sound = { λ _. ⊥ };
 
     fn read(&mut self, into: &mut [u8]) -> Result<usize, IoFault> {
-        self.came = 0;
-        match read_from(&mut self.origin, into) {
-            Ok(count) => {
-                self.came = count;
-                Ok(count)
-            }
-            Err(IoFault::Failed) => Err(raise(&mut self.faults)),
-            Err(IoFault::NoMemory) => Err(IoFault::NoMemory),
-        }
+        let read = read_from(&mut self.origin, into);
+        self.answer(read)
+    }
+
+    fn read_through(&mut self, last: u8, into: &mut [u8]) -> Result<usize, IoFault> {
+        let read = read_through_from(&mut self.origin, last, into);
+        self.answer(read)
     }
 }
 
@@ -196,5 +234,19 @@ fn read_from<I: Source + Drop>(origin: &mut Origin<I>, into: &mut [u8]) -> Resul
     match origin {
         Origin::Input(input) => input.read(into),
         Origin::File(file) => file.read(into),
+    }
+}
+
+fn read_through_from<I: Source + Drop>(
+    origin: &mut Origin<I>,
+    last: u8,
+    into: &mut [u8],
+) -> Result<usize, IoFault>
+    ensures within { ReadsAtMost result into.new }
+    ensures stops { IfOk result (λ n. StopsAt (take n into.new) last) }
+{
+    match origin {
+        Origin::Input(input) => input.read_through(last, into),
+        Origin::File(file) => file.read_through(last, into),
     }
 }

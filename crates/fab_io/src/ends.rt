@@ -1,6 +1,6 @@
 // The two ends of a stream of bytes, as a program above sees them.
-ghost use Rattle.std.specs.Prelude.{◌≡◌, ℕ, List, Option, IsErrOf, MatchResult};
-ghost use Rattle.std.specs.Io.{ReadsAtMost};
+ghost use Rattle.std.specs.Prelude.{◌≡◌, ℕ, List, Option, take, IfOk, IsErrOf, MatchResult};
+ghost use Rattle.std.specs.Io.{ReadsAtMost, StopsAt};
 ghost use Rattle.std.specs.Io.KnownBytes.{ReadConsumes, Keeps};
 ghost use Rattle.fab_io.specs.Ends.{Kept, WriteTakes};
 
@@ -35,6 +35,22 @@ pub trait Source {
         ensures came { MatchResult result (λ n. came self.new ≡ n) (λ _. came self.new ≡ 0) }
         ensures kept { Kept (faults self.old) (faults self.new) (sound self.old) (sound self.new)
             (result ≡ Err IoFault.Failed) };
+
+    /// Reads as [`read`](Source::read) does, but never past the first byte of this value: what stands behind it stays in
+    /// the source. A source that can't look ahead gives a byte at a time.
+    fn read_through(&mut self, last: u8, into: &mut [u8]) -> Result<usize, IoFault>
+        ensures within { ReadsAtMost result into.new }
+        ensures content { ReadConsumes (told self.old) (told self.new) result into.new }
+        ensures came { MatchResult result (λ n. came self.new ≡ n) (λ _. came self.new ≡ 0) }
+        ensures kept { Kept (faults self.old) (faults self.new) (sound self.old) (sound self.new)
+            (result ≡ Err IoFault.Failed) }
+
+        // No byte that came is the given one, but perhaps the last.
+        ensures stops { IfOk result (λ n. StopsAt (take n into.new) last) }
+    {
+        let (front, _) = into.split_at_mut(into.len().min(1));
+        self.read(front)
+    }
 }
 
 /// Where bytes go.

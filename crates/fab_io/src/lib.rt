@@ -23,5 +23,5 @@ pub use fault::{IoFault, raise};
 pub use links::{Datagram, Link};
 pub use memory::{MemSink, MemSource};
 pub use scripts::{MemClock, MemLink};
-pub use standard::{StdSink, StdSource};
+pub use standard::{BufferedSource, StdSink, StdSource};
 pub use system::{FileSource, MOST_WAIT, SystemClock, UdpLink};

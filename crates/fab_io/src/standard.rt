@@ -1,24 +1,35 @@
 // ReaderAdapters over the readers and writers of std, as standard input and output.
-ghost use Rattle.std.specs.Prelude.{◌≡◌};
-ghost use Rattle.std.specs.Io.{ReadsAtMost};
+ghost use Rattle.std.specs.Prelude.{◌≡◌, ◌<◌, ◌≤◌, length, take, IfOk};
+ghost use Rattle.std.specs.Io.{ReadsAtMost, StopsAt};
 ghost use Rattle.std.specs.Io.KnownBytes.{ReadConsumes};
 ghost use Rattle.fab_io.specs.Ends.{WriteTakes};
 
 use crate::ends::{Sink, Source};
 use crate::fault::{IoFault, raise};
+use memchr::memchr;
 use std::io;
-use std::io::{ErrorKind, Read, Write};
+use std::io::{BufRead, ErrorKind, Read, Write};
 use std::marker::Model;
 
 /// A source over a reader of std, as `StdSource::new(rt.reader())` over the runtime's standard input.
 ///
 /// It tells what its reader tells, and standard input tells nothing. Each error of the reader but an interruption is a
 /// fault. Nothing is promised of the outside, so it is never sound.
-#[derive(Drop)]
 pub struct StdSource<R: Read> {
     input: R,
     came: usize,
     faults: u64,
+}
+
+impl<R: Read + Drop> Drop for StdSource<R> {
+    // Written out, it is proved once: a derived one is proved anew, with that of each part, in each crate above that lets one go.
+    fn drop(self) {
+        let Self {
+            input: _,
+            came: _,
+            faults: _,
+        } = self;
+    }
 }
 
 impl<R: Read> Model for StdSource<R> {
@@ -81,15 +92,136 @@ fn read_once<R: Read>(input: &mut R, into: &mut [u8]) -> io::Result<usize>
     Err(io::Error::from(ErrorKind::Interrupted))
 }
 
+/// A source over a reader of std that holds bytes ahead, as a `BufReader` over the runtime's standard input. It is as a
+/// [`StdSource`] over that reader, and reads through a byte at once.
+pub struct BufferedSource<R: BufRead> {
+    source: StdSource<R>,
+}
+
+impl<R: BufRead + Drop> Drop for BufferedSource<R> {
+    // Written out, it is proved once: a derived one is proved anew, with that of each part, in each crate above that lets one go.
+    fn drop(self) {
+        let Self { source: _ } = self;
+    }
+}
+
+impl<R: BufRead> Model for BufferedSource<R> {
+    ghost use Rattle.fab_io.specs.Standard.{ReaderAdapter};
+
+    ghost Value = { ReaderAdapter };
+
+    ghost view = { λ s. s.source };
+}
+
+impl<R: BufRead> BufferedSource<R> {
+    /// A source that gives what the reader gives from here on.
+    pub fn new(input: R) -> BufferedSource<R>
+        ensures { result ≡ record { told = R.remaining input; came = 0; faults = 0 } }
+    {
+        BufferedSource {
+            source: StdSource::new(input),
+        }
+    }
+}
+
+impl<R: BufRead> Source for BufferedSource<R> {
+    ghost faults = { λ s. s.faults };
+
+    ghost told = { λ s. s.told };
+
+    ghost came = { λ s. s.came };
+
+    ghost sound = { λ _. ⊥ };
+
+    fn read(&mut self, into: &mut [u8]) -> Result<usize, IoFault> {
+        self.source.read(into)
+    }
+
+    fn read_through(&mut self, last: u8, into: &mut [u8]) -> Result<usize, IoFault> {
+        let source = &mut self.source;
+        source.came = 0;
+        match read_through_once(&mut source.input, last, into) {
+            Ok(count) => {
+                source.came = count;
+                Ok(count)
+            }
+            Err(_) => Err(raise(&mut source.faults)),
+        }
+    }
+}
+
+/// One read through a byte, asked again where a signal interrupted it.
+fn read_through_once<R: BufRead>(input: &mut R, last: u8, into: &mut [u8]) -> io::Result<usize>
+    ensures within { ReadsAtMost result into.new }
+    ensures content { ReadConsumes (R.remaining input.old) (R.remaining input.new) result into.new }
+    ensures stops { IfOk result (λ n. StopsAt (take n into.new) last) }
+{
+    for _ in 0..u64::MAX {
+        match read_held(input, last, into) {
+            Ok(count) => return Ok(count),
+            Err(error) => {
+                if error.kind() != ErrorKind::Interrupted {
+                    return Err(error);
+                }
+            }
+        }
+    }
+    Err(io::Error::from(ErrorKind::Interrupted))
+}
+
+/// One look at what the reader holds. Where it holds nothing more, a read of one byte tells whether that is the end.
+fn read_held<R: BufRead>(input: &mut R, last: u8, into: &mut [u8]) -> io::Result<usize>
+    ensures long { length into.new ≡ length into.old }
+    ensures within { ReadsAtMost result into.new }
+    ensures content { ReadConsumes (R.remaining input.old) (R.remaining input.new) result into.new }
+    ensures stops { IfOk result (λ n. StopsAt (take n into.new) last) }
+{
+    let held = match input.fill_buf() {
+        Ok(held) => held,
+        Err(error) => return Err(error),
+    };
+    if held.is_empty() {
+        let (front, _) = into.split_at_mut(into.len().min(1));
+        return input.read(front);
+    }
+    let count = count_through(last, held, into.len());
+    into[..count].copy_from_slice(&held[..count]);
+    input.consume(count);
+    Ok(count)
+}
+
+/// How many of the first bytes, at most so many, stand before the first that is the given one, that one with them.
+fn count_through(last: u8, bytes: &[u8], most: usize) -> usize
+    ensures most { result ≤ most }
+    ensures within { result ≤ length bytes.now }
+    ensures some { 0 < length bytes.now → 0 < most → 0 < result }
+    ensures stops { StopsAt (take result bytes.now) last }
+{
+    let front = &bytes[..most.min(bytes.len())];
+    match memchr(last, front) {
+        Some(at) => at + 1,
+        None => front.len(),
+    }
+}
+
 /// A sink over a writer of std, as `StdSink::new(io::writer(&rt))` over the runtime's standard output.
 ///
 /// It tells what its writer tells, and standard output tells nothing. Each write is flushed before it is answered, so
 /// that nothing taken is lost when the process ends. Each error but an interruption is a fault, and so is a writer that
 /// takes nothing more. Nothing is promised of the outside, so it is never sound.
-#[derive(Drop)]
 pub struct StdSink<W: Write> {
     output: W,
     faults: u64,
+}
+
+impl<W: Write + Drop> Drop for StdSink<W> {
+    // Written out, it is proved once: a derived one is proved anew, with that of each part, in each crate above that lets one go.
+    fn drop(self) {
+        let Self {
+            output: _,
+            faults: _,
+        } = self;
+    }
 }
 
 impl<W: Write> Model for StdSink<W> {

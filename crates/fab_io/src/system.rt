@@ -14,9 +14,15 @@ use std::time::{Duration, SystemTime};
 use std::{io, time};
 
 /// A file as a source, from its beginning. It tells nothing, and is never sound.
-#[derive(Drop)]
 pub struct FileSource {
     file: StdSource<File>,
+}
+
+impl Drop for FileSource {
+    // Written out, it is proved once: a derived one is proved anew, with that of each part, in each crate above that lets one go.
+    fn drop(self) {
+        let Self { file: _ } = self;
+    }
 }
 
 impl FileSource {
@@ -54,10 +60,21 @@ pub const MOST_WAIT: u64 = 10;
 ///
 /// A look waits for at most [`MOST_WAIT`] milliseconds, or not at all. Each error of the socket is a fault, also a
 /// datagram of more than 65,507 bytes, which UDP can't send. It tells nothing, and is never sound.
-#[derive(Drop)]
 pub struct UdpLink {
     socket: UdpSocket,
+    waits: bool,
     faults: u64,
+}
+
+impl Drop for UdpLink {
+    // Written out, it is proved once: a derived one is proved anew, with that of each part, in each crate above that lets one go.
+    fn drop(self) {
+        let Self {
+            socket: _,
+            waits: _,
+            faults: _,
+        } = self;
+    }
 }
 
 impl UdpLink {
@@ -68,14 +85,21 @@ impl UdpLink {
     pub fn bind<R: Net>(net: &R, port: u16) -> io::Result<UdpLink> {
         let socket = UdpSocket::bind(net, (Ipv4Addr::LOCALHOST, port))?;
         socket.set_read_timeout(Some(Duration::from_millis(MOST_WAIT)))?;
-        Ok(UdpLink { socket, faults: 0 })
+        Ok(UdpLink {
+            socket,
+            waits: true,
+            faults: 0,
+        })
     }
 
     /// From now on a look waits, or it doesn't. Where the system refuses, it goes on as before.
     pub fn set_waiting(&mut self, waits: bool)
         ensures { self.new.faults ≡ self.old.faults }
     {
-        let _ = self.socket.set_nonblocking(!waits);
+        // Each look says whether it waits, and the system is told only of a change.
+        if waits != self.waits && self.socket.set_nonblocking(!waits).is_ok() {
+            self.waits = waits;
+        }
     }
 }
 
