@@ -1,5 +1,5 @@
 -- A look gives the datagram that is next, and moves behind it.
-use Rattle.std.proofs.Common.{◌≡◌, ◌+◌, ◌<◌, ◌∷◌, ◌++◌, length, drop, refl, sym, ap, ◌∙◌, rules, arith, length-append, length-drop, length-take-le}
+use Rattle.std.proofs.Common.{◌+◌, ◌<◌, ◌∷◌, length, drop, refl, sym, ap, ◌∙◌, rules, arith, length-append, length-drop, length-take-le}
 use Rattle.std.proofs.lemmas.Bool.Decides.{nat_tests}
 use Rattle.std.proofs.lemmas.List.{drop_more, take_at}
 use Rattle.fab_io.specs.declared.links.Datagram.{Datagram}
