@@ -1,5 +1,5 @@
 -- Each mark is taken or refused.
-use Rattle.std.proofs.Common.{◌≡◌, Bool, cond, List, Option, Some, None, refl, ap, ◌∙◌, ◌+◌}
+use Rattle.std.proofs.Common.{◌≡◌, Bool, cond, List, Option, Some, None, refl, ap, ◌∙◌, ◌+◌, rules}
 use Rattle.std.proofs.lemmas.Option.{slice_get_read}
 use Rattle.audit.specs.declared.operations.Operation.{Operation}
 use Rattle.audit.specs.Operations.{Index}
@@ -26,3 +26,12 @@ loop-place-preserved c =
     (λ g s. c.in_ok-take-2.ensures g s
     ∙ ap (λ (found : List Operation). cond (touches found c.index-claims-place.result g s) (c.loop-place.place + 1) (last_at c.loop-place.lasts g s))
     c.as_slice.ensures)
+
+pub returns-in_err-operations : goal.returns-in_err-operations
+returns-in_err-operations c = search rules
+
+pub returns-in_err-take : goal.returns-in_err-take
+returns-in_err-take c = search rules
+
+pub returns-in_err-take-2 : goal.returns-in_err-take-2
+returns-in_err-take-2 c = search rules

@@ -1,5 +1,5 @@
 -- What is left of the text tells what all of it is.
-use Rattle.std.proofs.Common.{◌≡◌, Result, Err, refl, sym, ap, ◌∙◌, subst, arith}
+use Rattle.std.proofs.Common.{◌≡◌, Result, Err, refl, sym, ap, ◌∙◌, subst, arith, rules}
 use Rattle.std.specs.Io.KnownBytes.{prepend_known}
 use Rattle.std.proofs.lemmas.Result.{err_from_is_err_and}
 use Rattle.fab_io.specs.declared.fault.IoFault.{IoFault}
@@ -128,3 +128,69 @@ loop-count-init g c =
       rise = subst (λ (t : Transcribed). StripesRise t.stripes) none (λ i j a b h x y. cc);
       source = Kept-refl _ _;
     }
+
+pub returns-in_err-piece-clause-rises : goal.returns-in_err-piece-clause-rises
+returns-in_err-piece-clause-rises g c = search rules
+
+pub returns-in_err-piece-clause-text : goal.returns-in_err-piece-clause-text
+returns-in_err-piece-clause-text g c = search rules
+
+pub returns-in_err-piece-clause-end : goal.returns-in_err-piece-clause-end
+returns-in_err-piece-clause-end g c = search rules
+
+pub returns-in_err-piece-clause-kept : goal.returns-in_err-piece-clause-kept
+returns-in_err-piece-clause-kept g c = search rules
+
+pub returns-in_err-take_next-clause-rises : goal.returns-in_err-take_next-clause-rises
+returns-in_err-take_next-clause-rises g c = search rules
+
+pub returns-in_err-take_next-clause-text : goal.returns-in_err-take_next-clause-text
+returns-in_err-take_next-clause-text g c = search rules
+
+pub returns-in_err-take_next-clause-end : goal.returns-in_err-take_next-clause-end
+returns-in_err-take_next-clause-end g c = search rules
+
+pub returns-in_err-take_next-clause-kept : goal.returns-in_err-take_next-clause-kept
+returns-in_err-take_next-clause-kept g c = search rules
+
+pub returns-in-Last-clause-rises : goal.returns-in-Last-clause-rises
+returns-in-Last-clause-rises g c = search rules
+
+pub returns-in-Last-clause-kept : goal.returns-in-Last-clause-kept
+returns-in-Last-clause-kept g c = search rules
+
+pub returns-in-Bad-clause-rises : goal.returns-in-Bad-clause-rises
+returns-in-Bad-clause-rises g c = search rules
+
+pub returns-in-Bad-clause-end : goal.returns-in-Bad-clause-end
+returns-in-Bad-clause-end g c = search rules
+
+pub returns-in-Bad-clause-kept : goal.returns-in-Bad-clause-kept
+returns-in-Bad-clause-kept g c = search rules
+
+pub returns-in-Ended-clause-rises : goal.returns-in-Ended-clause-rises
+returns-in-Ended-clause-rises g c = search rules
+
+pub returns-in-Ended-clause-kept : goal.returns-in-Ended-clause-kept
+returns-in-Ended-clause-kept g c = search rules
+
+pub returns-in_err-more-clause-rises : goal.returns-in_err-more-clause-rises
+returns-in_err-more-clause-rises g c = search rules
+
+pub returns-in_err-more-clause-text : goal.returns-in_err-more-clause-text
+returns-in_err-more-clause-text g c = search rules
+
+pub returns-in_err-more-clause-end : goal.returns-in_err-more-clause-end
+returns-in_err-more-clause-end g c = search rules
+
+pub returns-in_err-more-clause-kept : goal.returns-in_err-more-clause-kept
+returns-in_err-more-clause-kept g c = search rules
+
+pub returns-in-Ended-more-clause-rises : goal.returns-in-Ended-more-clause-rises
+returns-in-Ended-more-clause-rises g c = search rules
+
+pub returns-in-Ended-more-clause-end : goal.returns-in-Ended-more-clause-end
+returns-in-Ended-more-clause-end g c = search rules
+
+pub returns-in-Ended-more-clause-kept : goal.returns-in-Ended-more-clause-kept
+returns-in-Ended-more-clause-kept g c = search rules
