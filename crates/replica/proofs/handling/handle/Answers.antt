@@ -129,3 +129,15 @@ returns-then-is_halted g c = search rules
 
 pub returns-in_default : goal.returns-in_default
 returns-in_default g c = search rules
+
+pub returns-in_default-member_served-clause-cut : goal.returns-in_default-member_served-clause-cut
+returns-in_default-member_served-clause-cut g c = search rules
+
+pub returns-in_err-plan-clause-handles : goal.returns-in_err-plan-clause-handles
+returns-in_err-plan-clause-handles g c = search rules
+
+pub returns-in_err-plan-clause-cut : goal.returns-in_err-plan-clause-cut
+returns-in_err-plan-clause-cut g c = search rules
+
+pub returns-in_err-plan-clause-run : goal.returns-in_err-plan-clause-run
+returns-in_err-plan-clause-run g c = search rules

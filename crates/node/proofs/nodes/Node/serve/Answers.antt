@@ -1,5 +1,5 @@
 -- What follows of the store is what the machine's brick does.
-use Rattle.std.proofs.Common.{◌≡◌, false, inl, Err, refl, sym, ◌∙◌, ap, subst}
+use Rattle.std.proofs.Common.{◌≡◌, false, inl, Err, refl, sym, ◌∙◌, ap, subst, rules}
 use Rattle.std.proofs.lemmas.Result.{err_from_is_err_and}
 use Rattle.fab_base.specs.declared.identities.BrickId.{BrickId}
 use Rattle.fab_disk.specs.Disk.{IsUntouched, LeavesOnly}
@@ -175,3 +175,63 @@ returns-in_err-answer-clause-cut g c =
     let fault = err_from_is_err_and c.from_residual.result c.from_residual.ensures.1 in
     cut_shown x.layout x.calls c.args.from c.args.message.now x.store c.handle.new.store c.args.self.now c.in_err-answer.field-0.0 _
     c.self.view_is c.self.invariant (fault.1 ∙ ap (λ (e : NodeFault). Err e) fault.2) c.in_err-answer.ensures.cut
+
+pub returns-in_err-answer-clause-step : goal.returns-in_err-answer-clause-step
+returns-in_err-answer-clause-step g c = search rules
+
+pub returns-in_err-answer-clause-few : goal.returns-in_err-answer-clause-few
+returns-in_err-answer-clause-few g c = search rules
+
+pub returns-in_err-answer-clause-same : goal.returns-in_err-answer-clause-same
+returns-in_err-answer-clause-same g c = search rules
+
+pub returns-in_err-answer-clause-unseen : goal.returns-in_err-answer-clause-unseen
+returns-in_err-answer-clause-unseen g c = search rules
+
+pub returns-in_err-answer-clause-still : goal.returns-in_err-answer-clause-still
+returns-in_err-answer-clause-still g c = search rules
+
+pub returns-in_err-answer-clause-durable : goal.returns-in_err-answer-clause-durable
+returns-in_err-answer-clause-durable g c = search rules
+
+pub returns-in_err-answer-clause-not_halted : goal.returns-in_err-answer-clause-not_halted
+returns-in_err-answer-clause-not_halted g c = search rules
+
+pub returns-in_err-answer-clause-halts : goal.returns-in_err-answer-clause-halts
+returns-in_err-answer-clause-halts g c = search rules
+
+pub returns-in_err-answer-clause-not_refused : goal.returns-in_err-answer-clause-not_refused
+returns-in_err-answer-clause-not_refused g c = search rules
+
+pub returns-in_err-answer-clause-no_call : goal.returns-in_err-answer-clause-no_call
+returns-in_err-answer-clause-no_call g c = search rules
+
+pub returns-in_err-answer-clause-cause : goal.returns-in_err-answer-clause-cause
+returns-in_err-answer-clause-cause g c = search rules
+
+pub returns-clause-few : goal.returns-clause-few
+returns-clause-few g c = search rules
+
+pub returns-clause-err : goal.returns-clause-err
+returns-clause-err g c = search rules
+
+pub returns-clause-same : goal.returns-clause-same
+returns-clause-same g c = search rules
+
+pub returns-clause-cut : goal.returns-clause-cut
+returns-clause-cut g c = search rules
+
+pub returns-clause-not_halted : goal.returns-clause-not_halted
+returns-clause-not_halted g c = search rules
+
+pub returns-clause-halts : goal.returns-clause-halts
+returns-clause-halts g c = search rules
+
+pub returns-clause-not_refused : goal.returns-clause-not_refused
+returns-clause-not_refused g c = search rules
+
+pub returns-clause-no_call : goal.returns-clause-no_call
+returns-clause-no_call g c = search rules
+
+pub returns-clause-cause : goal.returns-clause-cause
+returns-clause-cause g c = search rules
