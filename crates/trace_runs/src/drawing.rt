@@ -1,10 +1,11 @@
 //! A run as a picture: a lane for each brick, an arrow for each message, a bar for each operation, and a lane for each stripe.
 
 use crate::accounts::{Account, Fate, is_up, packet_at};
-use crate::deeds::{Deed, Reached, answer_of, op_of, put_deed};
+use crate::deeds::{answer_of, change, op_of, put_answer, put_op};
 use crate::journals::{Journal, Operation};
-use crate::packets::{Hex, kind_of, word_of};
+use crate::packets::names_of;
 use crate::pictures::{Picture, left_of};
+use crate::texts::Text;
 use fab_base::{Answer, BrickId, GroupId, NoMem, StripeNo};
 use messages::Packet;
 use reg_model::{Happening, Mark};
@@ -27,7 +28,6 @@ const LANE: u64 = 66;
 const ROW: u64 = 19;
 
 /// A run that is drawn, a line of its schedule after another.
-#[derive(Drop)]
 pub struct Drawing {
     alloc: Global,
     picture: Picture,
@@ -37,6 +37,18 @@ pub struct Drawing {
     senders: Vec<usize>,
     /// The column in which each mark was made.
     makers: Vec<usize>,
+}
+
+impl Drop for Drawing {
+    fn drop(self) {
+        let Self {
+            alloc: _,
+            picture: _,
+            columns: _,
+            senders: _,
+            makers: _,
+        } = self;
+    }
 }
 
 /// How far the line of a brick's lane is from the top.
@@ -104,7 +116,7 @@ impl Drawing {
     ) -> Result<(), NoMem> {
         let first = self.columns;
         self.columns = first.saturating_add(account.deliveries.len().max(1));
-        self.draw_title(world, number, content, first)?;
+        self.draw_title(world, number, content, first);
         self.add_marks(world, account.marks)?;
         self.add_messages(world, account, first)?;
         self.draw_deliveries(world, account, first);
@@ -113,22 +125,14 @@ impl Drawing {
     }
 
     /// Draws where a line begins: its number, and what stands on it.
-    fn draw_title(
-        &mut self,
-        world: &World,
-        number: u64,
-        content: &[u8],
-        column: usize,
-    ) -> Result<(), NoMem> {
-        let mut title = format!(in self.alloc; "{number} ")?.into_bytes();
-        title.extend_from_slice(content)?;
+    fn draw_title(&mut self, world: &World, number: u64, content: &[u8], column: usize) {
         let x = left_of(column);
         let bottom = lane_of(BrickId(world.layout().bricks()));
         self.picture
             .line("guide", false, (x, HEADER - 12), (x, bottom));
-        self.picture
-            .write_label(x.saturating_add(4), HEADER, title.as_slice());
-        Ok(())
+        self.picture.name.fill("% ", &[number]);
+        self.picture.name.put_label(content);
+        self.picture.label(x.saturating_add(4), HEADER);
     }
 
     /// Notes the marks of a line, and draws the bricks that it stopped.
@@ -149,8 +153,9 @@ impl Drawing {
         let x = left_of(column).saturating_add(4);
         let y = lane_of(brick);
         self.picture.dot(word, x, y);
+        self.picture.name.put(word);
         self.picture
-            .label(x.saturating_add(6), y.saturating_add(26), word);
+            .label(x.saturating_add(6), y.saturating_add(26));
     }
 
     /// Notes where the messages of a line were sent, and draws how many.
@@ -179,17 +184,16 @@ impl Drawing {
 
     /// Draws that messages were sent, from one place to another among all, the last of which is this.
     fn draw_sent(&mut self, packet: &Packet, first: usize, last: usize, column: usize) {
-        let word = word_of(&packet.message);
         let x = left_of(column).saturating_add(10);
         let y = lane_of(packet.from).saturating_add(14);
-        let number = (last as u64).saturating_add(1);
-        if first == last {
-            self.picture.label(x, y, format_args!("+#{number} {word}"));
-        } else {
-            let first = (first as u64).saturating_add(1);
-            self.picture
-                .label(x, y, format_args!("+#{first}-{number} {word}"));
+        let name = &mut self.picture.name;
+        name.put("+#");
+        if first < last {
+            name.fill("%-", &[(first as u64).saturating_add(1)]);
         }
+        name.fill("% ", &[(last as u64).saturating_add(1)]);
+        name.put(names_of(&packet.message).0);
+        self.picture.label(x, y);
     }
 
     /// Draws the messages that a line was to deliver.
@@ -206,17 +210,14 @@ impl Drawing {
     fn draw_delivery(&mut self, packet: &Packet, number: u64, is_lost: bool, column: usize) {
         let place = (number as usize).wrapping_sub(1);
         let sender = self.senders.get(place).copied().unwrap_or(column);
-        let word = word_of(&packet.message);
+        let (word, kind) = names_of(&packet.message);
         let x = left_of(column).saturating_add(4);
         let y = lane_of(packet.to);
         let from = departure(sender, packet.from);
-        self.picture
-            .line(kind_of(&packet.message), is_lost, from, (x, y));
-        self.picture.label(
-            x.saturating_add(6),
-            y.saturating_sub(6),
-            format_args!("#{number} {word}"),
-        );
+        self.picture.line(kind, is_lost, from, (x, y));
+        self.picture.name.fill("#% ", &[number]);
+        self.picture.name.put(word);
+        self.picture.label(x.saturating_add(6), y.saturating_sub(6));
     }
 
     /// Draws the lanes of the bricks that are up, from a column on, and the brick that started there.
@@ -236,7 +237,7 @@ impl Drawing {
     }
 
     /// The picture of the run, as the text of an SVG document.
-    pub fn finish(mut self, world: &World, journal: &Journal) -> Result<String, NoMem> {
+    pub fn finish(mut self, world: &World, journal: &Journal) -> Result<Text, NoMem> {
         self.draw_names(world);
         self.draw_stubs(world);
         let mut y = self.draw_bars(world, journal)?;
@@ -251,7 +252,8 @@ impl Drawing {
     fn draw_names(&mut self, world: &World) {
         for number in 0..world.layout().bricks() {
             let y = lane_of(BrickId(number)).saturating_add(4);
-            self.picture.label(NAMES, y, format_args!("brick {number}"));
+            self.picture.name.fill("brick %", &[u64::from(number)]);
+            self.picture.label(NAMES, y);
         }
     }
 
@@ -276,7 +278,7 @@ impl Drawing {
         } else {
             y.saturating_add(rise)
         };
-        let kind = kind_of(&packet.message);
+        let kind = names_of(&packet.message).1;
         self.picture
             .line(kind, true, (x, y), (x.saturating_add(16), end));
     }
@@ -321,22 +323,21 @@ impl Drawing {
         };
         self.picture.bar(class, first, last, y);
         if let Some(op) = op_of(world, operation) {
-            self.picture.label(
-                left_of(first).saturating_add(6),
-                y.saturating_add(11),
-                format_args!("{number} {}", Deed(op)),
-            );
+            self.picture.name.fill("% ", &[number]);
+            put_op(&mut self.picture.name, op);
+            self.picture
+                .label(left_of(first).saturating_add(6), y.saturating_add(11));
         }
     }
 
     /// Writes how an operation ended, in the last column of its bar.
     fn draw_answer(&mut self, world: &World, operation: &Operation, column: usize, y: u64) {
-        let x = left_of(column).saturating_add(6);
-        let y = y.saturating_add(11);
         match answer_of(world, operation) {
-            Some(answer) => self.picture.label(x, y, Reached(answer)),
-            None => self.picture.label(x, y, "cut off"),
+            Some(answer) => put_answer(&mut self.picture.name, answer),
+            None => self.picture.name.put("cut off"),
         }
+        self.picture
+            .label(left_of(column).saturating_add(6), y.saturating_add(11));
     }
 
     /// Draws the lane of a stripe: what its registers hold at first, and from each happening on.
@@ -348,11 +349,10 @@ impl Drawing {
         group: GroupId,
         stripe: StripeNo,
     ) -> Result<(), NoMem> {
-        self.picture.label(
-            NAMES,
-            y.saturating_sub(6),
-            format_args!("stripe {} {}", group.0, stripe.0),
-        );
+        self.picture
+            .name
+            .fill("stripe % %", &[group.0.into(), stripe.0.into()]);
+        self.picture.label(NAMES, y.saturating_sub(6));
         self.picture
             .line("lane", false, (left_of(0), y), (left_of(self.columns), y));
         let block = usize::from(world.layout().block());
@@ -361,10 +361,11 @@ impl Drawing {
             None => 0,
         };
         let mut registers = vec![in self.alloc; 0u8; blocks.saturating_mul(block)]?;
-        self.picture
-            .label(NAMES, y.saturating_add(14), Hex(registers.as_slice()));
+        self.picture.name.put_hex(registers.as_slice());
+        self.picture.label(NAMES, y.saturating_add(14));
         let happenings = world.happenings(group, stripe)?;
-        self.draw_happenings(world, journal, y, &mut registers, happenings.as_slice())
+        self.draw_happenings(world, journal, y, &mut registers, happenings.as_slice());
+        Ok(())
     }
 
     /// Draws a stripe's happenings, which change what its registers hold.
@@ -375,43 +376,40 @@ impl Drawing {
         y: u64,
         registers: &mut Vec<u8>,
         happenings: &[Happening],
-    ) -> Result<(), NoMem> {
+    ) {
         let block = usize::from(world.layout().block());
-        let mut operations = String::new(self.alloc);
+        let mut is_first = true;
         for (place, happening) in happenings.iter().enumerate() {
             let number = happening.operation;
-            write!(operations, " {number}")?;
+            if is_first {
+                self.picture.name.put("op");
+            }
+            self.picture.name.fill(" %", &[number]);
             if let Some(operation) = journal.operation(number) {
                 if let Some(op) = op_of(world, operation) {
-                    put_deed(op, block, registers);
+                    change(op, block, registers);
                 }
             }
-            let is_last = match happenings.get(place.saturating_add(1)) {
+            is_first = match happenings.get(place.saturating_add(1)) {
                 Some(next) => next.position != happening.position,
                 None => true,
             };
-            if is_last {
-                self.draw_happening(
-                    happening.position,
-                    y,
-                    operations.as_str(),
-                    registers.as_slice(),
-                );
-                operations.clear();
+            if is_first {
+                self.draw_happening(happening.position, y, registers.as_slice());
             }
         }
-        Ok(())
     }
 
-    /// Draws that operations happened at a mark, and what a stripe's registers hold from there on.
-    fn draw_happening(&mut self, mark: u64, y: u64, operations: &str, registers: &[u8]) {
+    /// Draws that the operations that `name` says happened at a mark, and what a stripe's registers hold from there on.
+    fn draw_happening(&mut self, mark: u64, y: u64, registers: &[u8]) {
         if let Some(column) = self.makers.get(mark as usize).copied() {
             let x = left_of(column).saturating_add(4);
             self.picture.dot("happening", x, y);
             let x = x.saturating_add(6);
-            self.picture
-                .label(x, y.saturating_sub(6), format_args!("op{operations}"));
-            self.picture.label(x, y.saturating_add(14), Hex(registers));
+            self.picture.label(x, y.saturating_sub(6));
+            self.picture.name.put_hex(registers);
+            self.picture.label(x, y.saturating_add(14));
         }
+        self.picture.name.clear();
     }
 }
