@@ -58,13 +58,13 @@ fn set(registers: &mut Vec<u8>, from: usize, bytes: &[u8]) {
 }
 
 /// Changes a stripe's registers as an operation does. A block has so many bytes.
-pub(crate) fn change(op: &Op, block: usize, registers: &mut Vec<u8>) {
+pub(crate) fn change(op: Option<&Op>, block: usize, registers: &mut Vec<u8>) {
     match op {
-        Op::WriteBlock(j, bytes) => {
+        Some(Op::WriteBlock(j, bytes)) => {
             let from = usize::from(*j).saturating_mul(block);
             set(registers, from, bytes.as_slice());
         }
-        Op::WriteStripe(bytes) => set(registers, 0, bytes.as_slice()),
-        Op::ReadBlock(_) | Op::ReadStripe => {}
+        Some(Op::WriteStripe(bytes)) => set(registers, 0, bytes.as_slice()),
+        _ => {}
     }
 }

@@ -6,6 +6,7 @@
 mod accounts;
 mod deeds;
 mod drawing;
+mod figures;
 mod journals;
 mod packets;
 mod pictures;

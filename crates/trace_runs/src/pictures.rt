@@ -131,8 +131,9 @@ impl Picture {
             .fill("\" cx=\"%\" cy=\"%\" r=\"4\"/>\n", &[x, y]);
     }
 
-    /// Writes the label that `name` says, from a place of its line on. The next name is empty.
-    pub(crate) fn label(&mut self, x: u64, y: u64) {
+    /// Writes a form, with a number in place of each `%`, behind what the next label says already, as that label.
+    pub(crate) fn label(&mut self, x: u64, y: u64, form: &str, numbers: &[u64]) {
+        self.name.fill(form, numbers);
         let name = self.name.pieces().as_bytes();
         let width = (name.len().min(CHARACTERS) as u64).saturating_mul(CHARACTER);
         self.labels.fill(
