@@ -3,20 +3,21 @@
 use brick_store::State;
 use fab_base::{BrickId, Bytes, GroupId, NoMem, Stamp, StripeNo};
 use reg_model::Happening;
-use trace_runs::{Deed, Hex, Journal, Reached, Text, answer_of, is_up, op_of};
+use trace_runs::{Journal, Text, answer_of, is_up, op_of, put_answer, put_op};
 use world::World;
 
 /// Notes a happening: its operation and position, and what it read or wrote.
 fn note_happening(notes: &mut Text, world: &World, journal: &Journal, happening: Happening) {
     let number = happening.operation;
-    let position = happening.position;
-    notes.put(format_args!("happened {number}@{position}"));
+    notes.fill("happened %@%", &[number, happening.position]);
     if let Some(operation) = journal.operation(number) {
         if let Some(op) = op_of(world, operation) {
-            notes.put(format_args!(" {}", Deed(op)));
+            notes.put(" ");
+            put_op(notes, op);
         }
         if let Some(answer) = answer_of(world, operation) {
-            notes.put(format_args!(": {}", Reached(answer)));
+            notes.put(": ");
+            put_answer(notes, answer);
         }
     }
     notes.put("\n");
@@ -33,15 +34,17 @@ fn older<'a>(log: &'a State<'_>, bound: Option<Stamp>) -> Option<(Stamp, &'a Byt
 /// Notes the log of a stripe at a member, newest version first.
 fn note_log(notes: &mut Text, world: &World, brick: BrickId, group: GroupId, stripe: StripeNo) {
     if !is_up(world, brick) {
-        notes.put(format_args!("brick {brick} is down\n"));
+        notes.fill("brick % is down\n", &[brick.0.into()]);
         return;
     }
-    notes.put(format_args!("brick {brick} keeps"));
+    notes.fill("brick % keeps", &[brick.0.into()]);
     if let Some(log) = world.log_of(brick, group, stripe) {
         let mut bound = None;
         for _ in 0..log.len() {
             if let Some((stamp, block)) = older(&log, bound) {
-                notes.put(format_args!(" {stamp}={}", Hex(block.as_slice())));
+                notes.put_stamp(" ", stamp);
+                notes.put("=");
+                notes.put_hex(block.as_slice());
                 bound = Some(stamp);
             }
         }

@@ -8,7 +8,7 @@ use world::World;
 fn put_packet(notes: &mut Text, world: &World, journal: &Journal, number: u64) {
     match packet_at(world, number) {
         Some(packet) => put_message(notes, number, packet, journal.operation_of(packet)),
-        None => notes.put(format_args!("#{number}")),
+        None => notes.fill("#%", &[number]),
     }
 }
 
@@ -26,17 +26,12 @@ fn fate_text(fate: Fate) -> &'static str {
 
 /// Notes what befell a call of a brick's disk.
 fn note_stop(notes: &mut Text, brick: BrickId, stop: Stop) {
-    match stop {
-        Stop::Inside(call) => notes.put(format_args!(
-            "brick {brick} stopped inside call {call} of its disk\n"
-        )),
-        Stop::Failed(call) => notes.put(format_args!(
-            "brick {brick} halted: call {call} of its disk failed\n"
-        )),
-        Stop::Unreached(call) => notes.put(format_args!(
-            "brick {brick} made no call {call} of its disk\n"
-        )),
-    }
+    let (form, call) = match stop {
+        Stop::Inside(call) => ("brick % stopped inside call % of its disk\n", call),
+        Stop::Failed(call) => ("brick % halted: call % of its disk failed\n", call),
+        Stop::Unreached(call) => ("brick % made no call % of its disk\n", call),
+    };
+    notes.fill(form, &[brick.0.into(), call]);
 }
 
 /// Notes what a line did, beside what `replay` prints for it: a note a line.
@@ -51,7 +46,7 @@ pub(crate) fn note_account(notes: &mut Text, world: &World, journal: &Journal, a
         note_stop(notes, brick, stop);
     }
     if let Some(brick) = account.started {
-        notes.put(format_args!("brick {brick} started\n"));
+        notes.fill("brick % started\n", &[brick.0.into()]);
     }
     for place in account.sent..world.sent().len() {
         put_packet(notes, world, journal, (place as u64).saturating_add(1));

@@ -1,7 +1,7 @@
 //! `trace`: shows a run of a layout and a schedule, the input of `replay run`, as text or as a picture.
 #![tactic(auto)]
 
-use clap::Command;
+use clap::{Arg, Command};
 use fab_io::{StdSink, StdSource};
 use std::alloc::{AllocError, Global};
 use std::process::ExitCode;
@@ -10,15 +10,14 @@ use trace::trace;
 
 /// The command line.
 fn command<'a>(alloc: Global) -> Result<Command<'a>, AllocError> {
-    let text = Command::new(alloc, "text").about("Writes what each line did, and what all left");
-    let svg = Command::new(alloc, "svg").about("Draws the first 2,000 lines as SVG 1.1");
+    let form = Arg::new(alloc, "form").required(true).help(
+        "text: what each line did, and what all left; svg: the first 2,000 lines, drawn",
+    );
     Command::new(alloc, "trace")
         .version("1.0")
         .about("Shows the run of a layout and a schedule, read from standard input")
         .no_binary_name(true)
-        .subcommand_required(true)
-        .subcommand(text)?
-        .subcommand(svg)
+        .arg(form)
 }
 
 /// Runs the program, and answers its exit status.

@@ -36,7 +36,6 @@ pub enum Stop {
 }
 
 /// What a line did.
-#[derive(Drop)]
 pub struct Account {
     /// Whether the line says anything.
     pub is_event: bool,
@@ -50,6 +49,19 @@ pub struct Account {
     pub marks: usize,
     /// How many messages had been sent before.
     pub sent: usize,
+}
+
+impl Drop for Account {
+    fn drop(self) {
+        let Self {
+            is_event: _,
+            deliveries: _,
+            stop: _,
+            started: _,
+            marks: _,
+            sent: _,
+        } = self;
+    }
 }
 
 /// Whether a brick is up.
@@ -94,18 +106,24 @@ impl Account {
         is_idle: bool,
     ) -> Result<(), NoMem> {
         journal.note_line(world, self.marks, self.sent)?;
-        match parse(alloc, content)? {
-            Some(Line::Nothing) => self.is_event = false,
+        let line = parse(alloc, content)?;
+        match &line {
             Some(Line::Deliver { message, fault }) => {
-                self.note_delivery(world, journal, message, fault, is_idle)?;
+                self.note_delivery(world, journal, *message, *fault, is_idle)
             }
-            Some(Line::Start { brick, fault }) => self.note_start(world, brick, fault, is_idle),
             Some(Line::Calm { operation, .. }) => {
-                journal.note_deliveries(world, operation, &mut self.deliveries)?;
+                journal.note_deliveries(world, *operation, &mut self.deliveries)
             }
-            _ => {}
+            Some(Line::Start { brick, fault }) => {
+                self.note_start(world, *brick, *fault, is_idle);
+                Ok(())
+            }
+            Some(Line::Nothing) => {
+                self.is_event = false;
+                Ok(())
+            }
+            _ => Ok(()),
         }
-        Ok(())
     }
 
     /// Notes a delivery, with what was to befall a call of the receiver's disk. `idle` says that the receiver was down.

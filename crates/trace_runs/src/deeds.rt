@@ -1,43 +1,36 @@
 //! What operations do, what they were answered, and what they do to registers.
 
 use crate::journals::Operation;
-use crate::packets::Hex;
+use crate::texts::Text;
 use fab_base::{Answer, Cause, Op};
 use reg_model::Mark;
-use std::fmt;
 use world::World;
 
-/// What an operation is asked to do.
-#[derive(Drop)]
-pub struct Deed<'a>(pub &'a Op);
-
-impl<'a> fmt::Display for Deed<'a> {
-    fn fmt<W: fmt::Write>(&self, f: &mut fmt::Formatter<W>) -> fmt::Result {
-        match self.0 {
-            Op::ReadBlock(block) => write!(f, "read {block}"),
-            Op::WriteBlock(block, bytes) => write!(f, "write {block} {}", Hex(bytes.as_slice())),
-            Op::ReadStripe => write!(f, "readall"),
-            Op::WriteStripe(bytes) => write!(f, "writeall {}", Hex(bytes.as_slice())),
+/// Writes what an operation is asked to do.
+pub fn put_op(text: &mut Text, op: &Op) {
+    match op {
+        Op::ReadBlock(block) => text.fill("read %", &[u64::from(*block)]),
+        Op::WriteBlock(block, bytes) => {
+            text.fill("write % ", &[u64::from(*block)]);
+            text.put_hex(bytes.as_slice());
+        }
+        Op::ReadStripe => text.put("readall"),
+        Op::WriteStripe(bytes) => {
+            text.put("writeall ");
+            text.put_hex(bytes.as_slice());
         }
     }
 }
 
-/// An answer, in short.
-#[derive(Drop)]
-pub struct Reached<'a>(pub &'a Answer);
-
-impl<'a> fmt::Display for Reached<'a> {
-    fn fmt<W: fmt::Write>(&self, f: &mut fmt::Formatter<W>) -> fmt::Result {
-        match self.0 {
-            Answer::Data(bytes) => write!(f, "{}", Hex(bytes.as_slice())),
-            Answer::Done => f.write_str("done"),
-            Answer::Aborted(cause) => f.write_str(match cause {
-                Cause::Later { .. } => "aborted later",
-                Cause::Gone { .. } => "aborted gone",
-                Cause::Full { .. } => "aborted full",
-                Cause::Moved { .. } => "aborted moved",
-            }),
-        }
+/// Writes an answer, in short.
+pub fn put_answer(text: &mut Text, answer: &Answer) {
+    match answer {
+        Answer::Data(bytes) => text.put_hex(bytes.as_slice()),
+        Answer::Done => text.put("done"),
+        Answer::Aborted(Cause::Later { .. }) => text.put("aborted later"),
+        Answer::Aborted(Cause::Gone { .. }) => text.put("aborted gone"),
+        Answer::Aborted(Cause::Full { .. }) => text.put("aborted full"),
+        Answer::Aborted(Cause::Moved { .. }) => text.put("aborted moved"),
     }
 }
 
@@ -57,21 +50,21 @@ pub fn answer_of<'a>(world: &'a World, operation: &Operation) -> Option<&'a Answ
     }
 }
 
-/// Puts bytes into registers from this place on, as many as there is room for.
-fn put(registers: &mut Vec<u8>, from: usize, bytes: &[u8]) {
+/// Sets registers from this place on to these bytes, as many as there is room for.
+fn set(registers: &mut Vec<u8>, from: usize, bytes: &[u8]) {
     for (register, byte) in registers.iter_mut().skip(from).zip(bytes) {
         *register = *byte;
     }
 }
 
 /// Changes a stripe's registers as an operation does. A block has so many bytes.
-pub fn put_deed(op: &Op, block: usize, registers: &mut Vec<u8>) {
+pub(crate) fn change(op: Option<&Op>, block: usize, registers: &mut Vec<u8>) {
     match op {
-        Op::WriteBlock(j, bytes) => {
+        Some(Op::WriteBlock(j, bytes)) => {
             let from = usize::from(*j).saturating_mul(block);
-            put(registers, from, bytes.as_slice());
+            set(registers, from, bytes.as_slice());
         }
-        Op::WriteStripe(bytes) => put(registers, 0, bytes.as_slice()),
-        Op::ReadBlock(_) | Op::ReadStripe => {}
+        Some(Op::WriteStripe(bytes)) => set(registers, 0, bytes.as_slice()),
+        _ => {}
     }
 }

@@ -1,33 +1,25 @@
 //! A run as a picture: a lane for each brick, an arrow for each message, a bar for each operation, and a lane for each stripe.
 
 use crate::accounts::{Account, Fate, is_up, packet_at};
-use crate::deeds::{Deed, Reached, answer_of, op_of, put_deed};
+use crate::deeds::{answer_of, change, op_of};
+use crate::figures::{
+    LANE, NAMES, draw_answer, draw_bar, draw_delivery, draw_happening, draw_lanes, draw_names,
+    draw_power, draw_sent, draw_stripe, draw_stub, draw_title, lane_of,
+};
 use crate::journals::{Journal, Operation};
-use crate::packets::{Hex, kind_of, word_of};
-use crate::pictures::{Picture, left_of};
-use fab_base::{Answer, BrickId, GroupId, NoMem, StripeNo};
+use crate::pictures::Picture;
+use crate::texts::Text;
+use fab_base::{BrickId, GroupId, NoMem, StripeNo};
+use layout::Layout;
 use messages::Packet;
 use reg_model::{Happening, Mark};
 use std::alloc::Global;
 use world::World;
 
-/// How far the names stand from the left.
-const NAMES: u64 = 8;
-
-/// How far the lines of the schedule are from the top.
-const HEADER: u64 = 44;
-
-/// How far the line of the first brick's lane is from the top.
-const BRICKS: u64 = 86;
-
-/// How high a lane is.
-const LANE: u64 = 66;
-
 /// How high a bar is, with the gap below it.
 const ROW: u64 = 19;
 
 /// A run that is drawn, a line of its schedule after another.
-#[derive(Drop)]
 pub struct Drawing {
     alloc: Global,
     picture: Picture,
@@ -39,16 +31,34 @@ pub struct Drawing {
     makers: Vec<usize>,
 }
 
-/// How far the line of a brick's lane is from the top.
-fn lane_of(brick: BrickId) -> u64 {
-    u64::from(brick.0)
-        .saturating_mul(LANE)
-        .saturating_add(BRICKS)
+impl Drop for Drawing {
+    fn drop(self) {
+        let Self {
+            alloc: _,
+            picture: _,
+            columns: _,
+            senders: _,
+            makers: _,
+        } = self;
+    }
 }
 
-/// Where a brick sends messages in a column.
-fn departure(column: usize, brick: BrickId) -> (u64, u64) {
-    (left_of(column).saturating_add(124), lane_of(brick))
+/// Whether the happening at this place is the last of its position.
+fn is_last(happenings: &[Happening], place: usize, position: u64) -> bool {
+    match happenings.get(place.saturating_add(1)) {
+        Some(next) => next.position != position,
+        None => true,
+    }
+}
+
+/// What a stripe's registers hold at first.
+fn first_registers(alloc: Global, layout: &Layout, group: GroupId) -> Result<Vec<u8>, NoMem> {
+    let blocks = match layout.group(group) {
+        Some(found) => usize::from(found.m()),
+        None => 0,
+    };
+    let count = blocks.saturating_mul(usize::from(layout.block()));
+    Ok(vec![in alloc; 0u8; count]?)
 }
 
 /// The column in which a message was sent, of those of a line from this one on: the last in which its sender was handed an earlier one.
@@ -104,30 +114,15 @@ impl Drawing {
     ) -> Result<(), NoMem> {
         let first = self.columns;
         self.columns = first.saturating_add(account.deliveries.len().max(1));
-        self.draw_title(world, number, content, first)?;
+        let bottom = lane_of(BrickId(world.layout().bricks()));
+        draw_title(&mut self.picture, number, content, first, bottom);
         self.add_marks(world, account.marks)?;
         self.add_messages(world, account, first)?;
         self.draw_deliveries(world, account, first);
-        self.draw_lanes(world, account.started, first);
-        Ok(())
-    }
-
-    /// Draws where a line begins: its number, and what stands on it.
-    fn draw_title(
-        &mut self,
-        world: &World,
-        number: u64,
-        content: &[u8],
-        column: usize,
-    ) -> Result<(), NoMem> {
-        let mut title = format!(in self.alloc; "{number} ")?.into_bytes();
-        title.extend_from_slice(content)?;
-        let x = left_of(column);
-        let bottom = lane_of(BrickId(world.layout().bricks()));
-        self.picture
-            .line("guide", false, (x, HEADER - 12), (x, bottom));
-        self.picture
-            .write_label(x.saturating_add(4), HEADER, title.as_slice());
+        draw_lanes(&mut self.picture, world, first, self.columns);
+        if let Some(brick) = account.started {
+            draw_power(&mut self.picture, "start", first, brick);
+        }
         Ok(())
     }
 
@@ -138,19 +133,10 @@ impl Drawing {
         for place in first..marks.len() {
             self.makers.push(column)?;
             if let Mark::Crash { brick, .. } = &marks[place] {
-                self.draw_power("stop", column, *brick);
+                draw_power(&mut self.picture, "stop", column, *brick);
             }
         }
         Ok(())
-    }
-
-    /// Draws a brick that starts, or stops.
-    fn draw_power(&mut self, word: &str, column: usize, brick: BrickId) {
-        let x = left_of(column).saturating_add(4);
-        let y = lane_of(brick);
-        self.picture.dot(word, x, y);
-        self.picture
-            .label(x.saturating_add(6), y.saturating_add(26), word);
     }
 
     /// Notes where the messages of a line were sent, and draws how many.
@@ -170,89 +156,39 @@ impl Drawing {
         for place in account.sent..sent.len() {
             let sender = self.senders.get(place).copied();
             if self.senders.get(place.saturating_add(1)).copied() != sender {
-                self.draw_sent(&sent[place], first, place, sender.unwrap_or(column));
+                let column = sender.unwrap_or(column);
+                draw_sent(&mut self.picture, &sent[place], first, place, column);
                 first = place.saturating_add(1);
             }
         }
         Ok(())
     }
 
-    /// Draws that messages were sent, from one place to another among all, the last of which is this.
-    fn draw_sent(&mut self, packet: &Packet, first: usize, last: usize, column: usize) {
-        let word = word_of(&packet.message);
-        let x = left_of(column).saturating_add(10);
-        let y = lane_of(packet.from).saturating_add(14);
-        let number = (last as u64).saturating_add(1);
-        if first == last {
-            self.picture.label(x, y, format_args!("+#{number} {word}"));
-        } else {
-            let first = (first as u64).saturating_add(1);
-            self.picture
-                .label(x, y, format_args!("+#{first}-{number} {word}"));
-        }
-    }
-
     /// Draws the messages that a line was to deliver.
     fn draw_deliveries(&mut self, world: &World, account: &Account, first: usize) {
         for (place, (number, fate)) in account.deliveries.iter().enumerate() {
             if let Some(packet) = packet_at(world, *number) {
+                let column = first.saturating_add(place);
+                let sent = (*number as usize).wrapping_sub(1);
+                let sender = self.senders.get(sent).copied().unwrap_or(column);
                 let is_lost = matches!(fate, Fate::Down);
-                self.draw_delivery(packet, *number, is_lost, first.saturating_add(place));
+                let columns = (sender, column);
+                draw_delivery(&mut self.picture, packet, *number, is_lost, columns);
             }
-        }
-    }
-
-    /// Draws a message that was to be delivered in a column: an arrow from where it was sent.
-    fn draw_delivery(&mut self, packet: &Packet, number: u64, is_lost: bool, column: usize) {
-        let place = (number as usize).wrapping_sub(1);
-        let sender = self.senders.get(place).copied().unwrap_or(column);
-        let word = word_of(&packet.message);
-        let x = left_of(column).saturating_add(4);
-        let y = lane_of(packet.to);
-        let from = departure(sender, packet.from);
-        self.picture
-            .line(kind_of(&packet.message), is_lost, from, (x, y));
-        self.picture.label(
-            x.saturating_add(6),
-            y.saturating_sub(6),
-            format_args!("#{number} {word}"),
-        );
-    }
-
-    /// Draws the lanes of the bricks that are up, from a column on, and the brick that started there.
-    fn draw_lanes(&mut self, world: &World, started: Option<BrickId>, column: usize) {
-        let end = left_of(self.columns);
-        for number in 0..world.layout().bricks() {
-            let brick = BrickId(number);
-            if is_up(world, brick) {
-                let y = lane_of(brick);
-                self.picture
-                    .line("lane", false, (left_of(column), y), (end, y));
-            }
-        }
-        if let Some(brick) = started {
-            self.draw_power("start", column, brick);
         }
     }
 
     /// The picture of the run, as the text of an SVG document.
-    pub fn finish(mut self, world: &World, journal: &Journal) -> Result<String, NoMem> {
-        self.draw_names(world);
+    pub fn finish(mut self, world: &World, journal: &Journal) -> Result<Text, NoMem> {
+        draw_names(&mut self.picture, world.layout().bricks());
         self.draw_stubs(world);
         let mut y = self.draw_bars(world, journal)?;
         for (group, stripe) in journal.stripes() {
+            draw_stripe(&mut self.picture, *group, *stripe, y, self.columns);
             self.draw_course(world, journal, y, GroupId(*group), StripeNo(*stripe))?;
             y = y.saturating_add(LANE);
         }
         self.picture.text(self.columns, y)
-    }
-
-    /// Draws the names of the bricks.
-    fn draw_names(&mut self, world: &World) {
-        for number in 0..world.layout().bricks() {
-            let y = lane_of(BrickId(number)).saturating_add(4);
-            self.picture.label(NAMES, y, format_args!("brick {number}"));
-        }
     }
 
     /// Draws the messages that were never delivered.
@@ -261,24 +197,14 @@ impl Drawing {
             let number = (place as u64).saturating_add(1);
             let sender = self.senders.get(place).copied();
             if let (Some(sender), false) = (sender, world.was_delivered(number)) {
-                self.draw_stub(packet, sender);
+                draw_stub(&mut self.picture, packet, sender);
             }
         }
     }
 
-    /// Draws a message that was never delivered as a stub, up or down as its receiver is.
-    fn draw_stub(&mut self, packet: &Packet, sender: usize) {
-        let (x, y) = departure(sender, packet.from);
-        let lanes = u64::from(packet.to.0.abs_diff(packet.from.0).min(3));
-        let rise = lanes.saturating_mul(6);
-        let end = if packet.to.0 < packet.from.0 {
-            y.saturating_sub(rise)
-        } else {
-            y.saturating_add(rise)
-        };
-        let kind = kind_of(&packet.message);
-        self.picture
-            .line(kind, true, (x, y), (x.saturating_add(16), end));
+    /// The column in which an operation ended. None where it did not, or is past what is drawn.
+    fn end_of(&self, operation: &Operation) -> Option<usize> {
+        self.makers.get(operation.end?).copied()
     }
 
     /// Draws the operations below the bricks, and answers where the first stripe's lane is.
@@ -287,17 +213,16 @@ impl Drawing {
         let mut ends = Vec::new(self.alloc);
         for (place, operation) in journal.operations().iter().enumerate() {
             if let Some(first) = self.makers.get(operation.begin).copied() {
-                let end = match operation.end {
-                    Some(mark) => self.makers.get(mark).copied(),
-                    None => None,
-                };
+                let end = self.end_of(operation);
                 let last = end.unwrap_or(self.columns.saturating_sub(1));
                 let row = take_row(&mut ends, first, last)?;
                 let y = row.saturating_mul(ROW).saturating_add(top);
                 let number = (place as u64).saturating_add(1);
-                self.draw_bar(world, number, operation, (first, last), y);
+                let answer = answer_of(world, operation);
+                let op = op_of(world, operation);
+                draw_bar(&mut self.picture, number, op, answer, (first, last), y);
                 if first < last && end.is_some() {
-                    self.draw_answer(world, operation, last, y);
+                    draw_answer(&mut self.picture, answer, last, y);
                 }
             }
         }
@@ -305,41 +230,7 @@ impl Drawing {
         Ok(rows.saturating_add(top).saturating_add(30))
     }
 
-    /// Draws an operation over the columns from one to another.
-    fn draw_bar(
-        &mut self,
-        world: &World,
-        number: u64,
-        operation: &Operation,
-        columns: (usize, usize),
-        y: u64,
-    ) {
-        let (first, last) = columns;
-        let class = match answer_of(world, operation) {
-            Some(Answer::Data(_) | Answer::Done) => "done",
-            _ => "undone",
-        };
-        self.picture.bar(class, first, last, y);
-        if let Some(op) = op_of(world, operation) {
-            self.picture.label(
-                left_of(first).saturating_add(6),
-                y.saturating_add(11),
-                format_args!("{number} {}", Deed(op)),
-            );
-        }
-    }
-
-    /// Writes how an operation ended, in the last column of its bar.
-    fn draw_answer(&mut self, world: &World, operation: &Operation, column: usize, y: u64) {
-        let x = left_of(column).saturating_add(6);
-        let y = y.saturating_add(11);
-        match answer_of(world, operation) {
-            Some(answer) => self.picture.label(x, y, Reached(answer)),
-            None => self.picture.label(x, y, "cut off"),
-        }
-    }
-
-    /// Draws the lane of a stripe: what its registers hold at first, and from each happening on.
+    /// Draws what a stripe's registers hold at first, and from each happening on.
     fn draw_course(
         &mut self,
         world: &World,
@@ -348,23 +239,12 @@ impl Drawing {
         group: GroupId,
         stripe: StripeNo,
     ) -> Result<(), NoMem> {
-        self.picture.label(
-            NAMES,
-            y.saturating_sub(6),
-            format_args!("stripe {} {}", group.0, stripe.0),
-        );
-        self.picture
-            .line("lane", false, (left_of(0), y), (left_of(self.columns), y));
-        let block = usize::from(world.layout().block());
-        let blocks = match world.layout().group(group) {
-            Some(found) => usize::from(found.m()),
-            None => 0,
-        };
-        let mut registers = vec![in self.alloc; 0u8; blocks.saturating_mul(block)]?;
-        self.picture
-            .label(NAMES, y.saturating_add(14), Hex(registers.as_slice()));
+        let mut registers = first_registers(self.alloc, world.layout(), group)?;
+        self.picture.name.put_hex(registers.as_slice());
+        self.picture.label(NAMES, y.saturating_add(14), "", &[]);
         let happenings = world.happenings(group, stripe)?;
-        self.draw_happenings(world, journal, y, &mut registers, happenings.as_slice())
+        self.draw_happenings(world, journal, y, &mut registers, happenings.as_slice());
+        Ok(())
     }
 
     /// Draws a stripe's happenings, which change what its registers hold.
@@ -375,43 +255,22 @@ impl Drawing {
         y: u64,
         registers: &mut Vec<u8>,
         happenings: &[Happening],
-    ) -> Result<(), NoMem> {
+    ) {
         let block = usize::from(world.layout().block());
-        let mut operations = String::new(self.alloc);
+        self.picture.name.put("op");
         for (place, happening) in happenings.iter().enumerate() {
             let number = happening.operation;
-            write!(operations, " {number}")?;
+            let position = happening.position;
+            self.picture.name.fill(" %", &[number]);
             if let Some(operation) = journal.operation(number) {
-                if let Some(op) = op_of(world, operation) {
-                    put_deed(op, block, registers);
-                }
+                change(op_of(world, operation), block, registers);
             }
-            let is_last = match happenings.get(place.saturating_add(1)) {
-                Some(next) => next.position != happening.position,
-                None => true,
-            };
-            if is_last {
-                self.draw_happening(
-                    happening.position,
-                    y,
-                    operations.as_str(),
-                    registers.as_slice(),
-                );
-                operations.clear();
+            if is_last(happenings, place, position) {
+                let column = self.makers.get(position as usize).copied();
+                draw_happening(&mut self.picture, column, y, registers.as_slice());
+                self.picture.name.put("op");
             }
         }
-        Ok(())
-    }
-
-    /// Draws that operations happened at a mark, and what a stripe's registers hold from there on.
-    fn draw_happening(&mut self, mark: u64, y: u64, operations: &str, registers: &[u8]) {
-        if let Some(column) = self.makers.get(mark as usize).copied() {
-            let x = left_of(column).saturating_add(4);
-            self.picture.dot("happening", x, y);
-            let x = x.saturating_add(6);
-            self.picture
-                .label(x, y.saturating_sub(6), format_args!("op{operations}"));
-            self.picture.label(x, y.saturating_add(14), Hex(registers));
-        }
+        self.picture.name.clear();
     }
 }

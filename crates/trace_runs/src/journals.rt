@@ -9,7 +9,7 @@ use std::collections::{BTreeMap, BTreeSet};
 use world::World;
 
 /// What is known of an operation.
-#[derive(Drop)]
+#[derive(Clone, Copy)]
 pub struct Operation {
     /// Its coordinator.
     pub brick: BrickId,
@@ -17,18 +17,14 @@ pub struct Operation {
     pub begin: usize,
     /// The place among all marks of its End, or of the Crash that cut it off.
     pub end: Option<usize>,
-    /// The numbers of its messages, in the order of sending.
-    pub messages: Vec<u64>,
+    /// How many messages had been sent before it began.
+    sent: usize,
     /// The number of its newest phase.
     phase: u32,
-    /// The bricks whose replies in that phase were delivered.
-    replied: Vec<BrickId>,
 }
 
 /// What is known of the operations of a run.
-#[derive(Drop)]
 pub struct Journal {
-    alloc: Global,
     /// The operations by number, from 1.
     operations: Vec<Operation>,
     /// How many had begun when each brick stopped the last time: of those its own have ended.
@@ -41,6 +37,22 @@ pub struct Journal {
     nameless: Option<u64>,
     /// The numbers of the messages that were delivered to a brick that was up.
     delivered: BTreeSet<u64>,
+    /// The replies that were counted, by operation, phase and brick.
+    counted: BTreeSet<(u64, u32, u16)>,
+}
+
+impl Drop for Journal {
+    fn drop(self) {
+        let Self {
+            operations: _,
+            stopped: _,
+            numbers: _,
+            stripes: _,
+            nameless: _,
+            delivered: _,
+            counted: _,
+        } = self;
+    }
 }
 
 /// The coordinator and the call that a message is of. None where it is of no operation.
@@ -61,13 +73,13 @@ impl Journal {
     /// Nothing happened yet.
     pub fn new(alloc: Global) -> Journal {
         Journal {
-            alloc,
             operations: Vec::new(alloc),
             stopped: BTreeMap::new(alloc),
             numbers: BTreeMap::new(alloc),
             stripes: BTreeSet::new(alloc),
             nameless: None,
             delivered: BTreeSet::new(alloc),
+            counted: BTreeSet::new(alloc),
         }
     }
 
@@ -103,13 +115,13 @@ impl Journal {
             Message::Request(_, Request::Collect { .. }) => return Ok(Fate::Told),
             _ => return Ok(Fate::Ignored),
         };
-        let operation = self.operation_of(packet).unwrap_or(0);
-        if let Some(operation) = operation_at(&mut self.operations, operation) {
-            let is_due = operation.end.is_none() && call.phase == operation.phase;
-            if is_due && !operation.replied.contains(&packet.from) {
-                operation.replied.push(packet.from)?;
-                return Ok(Fate::Counted);
-            }
+        let number = self.operation_of(packet).unwrap_or(0);
+        let is_due = match self.operation(number) {
+            Some(operation) => operation.end.is_none() && call.phase == operation.phase,
+            None => false,
+        };
+        if is_due && self.counted.insert((number, call.phase, packet.from.0))? {
+            return Ok(Fate::Counted);
         }
         Ok(Fate::NotCounted)
     }
@@ -121,11 +133,16 @@ impl Journal {
         operation: u64,
         deliveries: &mut Vec<(u64, Fate)>,
     ) -> Result<(), NoMem> {
-        if let Some(operation) = operation_at(&mut self.operations, operation) {
-            for number in &operation.messages {
-                if world.was_delivered(*number) && self.delivered.insert(*number)? {
-                    deliveries.push((*number, Fate::Told))?;
-                }
+        let sent = world.sent();
+        let first = match self.operation(operation) {
+            Some(found) => found.sent,
+            None => sent.len(),
+        };
+        for place in first..sent.len() {
+            let number = (place as u64).saturating_add(1);
+            let is_own = self.operation_of(&sent[place]) == Some(operation);
+            if is_own && world.was_delivered(number) && self.delivered.insert(number)? {
+                deliveries.push((number, Fate::Told))?;
             }
         }
         Ok(())
@@ -135,17 +152,17 @@ impl Journal {
     pub fn note_line(&mut self, world: &World, marks: usize, sent: usize) -> Result<(), NoMem> {
         let all = world.marks();
         for place in marks..all.len() {
-            self.note_mark(place, &all[place])?;
+            self.note_mark(place, &all[place], sent)?;
         }
         let all = world.sent();
         for place in sent..all.len() {
-            self.note_sent((place as u64).saturating_add(1), &all[place])?;
+            self.note_sent(&all[place])?;
         }
         Ok(())
     }
 
-    /// Notes the mark at this place.
-    fn note_mark(&mut self, place: usize, mark: &Mark) -> Result<(), NoMem> {
+    /// Notes the mark at this place, made by a line before which so many messages had been sent.
+    fn note_mark(&mut self, place: usize, mark: &Mark, sent: usize) -> Result<(), NoMem> {
         match mark {
             Mark::Begin {
                 operation,
@@ -153,37 +170,41 @@ impl Journal {
                 ask,
                 ..
             } => {
-                self.stripes.insert((ask.group.0, ask.stripe.0))?;
+                self.nameless = Some(*operation);
                 self.operations.push(Operation {
                     brick: *brick,
                     begin: place,
                     end: None,
-                    messages: Vec::new(self.alloc),
+                    sent,
                     phase: 0,
-                    replied: Vec::new(self.alloc),
                 })?;
-                self.nameless = Some(*operation);
+                self.stripes.insert((ask.group.0, ask.stripe.0))?;
+                Ok(())
             }
             Mark::End { operation, .. } => {
                 if let Some(operation) = operation_at(&mut self.operations, *operation) {
                     operation.end = Some(place);
                 }
+                Ok(())
             }
-            Mark::Crash { brick, .. } => {
-                let first = self.stopped.get(&brick.0).copied().unwrap_or(0);
-                for operation in self.operations.iter_mut().skip(first) {
-                    if operation.brick == *brick && operation.end.is_none() {
-                        operation.end = Some(place);
-                    }
-                }
-                self.stopped.insert(brick.0, self.operations.len())?;
+            Mark::Crash { brick, .. } => self.note_crash(place, *brick),
+        }
+    }
+
+    /// Notes that a brick stopped, at the mark at this place: its operations that were open are cut off.
+    fn note_crash(&mut self, place: usize, brick: BrickId) -> Result<(), NoMem> {
+        let first = self.stopped.get(&brick.0).copied().unwrap_or(0);
+        for operation in self.operations.iter_mut().skip(first) {
+            if operation.brick == brick && operation.end.is_none() {
+                operation.end = Some(place);
             }
         }
+        self.stopped.insert(brick.0, self.operations.len())?;
         Ok(())
     }
 
-    /// Notes the message of this number, which was sent. A later phase begins without a reply.
-    fn note_sent(&mut self, number: u64, packet: &Packet) -> Result<(), NoMem> {
+    /// Notes a message that was sent.
+    fn note_sent(&mut self, packet: &Packet) -> Result<(), NoMem> {
         let Some((coordinator, call)) = call_of(packet) else {
             return Ok(());
         };
@@ -193,11 +214,7 @@ impl Journal {
         }
         let operation = self.operation_of(packet).unwrap_or(0);
         if let Some(operation) = operation_at(&mut self.operations, operation) {
-            operation.messages.push(number)?;
-            if call.phase > operation.phase {
-                operation.phase = call.phase;
-                operation.replied.clear();
-            }
+            operation.phase = operation.phase.max(call.phase);
         }
         Ok(())
     }

@@ -6,6 +6,7 @@
 mod accounts;
 mod deeds;
 mod drawing;
+mod figures;
 mod journals;
 mod packets;
 mod pictures;
@@ -13,9 +14,9 @@ mod taking;
 mod texts;
 
 pub use accounts::{Account, Fate, Stop, is_up, packet_at};
-pub use deeds::{Deed, Reached, answer_of, op_of};
+pub use deeds::{answer_of, op_of, put_answer, put_op};
 pub use drawing::Drawing;
 pub use journals::{Journal, Operation};
-pub use packets::{Hex, put_message};
+pub use packets::put_message;
 pub use taking::{Taken, take_line};
 pub use texts::Text;

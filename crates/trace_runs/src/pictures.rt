@@ -1,12 +1,8 @@
 //! A picture in SVG 1.1. All places are in pixels, from the upper left corner.
 
-use crate::texts::Text;
+use crate::texts::{CHARACTERS, Text};
 use fab_base::NoMem;
 use std::alloc::Global;
-use std::fmt;
-
-/// The most characters of a label.
-const CHARACTERS: usize = 20;
 
 /// How wide a character is drawn at most.
 const CHARACTER: u64 = 7;
@@ -57,12 +53,32 @@ const LEGEND: &str =
 <line class=\"refusal\" x1=\"508\" y1=\"14\" x2=\"530\" y2=\"14\"/><text x=\"536\" y=\"18\">refusal</text>
 ";
 
+/// What stands at the front of a picture of this width and height.
+const FRONT: &str = "<?xml version=\"1.0\" encoding=\"UTF-8\"?>
+<svg xmlns=\"http://www.w3.org/2000/svg\" version=\"1.1\" width=\"%\" height=\"%\" viewBox=\"0 0 % %\" font-family=\"monospace\" font-size=\"11\">
+";
+
+/// What is drawn below all else.
+const GROUND: &str = "<rect width=\"100%\" height=\"100%\" fill=\"#FFFFFF\"/>\n";
+
 /// A picture.
-#[derive(Drop)]
 pub(crate) struct Picture {
     alloc: Global,
     shapes: Text,
     labels: Text,
+    /// What the next label says.
+    pub(crate) name: Text,
+}
+
+impl Drop for Picture {
+    fn drop(self) {
+        let Self {
+            alloc: _,
+            shapes: _,
+            labels: _,
+            name: _,
+        } = self;
+    }
 }
 
 /// The left end of a column.
@@ -72,23 +88,6 @@ pub(crate) fn left_of(column: usize) -> u64 {
         .saturating_add(MARGIN)
 }
 
-/// A text as it is shown: its first characters, with `?` for what is no printable ASCII or has a meaning in SVG.
-#[derive(Drop)]
-struct Shown<'a>(&'a [u8]);
-
-impl<'a> fmt::Display for Shown<'a> {
-    fn fmt<W: fmt::Write>(&self, f: &mut fmt::Formatter<W>) -> fmt::Result {
-        for byte in self.0.iter().take(CHARACTERS) {
-            f.write_char(match byte {
-                b'<' | b'>' | b'&' | b'"' => '?',
-                b' '..=b'~' => char::from(*byte),
-                _ => '?',
-            })?;
-        }
-        Ok(())
-    }
-}
-
 impl Picture {
     /// Nothing is drawn yet.
     pub(crate) fn new(alloc: Global) -> Picture {
@@ -96,59 +95,68 @@ impl Picture {
             alloc,
             shapes: Text::new(alloc),
             labels: Text::new(alloc),
+            name: Text::new(alloc),
         }
     }
 
-    /// Draws a line, dashed or not.
-    pub(crate) fn line(&mut self, class: &str, is_dashed: bool, from: (u64, u64), to: (u64, u64)) {
+    /// Draws a line of a class, of two where it is lost, from one place to another.
+    pub(crate) fn line(&mut self, class: &str, is_lost: bool, from: (u64, u64), to: (u64, u64)) {
         let ((x1, y1), (x2, y2)) = (from, to);
-        let dash = if is_dashed { " lost" } else { "" };
-        self.shapes.put(format_args!(
-            "<line class=\"{class}{dash}\" x1=\"{x1}\" y1=\"{y1}\" x2=\"{x2}\" y2=\"{y2}\"/>\n"
-        ));
+        self.shapes.put("<line class=\"");
+        self.shapes.put(class);
+        self.shapes.put(if is_lost { " lost" } else { "" });
+        self.shapes.fill(
+            "\" x1=\"%\" y1=\"%\" x2=\"%\" y2=\"%\"/>\n",
+            &[x1, y1, x2, y2],
+        );
     }
 
     /// Draws a bar over the columns from one to another.
     pub(crate) fn bar(&mut self, class: &str, first: usize, last: usize, y: u64) {
         let x = left_of(first).saturating_add(2);
         let width = left_of(last).saturating_add(COLUMN - 2).saturating_sub(x);
-        self.shapes.put(format_args!(
-            "<rect class=\"{class}\" x=\"{x}\" y=\"{y}\" width=\"{width}\" height=\"16\" rx=\"4\"/>\n"
-        ));
+        self.shapes.put("<rect class=\"");
+        self.shapes.put(class);
+        self.shapes.fill(
+            "\" x=\"%\" y=\"%\" width=\"%\" height=\"16\" rx=\"4\"/>\n",
+            &[x, y, width],
+        );
     }
 
     /// Draws a moment.
     pub(crate) fn dot(&mut self, class: &str, x: u64, y: u64) {
-        self.shapes.put(format_args!(
-            "<circle class=\"{class}\" cx=\"{x}\" cy=\"{y}\" r=\"4\"/>\n"
-        ));
+        self.shapes.put("<circle class=\"");
+        self.shapes.put(class);
+        self.shapes
+            .fill("\" cx=\"%\" cy=\"%\" r=\"4\"/>\n", &[x, y]);
     }
 
-    /// Writes a label, of 20 characters at most, which begins at a place of its line.
-    pub(crate) fn label<D: fmt::Display + Drop>(&mut self, x: u64, y: u64, text: D) {
-        match format!(in self.alloc; "{text}") {
-            Ok(text) => self.write_label(x, y, text.as_bytes()),
-            Err(_) => self.labels.lose(),
-        }
-    }
-
-    /// Writes a label of these bytes.
-    pub(crate) fn write_label(&mut self, x: u64, y: u64, text: &[u8]) {
-        let top = y.saturating_sub(9);
-        let width = (text.len().min(CHARACTERS) as u64).saturating_mul(CHARACTER);
-        let shown = Shown(text);
-        self.labels.put(format_args!(
-            "<rect class=\"ground\" x=\"{x}\" y=\"{top}\" width=\"{width}\" height=\"12\"/><text x=\"{x}\" y=\"{y}\">{shown}</text>\n"
-        ));
+    /// Writes a form, with a number in place of each `%`, behind what the next label says already, as that label.
+    pub(crate) fn label(&mut self, x: u64, y: u64, form: &str, numbers: &[u64]) {
+        self.name.fill(form, numbers);
+        let name = self.name.pieces().as_bytes();
+        let width = (name.len().min(CHARACTERS) as u64).saturating_mul(CHARACTER);
+        self.labels.fill(
+            "<rect class=\"ground\" x=\"%\" y=\"%\" width=\"%\" height=\"12\"/><text x=\"%\" y=\"%\">",
+            &[x, y.saturating_sub(9), width, x, y],
+        );
+        self.labels.put_label(name);
+        self.labels.put("</text>\n");
+        self.name.clear();
     }
 
     /// The text of the picture, up to the end of so many columns and down to a place.
-    pub(crate) fn text(&self, columns: usize, height: u64) -> Result<String, NoMem> {
+    pub(crate) fn text(&self, columns: usize, height: u64) -> Result<Text, NoMem> {
         let width = left_of(columns).max(640);
-        let shapes = self.shapes.whole()?;
-        let labels = self.labels.whole()?;
-        Ok(format!(in self.alloc;
-            "<?xml version=\"1.0\" encoding=\"UTF-8\"?>\n<svg xmlns=\"http://www.w3.org/2000/svg\" version=\"1.1\" width=\"{width}\" height=\"{height}\" viewBox=\"0 0 {width} {height}\" font-family=\"monospace\" font-size=\"11\">\n{STYLE}<rect width=\"100%\" height=\"100%\" fill=\"#FFFFFF\"/>\n{LEGEND}{shapes}{labels}</svg>\n"
-        )?)
+        self.name.whole()?;
+        let mut text = Text::new(self.alloc);
+        text.fill(FRONT, &[width, height, width, height]);
+        text.put(STYLE);
+        text.put(GROUND);
+        text.put(LEGEND);
+        text.put(self.shapes.whole()?);
+        text.put(self.labels.whole()?);
+        text.put("</svg>\n");
+        Ok(text)
     }
 }

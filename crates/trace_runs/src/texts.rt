@@ -1,14 +1,27 @@
 //! Texts that are made piece by piece.
 
-use fab_base::NoMem;
+use fab_base::{NoMem, Stamp};
 use std::alloc::Global;
-use std::fmt;
+
+/// The most bytes of a block that are shown.
+const SHOWN_BYTES: usize = 8;
+
+/// The most characters of a label.
+pub(crate) const CHARACTERS: usize = 20;
 
 /// A text that is being made. Where a piece found no memory it is missing, and the text is never whole.
-#[derive(Drop)]
 pub struct Text {
     text: String,
     has_gap: bool,
+}
+
+impl Drop for Text {
+    fn drop(self) {
+        let Self {
+            text: _,
+            has_gap: _,
+        } = self;
+    }
 }
 
 impl Text {
@@ -21,20 +34,78 @@ impl Text {
     }
 
     /// Adds a piece.
-    pub fn put<D: fmt::Display + Drop>(&mut self, piece: D) {
-        if write!(self.text, "{piece}").is_err() {
+    pub fn put(&mut self, piece: &str) {
+        if self.text.push_str(piece).is_err() {
             self.has_gap = true;
         }
     }
 
-    /// Says that a piece is missing.
-    pub(crate) fn lose(&mut self) {
-        self.has_gap = true;
+    /// Adds a number.
+    fn put_number(&mut self, number: u64) {
+        if write!(self.text, "{number}").is_err() {
+            self.has_gap = true;
+        }
     }
 
-    /// Adds a name and a value, each behind a space.
-    pub fn put_part<D: fmt::Display + Drop>(&mut self, name: &str, value: D) {
-        self.put(format_args!(" {name} {value}"));
+    /// Adds a form, with a number in place of each `%`.
+    pub fn fill(&mut self, form: &str, numbers: &[u64]) {
+        let mut numbers = numbers.iter();
+        for piece in form.split('%') {
+            self.put(piece);
+            if let Some(number) = numbers.next() {
+                self.put_number(*number);
+            }
+        }
+    }
+
+    /// Adds a name and a stamp.
+    pub fn put_stamp(&mut self, name: &str, stamp: Stamp) {
+        self.put(name);
+        let numbers = [
+            stamp.view.0.into(),
+            stamp.time,
+            stamp.brick.0.into(),
+            stamp.boot.into(),
+        ];
+        self.fill("%.%.%.%", &numbers);
+    }
+
+    /// Adds bytes in hex, the first 8 of them alone where there are more.
+    pub fn put_hex(&mut self, bytes: &[u8]) {
+        for byte in bytes.iter().take(SHOWN_BYTES) {
+            if write!(self.text, "{byte:02x}").is_err() {
+                self.has_gap = true;
+            }
+        }
+        self.put(match bytes.len() {
+            0 => "none",
+            1..=SHOWN_BYTES => "",
+            _ => "..",
+        });
+    }
+
+    /// Adds the first characters of a label, with `?` for what is no printable ASCII or has a meaning in SVG.
+    pub(crate) fn put_label(&mut self, label: &[u8]) {
+        for byte in label.iter().take(CHARACTERS) {
+            let shown = match byte {
+                b'<' | b'>' | b'&' | b'"' => '?',
+                b' '..=b'~' => char::from(*byte),
+                _ => '?',
+            };
+            if self.text.push(shown).is_err() {
+                self.has_gap = true;
+            }
+        }
+    }
+
+    /// Takes all pieces away. A gap stays noted.
+    pub(crate) fn clear(&mut self) {
+        self.text.clear();
+    }
+
+    /// The pieces, but those that found no memory.
+    pub(crate) fn pieces(&self) -> &str {
+        self.text.as_str()
     }
 
     /// All pieces. `NoMemory` where one is missing.
