@@ -12,7 +12,7 @@ use std::{env, io};
 
 fn main(rt: HostRuntime) -> ExitCode {
     let mut out = StdSink::new(io::writer(&rt));
-    let Ok(input) = BufReader::new(rt.alloc(), rt.reader()) else {
+    let Ok(input) = BufReader::with_capacity(rt.alloc(), READ_AHEAD, rt.reader()) else {
         return ExitCode::from(NO_MEMORY);
     };
     let Ok(mut host) = OsHost::new(rt.alloc(), &rt, BufferedSource::new(input)) else {
@@ -28,6 +28,9 @@ fn main(rt: HostRuntime) -> ExitCode {
     };
     ExitCode::from(status)
 }
+
+/// How many bytes of standard input are read at once: as many as a command of `brick local` may have.
+const READ_AHEAD: usize = 70_000;
 
 /// The status of a run that finds no memory, as `brick` answers it.
 const NO_MEMORY: u8 = 7;

@@ -1,4 +1,5 @@
 pub mod Exits
+mod Splits
 pub mod CommandLines
 pub mod Names
 pub mod Wanting

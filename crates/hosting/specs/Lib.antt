@@ -7,3 +7,4 @@ pub mod Rounds
 pub mod Reading
 pub mod Hosting
 pub mod Hosted
+pub mod Splits
