@@ -1,7 +1,7 @@
 //! A line of a schedule that is run, with what it did.
 
 ghost use Rattle.std.specs.Prelude.{IfOk};
-ghost use Rattle.trace_runs.specs.Taking.{TakesLine};
+ghost use Rattle.trace_runs.specs.Taking.{StepsTo, TakesLine};
 
 use crate::accounts::Account;
 use crate::journals::Journal;
@@ -26,6 +26,17 @@ impl Drop for Taken {
     }
 }
 
+/// Runs a line, and answers what `replay` prints for it. None where it is no line.
+fn step(world: &mut World, content: &[u8]) -> Result<Option<Bytes>, NoMem>
+    ensures { IfOk result (StepsTo world.old world.new content.now) }
+{
+    match world.step(content) {
+        Ok(printed) => Ok(Some(printed)),
+        Err(StepFault::BadLine) => Ok(None),
+        Err(StepFault::NoMemory) => Err(NoMem::NoMemory),
+    }
+}
+
 /// Runs a line, and answers what it did. None where it is no line.
 pub fn take_line(
     alloc: Global,
@@ -36,13 +47,12 @@ pub fn take_line(
     ensures { IfOk result (TakesLine world.old world.new content.now) }
 {
     let mut account = Account::new(alloc, world);
-    match world.step(content) {
-        Ok(printed) => {
+    match step(world, content)? {
+        Some(printed) => {
             let is_idle = printed.as_slice() == b"idle\n".as_slice();
             account.note(alloc, world, journal, content, is_idle)?;
             Ok(Some(Taken { account, printed }))
         }
-        Err(StepFault::BadLine) => Ok(None),
-        Err(StepFault::NoMemory) => Err(NoMem::NoMemory),
+        None => Ok(None),
     }
 }
