@@ -20,3 +20,9 @@ returns-clause-bricks g c =
     (ap (λ (h : Hosting g.row.D.Denot g.row.L.Denot). h.bricks) (sym c.self.view_is) ∙ c.pop.ensures.items
     ∙ ap (λ (o : Option (Hosted g.row.D.Denot g.row.L.Denot)). c.pop.new.self.items ++ option_to_list o) c.in_ok-brick.was)
     (ap Some c.into_parts.ensures)
+
+pub returns-in_err-brick-clause-room : goal.returns-in_err-brick-clause-room
+returns-in_err-brick-clause-room g c = c.pop.ensures.capacity ∙ ap (λ (h : Hosting g.row.D.Denot g.row.L.Denot). h.room) c.self.view_is
+
+pub returns-clause-room : goal.returns-clause-room
+returns-clause-room g c = c.pop.ensures.capacity ∙ ap (λ (h : Hosting g.row.D.Denot g.row.L.Denot). h.room) c.self.view_is

@@ -27,3 +27,9 @@ returns-clause-turns g c =
     (subst (λ (bs : List (Hosted g.row.D.Denot g.row.L.Denot)). MatchResult c.take_turns.result
     (λ _. TakeTurns g.D.Disk g.L.Link g.C.Clock bs after old new)
     (λ fault. StopTurns g.D.Disk g.L.Link g.C.Clock fault bs after old new)) c.as_mut_slice.ensures.value c.take_turns.ensures))
+
+pub returns-clause-room : goal.returns-clause-room
+returns-clause-room g c = ap (λ (h : Hosting g.row.D.Denot g.row.L.Denot). h.room) c.self.view_is
+
+pub take_turns-requires : goal.take_turns-requires
+take_turns-requires g c = ap length c.as_mut_slice-2.ensures.value ∙ c.self.invariant
