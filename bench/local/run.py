@@ -6,18 +6,21 @@
 PROGRAM is the program `brick`. The stores lie in FOLDER, a new folder of /dev/shm where it isn't given: a memory file system, so that the
 syncs of a disk are not what is measured. There lie also the commands, which the program reads from a file, and its answers, which it writes to
 one: with pipes, what is measured would be in part how fast this harness fills and empties them. The answers are checked afterwards. For each
-layout it writes and reads whole stripes, then sends datagrams of the same number and sizes over a bare UDP socket, and prints both rates, their
-ratio, and the ratio of the processor times, which other work on the machine hardly changes. The project asks for at least a fifth.
+layout it writes and reads whole stripes, and sends datagrams of the same number and sizes over a bare UDP socket, in turn, five times, and prints
+the median of both rates, their ratio, and the ratio of the median processor times, which other work on the machine hardly changes. The project asks
+for at least a fifth.
 """
 
 import os
 import resource
+import statistics
 import subprocess
 import sys
 import tempfile
 import time
 
 OPERATIONS = 2000
+ROUNDS = 5
 HEAD = 6
 CALL, STAMP = 28, 18
 CLIENT, REPLY = HEAD + 22, HEAD + 9
@@ -102,13 +105,16 @@ def main(words):
         for m, n in ((1, 3), (4, 6)):
             for block in (1024, 4096):
                 for write in (True, False):
-                    with tempfile.TemporaryDirectory(dir=words[1] if len(words) == 2 else "/dev/shm") as folder:
-                        ours, ours_processor = local(words[0], folder, write, m, n, block)
-                    datagrams = map(str, sizes(write, m, n, block))
-                    told, _, bare_processor = run_timed([echo, str(OPERATIONS), *datagrams], text=True, stdout=subprocess.PIPE, check=True)
-                    bare = float(told.stdout)
-                    print(f"{'write' if write else 'read'} {m} {n} {block} | {OPERATIONS / ours:.0f} | {OPERATIONS / bare:.0f} | {bare / ours:.2f}"
-                          f" | {bare_processor / ours_processor:.2f}")
+                    datagrams = [str(size) for size in sizes(write, m, n, block)]
+                    ours, bare = [], []
+                    for _ in range(ROUNDS):
+                        with tempfile.TemporaryDirectory(dir=words[1] if len(words) == 2 else "/dev/shm") as folder:
+                            ours.append(local(words[0], folder, write, m, n, block))
+                        told, _, processor = run_timed([echo, str(OPERATIONS), *datagrams], text=True, stdout=subprocess.PIPE, check=True)
+                        bare.append((float(told.stdout), processor))
+                    (wall, busy), (bare_wall, bare_busy) = (map(statistics.median, zip(*them)) for them in (ours, bare))
+                    print(f"{'write' if write else 'read'} {m} {n} {block} | {OPERATIONS / wall:.0f} | {OPERATIONS / bare_wall:.0f} | {bare_wall / wall:.2f}"
+                          f" | {bare_busy / busy:.2f}")
     return 0
 
 

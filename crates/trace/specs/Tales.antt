@@ -66,10 +66,13 @@ Tells source old new ending = TellsRun source old new ending ⊎ TellsNothing ol
 abbrev pub IsSolid : List ℕ → Type 0
 IsSolid text = 32 < slice_index text 0
 
+-- the disk of a layout, over which nothing was run yet
+abbrev pub IsNew : Layout → Run → Type 0
+IsNew layout world = (world ≡ record { layout = layout; steps = []; disks = world.disks }) × ShowsDisks world
+
 -- a layout's text was read, and nothing was run over its disk yet; or it is none
 abbrev pub OpensLayout : List ℕ → Opening → Type 0
-OpensLayout head (opening.Opened world) =
-    (layout_of head ≡ Ok world.layout) × (world ≡ record { layout = world.layout; steps = []; disks = world.disks }) × ShowsDisks world
+OpensLayout head (opening.Opened world) = (layout_of head ≡ Ok world.layout) × IsNew world.layout world
 OpensLayout head (opening.Refused why) = IsSolid (string_bytes why)
 
 -- an opening without a layout

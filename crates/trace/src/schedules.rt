@@ -2,9 +2,9 @@
 
 ghost use Rattle.std.specs.Prelude.{◌<◌, IfOk, slice_index};
 ghost use Rattle.std.specs.Io.KnownBytes.{prepend_known};
-ghost use Rattle.trace.specs.Tales.{OpensLayout, IsRefused, Opens, IsRefusal, RunsLine, Turns};
+ghost use Rattle.trace.specs.Tales.{IsNew, OpensLayout, IsRefused, Opens, IsRefusal, RunsLine, Turns};
 
-use fab_base::Bytes;
+use fab_base::{Bytes, NoMem};
 use fab_io::Source;
 use layout::{Layout, LayoutFault};
 use lines::{LINE_LIMIT, Piece, Unread, content_of};
@@ -33,12 +33,19 @@ pub(crate) enum Turn {
     Refused(Verdict, String),
 }
 
+/// The disk of a layout, over which nothing was run yet.
+fn new_world(alloc: Global, layout: Layout) -> Result<World, NoMem>
+    ensures { IfOk result (IsNew layout) }
+{
+    World::new(alloc, layout)
+}
+
 /// The disk of a layout's text.
 fn opening_of(alloc: Global, head: &[u8]) -> Result<Opening, Halt>
     ensures { IfOk result (OpensLayout head.now) }
 {
     match Layout::read(alloc, head) {
-        Ok(layout) => Ok(Opening::Opened(World::new(alloc, layout)?)),
+        Ok(layout) => Ok(Opening::Opened(new_world(alloc, layout)?)),
         Err(LayoutFault::NoMemory) => Err(Halt::Memory),
         Err(fault) => Ok(Opening::Refused(format!(in alloc; "bad layout: {fault}")?)),
     }

@@ -69,23 +69,32 @@ fn tell_line<K: Sink>(
     write(sink, page.as_slice())
 }
 
+/// Adds what a run left of a stripe.
+fn add_stripe(
+    alloc: Global,
+    page: &mut Page,
+    world: &World,
+    journal: &Journal,
+    group: u32,
+    stripe: u32,
+) -> Result<(), NoMem>
+    ensures { OnOk result ((told : List ℕ) → IsTold page.old told → IsTold page.new told) }
+{
+    let mut notes = Text::new(alloc);
+    note_stripe(&mut notes, world, journal, GroupId(group), StripeNo(stripe))?;
+    let title = format!(in alloc; "stripe {group} {stripe}")?;
+    page.head(title.as_bytes())?;
+    add_notes(page, notes.whole()?)?;
+    Ok(())
+}
+
 /// What a run left of each stripe that an operation named.
 fn closing_page(alloc: Global, world: &World, journal: &Journal) -> Result<Page, NoMem>
     ensures { IfOk result (λ page. IsTold page []) }
 {
     let mut page = Page::new(alloc);
     for (group, stripe) in journal.stripes() {
-        let mut notes = Text::new(alloc);
-        note_stripe(
-            &mut notes,
-            world,
-            journal,
-            GroupId(*group),
-            StripeNo(*stripe),
-        )?;
-        let title = format!(in alloc; "stripe {group} {stripe}")?;
-        page.head(title.as_bytes())?;
-        add_notes(&mut page, notes.whole()?)?;
+        add_stripe(alloc, &mut page, world, journal, *group, *stripe)?;
     }
     Ok(page)
 }

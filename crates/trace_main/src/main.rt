@@ -20,18 +20,25 @@ fn command<'a>(alloc: Global) -> Result<Command<'a>, AllocError> {
         .arg(form)
 }
 
+/// Shows the run of standard input, and answers the exit status.
+fn show(rt: &HostRuntime, words: &[String]) -> u8 {
+    let mut source = StdSource::new(rt.reader());
+    let mut sink = StdSink::new(io::writer(rt));
+    let mut errors = StdSink::new(rt.stderr().lock());
+    trace(rt.alloc(), words, &mut source, &mut sink, &mut errors)
+}
+
 /// Runs the program, and answers its exit status.
 fn run(rt: &HostRuntime) -> io::Result<u8> {
     let alloc = rt.alloc();
     let words: Vec<String> = env::args(rt)?.skip(1).collect(alloc)?;
-    if let Err(error) = command(alloc)?.try_get_matches_from(words.as_slice()) {
-        error.print(rt)?;
-        return Ok(error.exit_code() as u8);
+    match command(alloc)?.try_get_matches_from(words.as_slice()) {
+        Ok(_) => Ok(show(rt, words.as_slice())),
+        Err(error) => {
+            error.print(rt)?;
+            Ok(error.exit_code() as u8)
+        }
     }
-    let mut source = StdSource::new(rt.reader());
-    let mut sink = StdSink::new(io::writer(rt));
-    let mut errors = StdSink::new(rt.stderr().lock());
-    Ok(trace(alloc, words.as_slice(), &mut source, &mut sink, &mut errors))
 }
 
 /// The status of a run that finds no memory.

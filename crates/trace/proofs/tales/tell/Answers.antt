@@ -16,7 +16,7 @@ pub returns-in-Opened : goal.returns-in-Opened
 returns-in-Opened g c =
     let opens = rw c.in-Opened.is at c.in_ok-world.ensures in
     let read = from-start (g.S.Source.told c.args.source.now) _ c.new-unread.result opens.0 c.new-unread.ensures opens.1 in
-    inl (run-told _ _ _ c.tell_lines.result opens.0 c.in-Opened.world opens.2.0 opens.2.1 opens.2.2
+    inl (run-told _ _ _ c.tell_lines.result opens.0 c.in-Opened.world opens.2.0 opens.2.1.0 opens.2.1.1
     (c.tell_lines.ensures (g.S.Source.told c.args.source.now) opens.0 read))
 
 pub returns : goal.returns
