@@ -15,3 +15,4 @@ pub mod FreeSlots
 pub mod Greatest
 pub mod SlotTrees
 pub mod Tallies
+pub mod TopTimes

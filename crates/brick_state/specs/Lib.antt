@@ -7,5 +7,6 @@ pub mod Rewrites
 pub mod KeptStates
 pub mod Slots
 pub mod Times
+pub mod TopTimes
 pub mod SlotTrees
 pub mod Tallies

@@ -70,7 +70,7 @@ impl Index {
     pub fn top_time(&self) -> u64
         ensures { result ≡ top_time stamp_of (state_of self.now) }
     {
-        stripe_maps::top_time(self.stripes.map())
+        self.stripes.top_time()
     }
 
     /// How often the store was opened.

@@ -15,6 +15,7 @@ mod slots;
 mod stripe_maps;
 mod stripe_tables;
 pub mod stripes;
+mod top_times;
 
 pub use groups::Group;
 pub use indexes::Index;

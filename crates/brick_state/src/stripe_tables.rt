@@ -2,32 +2,38 @@
 
 ghost use Rattle.std.specs.Prelude.{◌≡◌, ◌≢◌, ◌+◌, ◌-◌, ◌<◌, ◌≤◌, ℕ, ◌==◌, ◌^◌, not, filter, length, IfOk, OnOk, IsOk, IfNone, IfSome, nat_lt, replicate, slice_index_or, count_by, if◌then◌else◌, true, min, []};
 ghost use Rattle.fab_base.specs.Stamps.{stamp_below, stamp_same, first_stamp};
-ghost use Rattle.brick_state.specs.States.{first_stripe, stripe_in, stripe_of, stamp_of, put, live_in, weight, with_order, with_added, with_bottom, with_collected, is_of_view, newest_entry};
+ghost use Rattle.brick_state.specs.States.{first_stripe, stripe_in, has_version, stripe_of, stamp_of, put, live_in, weight, with_order, with_added, with_bottom, with_collected, is_of_view, newest_entry};
 ghost use Rattle.brick_state.specs.Maps.{listed, HasRoom};
 ghost use Rattle.brick_state.specs.Folds.{adds_order, is_above};
 ghost use Rattle.brick_state.specs.Slots.{slots_in, IsFree};
+ghost use Rattle.brick_state.specs.Times.{time_in};
+ghost use Rattle.brick_state.specs.TopTimes.{IsTopOf};
 ghost use Rattle.brick_state.specs.Tallies.{names_of, names_in, AreNames, NoneBeyond, HasSlotRoom, order_weight};
 
 use crate::slot_tables::SlotTable;
 use crate::stripe_maps;
-use crate::stripes::{Entry, Place, Stripe};
+use crate::stripes::{Entry, Place, Stripe, newest_time, time_below};
+use crate::top_times::TopTime;
 use fab_base::{NoMem, Stamp};
 use std::alloc::Global;
 use std::collections::BTreeMap;
 
-/// The stripes by their places, how many live records they have, and how often versions name each slot. There are counts for
-/// the slots that were named: so a table of many slots and few versions takes little memory.
+/// The stripes by their places, how many live records they have, how often versions name each slot, and what is known of the
+/// greatest time of their stamps. There are counts for the slots that were named: so a table of many slots and few versions
+/// takes little memory.
 #[derive(Drop)]
 pub struct StripeTable {
     map: BTreeMap<Place, Stripe>,
     live: u32,
     slots: u32,
     counts: SlotTable,
+    top: TopTime,
     ghost fits: { live ≤ 4294967295 },
     ghost few: { slots ≤ 4294967295 },
     ghost counted: { live ≡ live_in (listed map.entries) },
     ghost named: { AreNames (listed map.entries) counts },
     ghost beyond: { NoneBeyond slots (listed map.entries) counts },
+    ghost timed: { IsTopOf top (time_in stamp_of (listed map.entries)) },
 }
 
 impl StripeTable {
@@ -41,6 +47,7 @@ impl StripeTable {
             live: 0,
             slots,
             counts: SlotTable::new(alloc),
+            top: TopTime::new(0),
         }
     }
 
@@ -56,6 +63,20 @@ impl StripeTable {
         ensures { result ≡ live_in (listed self.now.map.entries) }
     {
         self.live
+    }
+
+    /// The greatest time of the order stamps and of the versions added, 0 where there is none.
+    ///
+    /// It takes one step in each run of the protocol: there the order stamp and the newest version of a stripe only rise, and
+    /// all stamps of a stripe are of one view. Only where records came in another order, as in a store from elsewhere, are all
+    /// stripes walked.
+    pub fn top_time(&self) -> u64
+        ensures { result ≡ time_in stamp_of (listed self.now.map.entries) }
+    {
+        match self.top.get() {
+            Some(time) => time,
+            None => stripe_maps::top_time(&self.map),
+        }
     }
 
     /// Whether there is such a slot.
@@ -121,9 +142,11 @@ impl StripeTable {
             (listed self.old.map.entries) }
         ensures slots { self.new.slots ≡ self.old.slots }
     {
-        let before = order_weight(stripe_maps::order(&self.map, place));
+        let replaced = stripe_maps::order(&self.map, place);
+        let before = order_weight(replaced);
         stripe_maps::set_order(&mut self.map, place, stamp);
         self.live = self.live - before + order_weight(stamp);
+        self.top.replace(replaced.time, stamp.time);
     }
 
     /// Adds a version.
@@ -139,6 +162,7 @@ impl StripeTable {
         stripe_maps::add(&mut self.map, place, entry);
         self.live += 1;
         self.counts.take(entry.block);
+        self.top.replace(0, entry.stamp.time);
     }
 
     /// Adds a version in the place of all that are there.
@@ -150,26 +174,30 @@ impl StripeTable {
             (listed self.old.map.entries) }
         ensures slots { self.new.slots ≡ self.old.slots }
     {
-        let dropped = release_all(&mut self.counts, stripe_maps::added(&self.map, place));
+        let versions = stripe_maps::added(&self.map, place);
+        let lost = newest_time(versions);
+        let dropped = release_all(&mut self.counts, versions);
         stripe_maps::set_bottom(&mut self.map, place, entry);
         self.live = self.live - dropped as u32 + 1;
         self.counts.take(entry.block);
+        self.top.replace(lost, entry.stamp.time);
     }
 
-    /// Drops the versions below a stamp.
+    /// Drops the versions below the stamp of one.
     pub fn collect(&mut self, place: Place, stamp: Stamp)
         requires room { HasRoom self.old.map place }
+        requires held { has_version stamp (stripe_in (listed self.old.map.entries) place) ≡ true }
         ensures kept { listed self.new.map.entries ≡ put place (with_collected stamp_of stamp (stripe_in (listed self.old.map.entries) place))
             (listed self.old.map.entries) }
         ensures slots { self.new.slots ≡ self.old.slots }
     {
-        let dropped = release_below(
-            &mut self.counts,
-            stripe_maps::added(&self.map, place),
-            stamp,
-        );
+        let versions = stripe_maps::added(&self.map, place);
+        let lost = time_below(versions, stamp);
+        let dropped = release_below(&mut self.counts, versions, stamp);
         stripe_maps::collect(&mut self.map, place, stamp);
         self.live -= dropped as u32;
+        // The version that stays is in the place of those that go.
+        self.top.replace(lost, stamp.time);
     }
 
     /// Drops the stripes of a group in the views below one.
@@ -180,6 +208,7 @@ impl StripeTable {
         let dropped = release_views(&mut self.counts, &self.map, group, first);
         stripe_maps::drop_views(&mut self.map, group, first);
         self.live -= dropped as u32;
+        self.top = TopTime::new(stripe_maps::top_time(&self.map));
     }
 }
 

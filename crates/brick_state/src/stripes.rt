@@ -1,8 +1,8 @@
 //! What is kept of one stripe.
 
-ghost use Rattle.std.specs.Prelude.{◌≡◌, ◌-◌, ◌^◌, min};
+ghost use Rattle.std.specs.Prelude.{◌≡◌, ◌-◌, ◌^◌, min, filter};
 ghost use Rattle.std.specs.List.{list_any};
-ghost use Rattle.fab_base.specs.Stamps.{stamp_same};
+ghost use Rattle.fab_base.specs.Stamps.{stamp_same, stamp_below};
 ghost use Rattle.brick_state.specs.States.{first_stripe, weight, stripe_of, stamp_of, newest_entry, has_version};
 ghost use Rattle.brick_state.specs.Times.{greatest, stripe_time};
 
@@ -105,12 +105,27 @@ impl Stripe {
     }
 }
 
-fn newest_time(entries: &[Entry]) -> u64
+/// The greatest time of versions, 0 where there is none.
+pub fn newest_time(entries: &[Entry]) -> u64
     ensures { result ≡ greatest (λ e. (stamp_of e).time) entries.now }
 {
     let mut top = 0u64;
     for entry in entries {
         top = top.max(entry.stamp.time);
+    }
+    top
+}
+
+/// The same of those below a stamp.
+#[tactic(auto, unfolding(crate::specs::Times::greatest))]
+pub fn time_below(entries: &[Entry], stamp: Stamp) -> u64
+    ensures { result ≡ greatest (λ e. (stamp_of e).time) (filter (λ e. stamp_below (stamp_of e) stamp) entries.now) }
+{
+    let mut top = 0u64;
+    for entry in entries {
+        if entry.stamp.is_below(stamp) {
+            top = top.max(entry.stamp.time);
+        }
     }
     top
 }

@@ -1,12 +1,15 @@
 -- The names of the dropped versions are counted less.
-use Rattle.std.proofs.Common.{◌-◌, List, length, get_or, subst, sym, ap, ◌∙◌, arith}
+use Rattle.std.proofs.Common.{◌-◌, ℕ, List, length, get_or, subst, sym, ap, ◌∙◌, arith}
 use Rattle.std.specs.List.{filter}
 use Rattle.fab_base.specs.Stamps.{stamp_below}
 use Rattle.brick_state.specs.Entries.{Entry}
-use Rattle.brick_state.specs.States.{Place, StripeOf, live_in}
+use Rattle.brick_state.specs.States.{Place, StripeOf, stamp_of, stripe_in, put, with_collected, live_in}
 use Rattle.brick_state.specs.Maps.{listed}
+use Rattle.brick_state.specs.Times.{greatest, time_in}
+use Rattle.brick_state.specs.TopTimes.{IsTopOf, IsReplaced}
 use Rattle.brick_state.specs.Tallies.{AreNames, NoneBeyond, names_of}
 use Rattle.brick_state.proofs.Tallies.{names-collected, beyond-collected, live-collected}
+use Rattle.brick_state.proofs.TopTimes.{time-collected}
 use Rattle.brick_state.proofs.stripe_tables.StripeTable.collect.Goals as goal
 
 pub overflow_cast-self : goal.overflow_cast-self
@@ -17,8 +20,8 @@ overflow_cast-self c =
       arith,
       t.counted,
       c.release_below-dropped.ensures.number,
-      ap (λ (es : List Entry). length (filter (λ e. stamp_below e.stamp c.args.stamp) es)) c.added.ensures.added,
-      live-collected (listed t.map.entries) c.args.place c.args.stamp c.added.ensures.sorted,
+      ap (λ (es : List Entry). length (filter (λ e. stamp_below e.stamp c.args.stamp) es)) c.added-versions.ensures.added,
+      live-collected (listed t.map.entries) c.args.place c.args.stamp c.added-versions.ensures.sorted,
       most,
     )
 
@@ -29,31 +32,38 @@ overflow_sub-self c =
       arith,
       t.counted,
       c.release_below-dropped.ensures.number,
-      ap (λ (es : List Entry). length (filter (λ e. stamp_below e.stamp c.args.stamp) es)) c.added.ensures.added,
-      live-collected (listed t.map.entries) c.args.place c.args.stamp c.added.ensures.sorted,
+      ap (λ (es : List Entry). length (filter (λ e. stamp_below e.stamp c.args.stamp) es)) c.added-versions.ensures.added,
+      live-collected (listed t.map.entries) c.args.place c.args.stamp c.added-versions.ensures.sorted,
     )
 
 pub invariant_of-self : goal.invariant_of-self
 invariant_of-self c =
     let t = c.args.self.now in
     let stripes = listed t.map.entries in
+    let sorted = c.added-versions.ensures.sorted in
     record {
       fits = omega (arith, t.fits);
       counted = omega (
         arith,
         t.counted,
         c.release_below-dropped.ensures.number,
-        ap (λ (es : List Entry). length (filter (λ e. stamp_below e.stamp c.args.stamp) es)) c.added.ensures.added,
+        ap (λ (es : List Entry). length (filter (λ e. stamp_below e.stamp c.args.stamp) es)) c.added-versions.ensures.added,
         ap live_in c.collect.ensures,
-        live-collected stripes c.args.place c.args.stamp c.added.ensures.sorted,
+        live-collected stripes c.args.place c.args.stamp c.added-versions.ensures.sorted,
       );
       few = t.few;
+      timed = subst (λ (now : List (Place × StripeOf Entry)). IsTopOf c.replace.new.self (time_in stamp_of now)) (sym c.collect.ensures)
+          (c.replace.ensures.top _ _ t.timed (subst (λ (n : ℕ). IsReplaced (time_in stamp_of stripes) n c.args.stamp.time
+          (time_in stamp_of (put c.args.place (with_collected stamp_of c.args.stamp (stripe_in stripes c.args.place)) stripes)))
+          (sym (c.time_below-lost.ensures
+          ∙ ap (λ (es : List Entry). greatest (λ e. (stamp_of e).time) (filter (λ e. stamp_below (stamp_of e) c.args.stamp) es)) c.added-versions.ensures.added))
+          (time-collected stripes c.args.place c.args.stamp sorted c.requires.held)));
       beyond = subst (λ (now : List (Place × StripeOf Entry)). NoneBeyond t.slots now c.release_below-dropped.new.counts) (sym c.collect.ensures)
-          (beyond-collected t.slots stripes t.counts c.release_below-dropped.new.counts c.args.place c.args.stamp c.added.ensures.sorted t.beyond
+          (beyond-collected t.slots stripes t.counts c.release_below-dropped.new.counts c.args.place c.args.stamp c.added-versions.ensures.sorted t.beyond
           c.release_below-dropped.ensures.length);
       named = subst (λ (now : List (Place × StripeOf Entry)). AreNames now c.release_below-dropped.new.counts) (sym c.collect.ensures)
-          (names-collected stripes t.counts c.release_below-dropped.new.counts c.args.place c.args.stamp c.added.ensures.sorted t.named
+          (names-collected stripes t.counts c.release_below-dropped.new.counts c.args.place c.args.stamp c.added-versions.ensures.sorted t.named
           c.release_below-dropped.ensures.length
           (λ s within. c.release_below-dropped.ensures.counts s within
-          ∙ ap (λ (es : List Entry). get_or t.counts s 0 - names_of s (filter (λ e. stamp_below e.stamp c.args.stamp) es)) c.added.ensures.added));
+          ∙ ap (λ (es : List Entry). get_or t.counts s 0 - names_of s (filter (λ e. stamp_below e.stamp c.args.stamp) es)) c.added-versions.ensures.added));
     }

@@ -1,8 +1,9 @@
 -- The names of the versions of the dropped stripes are counted less.
-use Rattle.std.proofs.Common.{List, subst, sym, ap, arith}
+use Rattle.std.proofs.Common.{ℕ, List, subst, sym, ap, arith}
 use Rattle.brick_state.specs.Entries.{Entry}
 use Rattle.brick_state.specs.States.{Place, StripeOf, live_in, is_of_view}
 use Rattle.brick_state.specs.Maps.{listed}
+use Rattle.brick_state.specs.TopTimes.{IsTopOf}
 use Rattle.brick_state.specs.Tallies.{AreNames, NoneBeyond}
 use Rattle.brick_state.proofs.Tallies.{names-filter, beyond-filter, live-filter_both}
 use Rattle.brick_state.proofs.stripe_tables.StripeTable.drop_views.Goals as goal
@@ -27,6 +28,7 @@ invariant_of-self c =
       fits = omega (arith, t.fits);
       counted = omega (arith, t.counted, c.release_views-dropped.ensures.number, ap live_in c.drop_views.ensures, live-filter_both drops stripes);
       few = t.few;
+      timed = subst (λ (n : ℕ). IsTopOf c.new-self.result n) c.top_time.ensures c.new-self.ensures.top;
       beyond = subst (λ (now : List (Place × StripeOf Entry)). NoneBeyond t.slots now c.release_views-dropped.new.counts) (sym c.drop_views.ensures)
           (beyond-filter t.slots drops stripes t.counts c.release_views-dropped.new.counts t.beyond c.release_views-dropped.ensures.length);
       named = subst (λ (now : List (Place × StripeOf Entry)). AreNames now c.release_views-dropped.new.counts) (sym c.drop_views.ensures)

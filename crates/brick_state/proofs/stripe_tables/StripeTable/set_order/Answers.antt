@@ -1,12 +1,15 @@
 -- One live record more or less, as the stamps say, and the same names.
 use Rattle.std.proofs.Common.{◌<◌, ℕ, ◌&&◌, Bool, not, refl, List, subst, sym, ap, ◌∙◌, arith}
 use Rattle.brick_state.specs.Entries.{Entry}
-use Rattle.brick_state.specs.States.{Place, StripeOf, stripe_in, with_order, live_in}
+use Rattle.brick_state.specs.States.{Place, StripeOf, stripe_in, stamp_of, put, with_order, live_in}
 use Rattle.brick_state.specs.Maps.{listed}
+use Rattle.brick_state.specs.Times.{time_in}
+use Rattle.brick_state.specs.TopTimes.{IsTopOf, IsReplaced}
 use Rattle.brick_state.specs.Tallies.{AreNames, NoneBeyond, order_weight}
 use Rattle.brick_state.proofs.Tallies.{names-ordered, beyond-put, live-ordered, order_within, order_fits}
 use Rattle.fab_base.specs.declared.stamps.Stamp.{Stamp}
 use Rattle.fab_base.specs.Stamps.{stamp_same, first_stamp}
+use Rattle.brick_state.proofs.TopTimes.{time-ordered}
 use Rattle.brick_state.proofs.stripe_tables.StripeTable.set_order.Goals as goal
 
 abbrev adds_order_of : Stamp → Stamp → Bool
@@ -18,30 +21,34 @@ overflow_sub-self c =
       arith,
       c.args.self.now.counted,
       c.order_weight-before.ensures,
-      ap order_weight c.order.ensures.order,
-      order_within (listed c.args.self.now.map.entries) c.args.place c.order.ensures.sorted,
+      ap order_weight c.order-replaced.ensures.order,
+      order_within (listed c.args.self.now.map.entries) c.args.place c.order-replaced.ensures.sorted,
     )
 
 pub invariant_of-self : goal.invariant_of-self
 invariant_of-self c =
     let t = c.args.self.now in
     let stripes = listed t.map.entries in
-    let sorted = c.order.ensures.sorted in
+    let sorted = c.order-replaced.ensures.sorted in
     record {
-      fits = order_fits t.live c.order_weight-before.result c.order_weight.result c.args.stamp c.order.result c.order_weight-before.ensures c.order_weight.ensures
-          (λ adds. subst (λ (n : ℕ). n < 4294967295) (sym t.counted) (c.requires.fits (ap (λ (o : Stamp). adds_order_of c.args.stamp o) (sym c.order.ensures.order) ∙ adds)))
-          t.fits (omega (arith, t.counted, c.order_weight-before.ensures, ap order_weight c.order.ensures.order, order_within stripes c.args.place sorted));
+      fits = order_fits t.live c.order_weight-before.result c.order_weight.result c.args.stamp c.order-replaced.result c.order_weight-before.ensures c.order_weight.ensures
+          (λ adds. subst (λ (n : ℕ). n < 4294967295) (sym t.counted) (c.requires.fits (ap (λ (o : Stamp). adds_order_of c.args.stamp o) (sym c.order-replaced.ensures.order) ∙ adds)))
+          t.fits (omega (arith, t.counted, c.order_weight-before.ensures, ap order_weight c.order-replaced.ensures.order, order_within stripes c.args.place sorted));
       counted = omega (
         arith,
         t.counted,
         c.order_weight-before.ensures,
-        ap order_weight c.order.ensures.order,
+        ap order_weight c.order-replaced.ensures.order,
         c.order_weight.ensures,
         ap live_in c.set_order.ensures,
         live-ordered stripes c.args.place c.args.stamp sorted,
         order_within stripes c.args.place sorted,
       );
       few = t.few;
+      timed = subst (λ (now : List (Place × StripeOf Entry)). IsTopOf c.replace.new.self (time_in stamp_of now)) (sym c.set_order.ensures)
+          (c.replace.ensures.top _ _ t.timed (subst (λ (o : Stamp). IsReplaced (time_in stamp_of stripes) o.time c.args.stamp.time
+          (time_in stamp_of (put c.args.place (with_order c.args.stamp (stripe_in stripes c.args.place)) stripes)))
+          (sym c.order-replaced.ensures.order) (time-ordered stripes c.args.place c.args.stamp sorted)));
       beyond = subst (λ (now : List (Place × StripeOf Entry)). NoneBeyond t.slots now t.counts) (sym c.set_order.ensures)
           (beyond-put t.slots stripes t.counts t.counts c.args.place (with_order c.args.stamp (stripe_in stripes c.args.place)) sorted t.beyond refl
           (λ slot past is_slot. omega arith));
