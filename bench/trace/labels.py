@@ -3,11 +3,11 @@
 
     bench/trace/labels.py [PROGRAM] [FILE]..
 
-It runs the built program on each FILE (where none is named, on all inputs of crates/examples/data, and on a schedule of 200 lines that it
-makes), reads the SVG, and looks at the box of each label: 6.7 pixels a character, from 9 above its line to 3 below. Two boxes that share
-an inner place are printed, and the status is then 1. Where `xmllint` is installed each picture is held to it too. An input that the
-program refuses has no picture, and is passed over. PROGRAM is crates/trace_main/out/trace_main where none is named;
-`cd crates/trace_main && rt run -- text < stdin` builds it.
+It runs the built program on each FILE (where none is named, on all inputs of crates/examples/data), reads the SVG, and looks at the box of
+each label: 6.7 pixels a character, from 9 above its line to 3 below. Two boxes that share an inner place are printed, and the status is
+then 1. Where `xmllint` is installed each picture is held to it too. An input that the program refuses has no picture, and is passed over.
+PROGRAM is crates/trace_main/out/trace_main where none is named; `cd crates/trace_main && rt run -- text < stdin` builds it. The gate looks at
+the labels of some pictures too (`svg` in crates/examples/stdin).
 """
 
 import pathlib
@@ -17,33 +17,6 @@ import sys
 import xml.etree.ElementTree
 
 ROOT = pathlib.Path(__file__).resolve().parents[2]
-LAYOUT = """block = 8
-bricks = 4
-records = 1000
-[[group]]
-m = 2
-members = [0, 1, 2, 3]
-stripes = 8
----
-"""
-
-
-def schedule(lines):
-    """Writes and reads of several bricks, with stops, starts, lost messages and operations that run alone."""
-    made = []
-    operations = 0
-    while len(made) < lines:
-        brick = operations % 4
-        stripe = operations % 8
-        made.append(f"writeall {brick} 0 {stripe} {operations + 1:032x}")
-        operations += 1
-        made.append(f"calm {operations} 0 1 2")
-        made.append(f"read {(brick + 1) % 4} 0 {stripe} {operations % 2}")
-        operations += 1
-        first = 10 * operations
-        made += [f"deliver {first + k}" for k in range(6)]
-        made += [f"tick {(brick + 1) % 4}", f"crash {brick}", f"deliver {first}", f"start {brick} cut 2 pick 1", f"start {brick}"]
-    return LAYOUT + "".join(line + "\n" for line in made[:lines])
 
 
 def boxes(svg):
@@ -71,7 +44,6 @@ def main():
     inputs = [(file.name, file.read_bytes()) for file in files]
     if not files:
         inputs = [(file.name, file.read_bytes()) for file in sorted((ROOT / "crates/examples/data").glob("*.in"))]
-        inputs.append(("200 lines", schedule(200).encode()))
     bad = drawn = labels = 0
     for name, data in inputs:
         run = subprocess.run([program, "svg"], input=data, capture_output=True)

@@ -5,8 +5,11 @@
 //! in NAME.out. The line `faults NAME` runs a case again and again: each read of its input in turn fails, and each write of its
 //! output. Such a run must end with the status of that fault, and print no more than a prefix of the output. The line `fronts NAME` runs
 //! each front of NAME.in: it must end with the status that stands at the place of its length in NAME.fronts, a digit each. The line
-//! `trace NAME` runs the program `trace` over NAME.in with the word `text`: it must print what stands in NAME.trace.
+//! `trace NAME` runs the program `trace` over NAME.in with the word `text`: it must print what stands in NAME.trace. The line `svg NAME`
+//! runs it with the word `svg`: no two labels of the picture may overlap.
 #![tactic(auto)]
+
+mod labels;
 
 use fab_io::{MemSink, MemSource};
 use replay::replay;
@@ -60,6 +63,8 @@ enum Kind {
     Fronts,
     /// It is run by `trace`.
     Trace,
+    /// It is drawn by `trace`.
+    Svg,
 }
 
 impl Kind {
@@ -69,16 +74,27 @@ impl Kind {
             "faults" => Kind::Faults,
             "fronts" => Kind::Fronts,
             "trace" => Kind::Trace,
+            "svg" => Kind::Svg,
             _ => Kind::Run,
         }
     }
 
-    /// The last part of the name of the file that says what is wanted.
-    fn suffix(self) -> &'static str {
+    /// The last part of the name of the file that says what is wanted, where there is one.
+    fn suffix(self) -> Option<&'static str> {
         match self {
-            Kind::Run | Kind::Faults => "out",
-            Kind::Fronts => "fronts",
-            Kind::Trace => "trace",
+            Kind::Run | Kind::Faults => Some("out"),
+            Kind::Fronts => Some("fronts"),
+            Kind::Trace => Some("trace"),
+            Kind::Svg => None,
+        }
+    }
+
+    /// The word of the program where the line gives none.
+    fn word(self) -> &'static str {
+        match self {
+            Kind::Run | Kind::Faults | Kind::Fronts => "run",
+            Kind::Trace => "text",
+            Kind::Svg => "svg",
         }
     }
 
@@ -89,6 +105,7 @@ impl Kind {
             Kind::Faults => " with faults",
             Kind::Fronts => " cut short",
             Kind::Trace => " traced",
+            Kind::Svg => " drawn",
         }
     }
 }
@@ -111,12 +128,13 @@ struct Case {
     output: Vec<u8>,
 }
 
-/// What is wrong with a case: another status, another output, another status after so many bytes of the input, or another end where a fault
-/// comes.
+/// What is wrong with a case: another status, another output, labels that overlap, another status after so many bytes of the input, or another
+/// end where a fault comes.
 #[derive(Drop)]
 enum Trouble {
     Status(u8),
     Output,
+    Labels,
     Front(usize, u8),
     After(Fault),
 }
@@ -126,6 +144,7 @@ impl fmt::Display for Trouble {
         match self {
             Trouble::Status(found) => write!(f, "ends with {found}"),
             Trouble::Output => write!(f, "prints something else"),
+            Trouble::Labels => write!(f, "has labels that overlap"),
             Trouble::Front(length, found) => write!(f, "ends with {found} after {length} bytes"),
             Trouble::After(Fault::Read(call)) => write!(f, "ends badly where read {call} fails"),
             Trouble::After(Fault::Write(call)) => write!(f, "ends badly where write {call} fails"),
@@ -142,7 +161,7 @@ impl Case {
         let kind = Kind::of(first);
         let name = match kind {
             Kind::Run => first,
-            Kind::Faults | Kind::Fronts | Kind::Trace => tokens.next().unwrap_or(""),
+            Kind::Faults | Kind::Fronts | Kind::Trace | Kind::Svg => tokens.next().unwrap_or(""),
         };
         let status = tokens.next().unwrap_or("0").parse().unwrap_or(u8::MAX);
         let mut words = Vec::new(alloc);
@@ -150,11 +169,13 @@ impl Case {
             words.push(String::from_str(alloc, token)?)?;
         }
         if words.is_empty() {
-            let word = if kind == Kind::Trace { "text" } else { "run" };
-            words.push(String::from_str(alloc, word)?)?;
+            words.push(String::from_str(alloc, kind.word())?)?;
         }
         let input = fs::read(rt, format!(in alloc; "{name}.in")?)?;
-        let output = fs::read(rt, format!(in alloc; "{name}.{}", kind.suffix())?)?;
+        let output = match kind.suffix() {
+            Some(suffix) => fs::read(rt, format!(in alloc; "{name}.{suffix}")?)?,
+            None => Vec::new(alloc),
+        };
         let name = String::from_str(alloc, name)?;
         Ok(Case {
             name,
@@ -187,7 +208,7 @@ impl Case {
             None => (),
         }
         let words = self.words.as_slice();
-        let status = if self.kind == Kind::Trace {
+        let status = if matches!(self.kind, Kind::Trace | Kind::Svg) {
             let mut errors = MemSink::new(alloc);
             trace(alloc, words, &mut source, &mut sink, &mut errors)
         } else {
@@ -214,6 +235,20 @@ impl Case {
             }
         }
         Ok(None)
+    }
+
+    /// What is wrong with the labels of a picture.
+    fn trouble_of_labels(&self, alloc: Global) -> Result<Option<Trouble>, AllocError> {
+        let ending = self.run(alloc, None)?;
+        if ending.status != self.status {
+            return Ok(Some(Trouble::Status(ending.status)));
+        }
+        if let Ok(picture) = str::from_utf8(ending.sink.taken()) {
+            if labels::are_apart(alloc, picture)? {
+                return Ok(None);
+            }
+        }
+        Ok(Some(Trouble::Labels))
     }
 
     /// What is wrong where no end fails.
@@ -252,8 +287,10 @@ impl Case {
 
     /// The first thing that is wrong: without a fault, and then with those that the case asks for.
     fn first_trouble(&self, alloc: Global) -> Result<Option<Trouble>, AllocError> {
-        if self.kind == Kind::Fronts {
-            return self.trouble_of_fronts(alloc);
+        match self.kind {
+            Kind::Fronts => return self.trouble_of_fronts(alloc),
+            Kind::Svg => return self.trouble_of_labels(alloc),
+            Kind::Run | Kind::Faults | Kind::Trace => (),
         }
         let mut found = self.trouble(alloc)?;
         for first in [Fault::Read(1), Fault::Write(1)] {
