@@ -11,11 +11,11 @@ fn note_happening(notes: &mut Text, world: &World, journal: &Journal, happening:
     let number = happening.operation;
     notes.fill("happened %@%", &[number, happening.position]);
     if let Some(operation) = journal.operation(number) {
-        if let Some(op) = op_of(world, operation) {
+        if let Some(op) = op_of(world.marks(), operation) {
             notes.put(" ");
             put_op(notes, op);
         }
-        if let Some(answer) = answer_of(world, operation) {
+        if let Some(answer) = answer_of(world.marks(), operation) {
             notes.put(": ");
             put_answer(notes, answer);
         }

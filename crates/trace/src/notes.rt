@@ -6,7 +6,7 @@ use world::World;
 
 /// Writes a message, with its number.
 fn put_packet(notes: &mut Text, world: &World, journal: &Journal, number: u64) {
-    match packet_at(world, number) {
+    match packet_at(world.sent(), number) {
         Some(packet) => put_message(notes, number, packet, journal.operation_of(packet)),
         None => notes.fill("#%", &[number]),
     }

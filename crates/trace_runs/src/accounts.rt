@@ -69,17 +69,17 @@ pub fn is_up(world: &World, brick: BrickId) -> bool {
     world.log_of(brick, GroupId(0), StripeNo(0)).is_some()
 }
 
-/// The message of a number.
-pub fn packet_at(world: &World, number: u64) -> Option<&Packet> {
-    world.sent().get((number as usize).wrapping_sub(1))
+/// The message of a number, among all that were sent.
+pub fn packet_at(sent: &[Packet], number: u64) -> Option<&Packet> {
+    sent.get((number as usize).wrapping_sub(1))
 }
 
-/// What befell a call of a brick's disk, now that the line was run.
-fn stop_of(world: &World, brick: BrickId, fault: Fault) -> Stop {
-    match (fault, is_up(world, brick)) {
-        (Fault::Cut { call, .. }, false) => Stop::Inside(call),
-        (Fault::Fail { call }, false) => Stop::Failed(call),
-        (Fault::Cut { call, .. } | Fault::Fail { call }, true) => Stop::Unreached(call),
+/// What befell a call of a brick's disk, where the brick is up or not now that the line was run.
+fn stop_of(fault: Fault, is_up: bool) -> Stop {
+    match fault {
+        Fault::Cut { call, .. } if !is_up => Stop::Inside(call),
+        Fault::Fail { call } if !is_up => Stop::Failed(call),
+        Fault::Cut { call, .. } | Fault::Fail { call } => Stop::Unreached(call),
     }
 }
 
@@ -105,20 +105,33 @@ impl Account {
         content: &[u8],
         is_idle: bool,
     ) -> Result<(), NoMem> {
-        journal.note_line(world, self.marks, self.sent)?;
-        let line = parse(alloc, content)?;
-        match &line {
-            Some(Line::Deliver { message, fault }) => {
+        journal.note_line(world.marks(), world.sent(), self.marks, self.sent)?;
+        match parse(alloc, content)? {
+            Some(line) => self.note_line(world, journal, &line, is_idle),
+            None => Ok(()),
+        }
+    }
+
+    /// Notes what a line did that says this.
+    fn note_line(
+        &mut self,
+        world: &World,
+        journal: &mut Journal,
+        line: &Line,
+        is_idle: bool,
+    ) -> Result<(), NoMem> {
+        match line {
+            Line::Deliver { message, fault } => {
                 self.note_delivery(world, journal, *message, *fault, is_idle)
             }
-            Some(Line::Calm { operation, .. }) => {
+            Line::Calm { operation, .. } => {
                 journal.note_deliveries(world, *operation, &mut self.deliveries)
             }
-            Some(Line::Start { brick, fault }) => {
+            Line::Start { brick, fault } => {
                 self.note_start(world, *brick, *fault, is_idle);
                 Ok(())
             }
-            Some(Line::Nothing) => {
+            Line::Nothing => {
                 self.is_event = false;
                 Ok(())
             }
@@ -136,12 +149,12 @@ impl Account {
         is_idle: bool,
     ) -> Result<(), NoMem> {
         let mut fate = Fate::Absent;
-        if let Some(packet) = packet_at(world, message) {
+        if let Some(packet) = packet_at(world.sent(), message) {
             fate = Fate::Down;
             if !is_idle {
                 fate = journal.note_delivery(message, packet)?;
                 if let Some(fault) = fault {
-                    self.stop = Some((packet.to, stop_of(world, packet.to, fault)));
+                    self.stop = Some((packet.to, stop_of(fault, is_up(world, packet.to))));
                 }
             }
         }
@@ -161,7 +174,7 @@ impl Account {
                 self.started = Some(brick);
             }
             if let (Some(fault), true) = (fault, is_up != is_idle) {
-                self.stop = Some((brick, stop_of(world, brick, fault)));
+                self.stop = Some((brick, stop_of(fault, is_up)));
             }
         }
     }

@@ -4,7 +4,6 @@ use crate::journals::Operation;
 use crate::texts::Text;
 use fab_base::{Answer, Cause, Op};
 use reg_model::Mark;
-use world::World;
 
 /// Writes what an operation is asked to do.
 pub fn put_op(text: &mut Text, op: &Op) {
@@ -34,17 +33,17 @@ pub fn put_answer(text: &mut Text, answer: &Answer) {
     }
 }
 
-/// What an operation is asked to do.
-pub fn op_of<'a>(world: &'a World, operation: &Operation) -> Option<&'a Op> {
-    match world.marks().get(operation.begin)? {
+/// What an operation is asked to do, by all marks.
+pub fn op_of<'a>(marks: &'a [Mark], operation: &Operation) -> Option<&'a Op> {
+    match marks.get(operation.begin)? {
         Mark::Begin { ask, .. } => Some(&ask.op),
         Mark::End { .. } | Mark::Crash { .. } => None,
     }
 }
 
-/// The answer that an operation was given. None where it is open, or was cut off.
-pub fn answer_of<'a>(world: &'a World, operation: &Operation) -> Option<&'a Answer> {
-    match world.marks().get(operation.end?)? {
+/// The answer that an operation was given, by all marks. None where it is open, or was cut off.
+pub fn answer_of<'a>(marks: &'a [Mark], operation: &Operation) -> Option<&'a Answer> {
+    match marks.get(operation.end?)? {
         Mark::End { answer, .. } => Some(answer),
         Mark::Begin { .. } | Mark::Crash { .. } => None,
     }

@@ -63,7 +63,7 @@ fn first_registers(alloc: Global, layout: &Layout, group: GroupId) -> Result<Vec
 
 /// The column in which a message was sent, of those of a line from this one on: the last in which its sender was handed an earlier one.
 fn sender_of(
-    world: &World,
+    sent: &[Packet],
     account: &Account,
     first: usize,
     number: u64,
@@ -71,7 +71,7 @@ fn sender_of(
 ) -> usize {
     let mut sender = first;
     for (place, (delivered, _)) in account.deliveries.iter().enumerate() {
-        if let Some(handed) = packet_at(world, *delivered) {
+        if let Some(handed) = packet_at(sent, *delivered) {
             if *delivered < number && handed.to == packet.from {
                 sender = first.saturating_add(place);
             }
@@ -116,9 +116,9 @@ impl Drawing {
         self.columns = first.saturating_add(account.deliveries.len().max(1));
         let bottom = lane_of(BrickId(world.layout().bricks()));
         draw_title(&mut self.picture, number, content, first, bottom);
-        self.add_marks(world, account.marks)?;
-        self.add_messages(world, account, first)?;
-        self.draw_deliveries(world, account, first);
+        self.add_marks(world.marks(), account.marks)?;
+        self.add_messages(world.sent(), account, first)?;
+        self.draw_deliveries(world.sent(), account, first);
         draw_lanes(&mut self.picture, world, first, self.columns);
         if let Some(brick) = account.started {
             draw_power(&mut self.picture, "start", first, brick);
@@ -127,9 +127,8 @@ impl Drawing {
     }
 
     /// Notes the marks of a line, and draws the bricks that it stopped.
-    fn add_marks(&mut self, world: &World, first: usize) -> Result<(), NoMem> {
+    fn add_marks(&mut self, marks: &[Mark], first: usize) -> Result<(), NoMem> {
         let column = self.columns.saturating_sub(1);
-        let marks = world.marks();
         for place in first..marks.len() {
             self.makers.push(column)?;
             if let Mark::Crash { brick, .. } = &marks[place] {
@@ -142,14 +141,13 @@ impl Drawing {
     /// Notes where the messages of a line were sent, and draws how many.
     fn add_messages(
         &mut self,
-        world: &World,
+        sent: &[Packet],
         account: &Account,
         column: usize,
     ) -> Result<(), NoMem> {
-        let sent = world.sent();
         for place in account.sent..sent.len() {
             let number = (place as u64).saturating_add(1);
-            let sender = sender_of(world, account, column, number, &sent[place]);
+            let sender = sender_of(sent, account, column, number, &sent[place]);
             self.senders.push(sender)?;
         }
         let mut first = account.sent;
@@ -165,12 +163,12 @@ impl Drawing {
     }
 
     /// Draws the messages that a line was to deliver.
-    fn draw_deliveries(&mut self, world: &World, account: &Account, first: usize) {
+    fn draw_deliveries(&mut self, sent: &[Packet], account: &Account, first: usize) {
         for (place, (number, fate)) in account.deliveries.iter().enumerate() {
-            if let Some(packet) = packet_at(world, *number) {
+            if let Some(packet) = packet_at(sent, *number) {
                 let column = first.saturating_add(place);
-                let sent = (*number as usize).wrapping_sub(1);
-                let sender = self.senders.get(sent).copied().unwrap_or(column);
+                let place = (*number as usize).wrapping_sub(1);
+                let sender = self.senders.get(place).copied().unwrap_or(column);
                 let is_lost = matches!(fate, Fate::Down);
                 let columns = (sender, column);
                 draw_delivery(&mut self.picture, packet, *number, is_lost, columns);
@@ -210,6 +208,7 @@ impl Drawing {
     /// Draws the operations below the bricks, and answers where the first stripe's lane is.
     fn draw_bars(&mut self, world: &World, journal: &Journal) -> Result<u64, NoMem> {
         let top = lane_of(BrickId(world.layout().bricks()));
+        let marks = world.marks();
         let mut ends = Vec::new(self.alloc);
         for (place, operation) in journal.operations().iter().enumerate() {
             if let Some(first) = self.makers.get(operation.begin).copied() {
@@ -218,8 +217,8 @@ impl Drawing {
                 let row = take_row(&mut ends, first, last)?;
                 let y = row.saturating_mul(ROW).saturating_add(top);
                 let number = (place as u64).saturating_add(1);
-                let answer = answer_of(world, operation);
-                let op = op_of(world, operation);
+                let answer = answer_of(marks, operation);
+                let op = op_of(marks, operation);
                 draw_bar(&mut self.picture, number, op, answer, (first, last), y);
                 if first < last && end.is_some() {
                     draw_answer(&mut self.picture, answer, last, y);
@@ -243,34 +242,28 @@ impl Drawing {
         self.picture.name.put_hex(registers.as_slice());
         self.picture.label(NAMES, y.saturating_add(14), "", &[]);
         let happenings = world.happenings(group, stripe)?;
-        self.draw_happenings(world, journal, y, &mut registers, happenings.as_slice());
+        let block = usize::from(world.layout().block());
+        let marks = world.marks();
+        for (place, happening) in happenings.iter().enumerate() {
+            if let Some(operation) = journal.operation(happening.operation) {
+                change(op_of(marks, operation), block, &mut registers);
+            }
+            let is_last = is_last(happenings.as_slice(), place, happening.position);
+            self.draw_happening(*happening, is_last, y, registers.as_slice());
+        }
         Ok(())
     }
 
-    /// Draws a stripe's happenings, which change what its registers hold.
-    fn draw_happenings(
-        &mut self,
-        world: &World,
-        journal: &Journal,
-        y: u64,
-        registers: &mut Vec<u8>,
-        happenings: &[Happening],
-    ) {
-        let block = usize::from(world.layout().block());
-        self.picture.name.put("op");
-        for (place, happening) in happenings.iter().enumerate() {
-            let number = happening.operation;
-            let position = happening.position;
-            self.picture.name.fill(" %", &[number]);
-            if let Some(operation) = journal.operation(number) {
-                change(op_of(world, operation), block, registers);
-            }
-            if is_last(happenings, place, position) {
-                let column = self.makers.get(position as usize).copied();
-                draw_happening(&mut self.picture, column, y, registers.as_slice());
-                self.picture.name.put("op");
-            }
+    /// Draws a happening with those before it at the same position, once it is the last of them, and what a stripe's registers then hold.
+    fn draw_happening(&mut self, happening: Happening, is_last: bool, y: u64, registers: &[u8]) {
+        let picture = &mut self.picture;
+        if picture.name.pieces().is_empty() {
+            picture.name.put("op");
         }
-        self.picture.name.clear();
+        picture.name.fill(" %", &[happening.operation]);
+        if is_last {
+            let column = self.makers.get(happening.position as usize).copied();
+            draw_happening(picture, column, y, registers);
+        }
     }
 }

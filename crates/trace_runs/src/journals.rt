@@ -148,15 +148,19 @@ impl Journal {
         Ok(())
     }
 
-    /// Notes what a line did, before which there were so many marks, and so many messages had been sent.
-    pub fn note_line(&mut self, world: &World, marks: usize, sent: usize) -> Result<(), NoMem> {
-        let all = world.marks();
-        for place in marks..all.len() {
-            self.note_mark(place, &all[place], sent)?;
+    /// Notes what a line did, of all marks and messages: there were so many marks before it, and so many messages had been sent.
+    pub(crate) fn note_line(
+        &mut self,
+        marks: &[Mark],
+        sent: &[Packet],
+        marks_before: usize,
+        sent_before: usize,
+    ) -> Result<(), NoMem> {
+        for place in marks_before..marks.len() {
+            self.note_mark(place, &marks[place], sent_before)?;
         }
-        let all = world.sent();
-        for place in sent..all.len() {
-            self.note_sent(&all[place])?;
+        for place in sent_before..sent.len() {
+            self.note_sent(&sent[place])?;
         }
         Ok(())
     }
