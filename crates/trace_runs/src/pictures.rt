@@ -81,6 +81,16 @@ impl Drop for Picture {
     }
 }
 
+/// What stands before the shapes of a picture of this width and height.
+fn front(alloc: Global, width: u64, height: u64) -> Text {
+    let mut text = Text::new(alloc);
+    text.fill(FRONT, &[width, height, width, height]);
+    text.put(STYLE);
+    text.put(GROUND);
+    text.put(LEGEND);
+    text
+}
+
 /// The left end of a column.
 pub(crate) fn left_of(column: usize) -> u64 {
     (column as u64)
@@ -149,13 +159,11 @@ impl Picture {
     pub(crate) fn text(&self, columns: usize, height: u64) -> Result<Text, NoMem> {
         let width = left_of(columns).max(640);
         self.name.whole()?;
-        let mut text = Text::new(self.alloc);
-        text.fill(FRONT, &[width, height, width, height]);
-        text.put(STYLE);
-        text.put(GROUND);
-        text.put(LEGEND);
-        text.put(self.shapes.whole()?);
-        text.put(self.labels.whole()?);
+        let shapes = self.shapes.whole()?;
+        let labels = self.labels.whole()?;
+        let mut text = front(self.alloc, width, height);
+        text.put(shapes);
+        text.put(labels);
         text.put("</svg>\n");
         Ok(text)
     }
