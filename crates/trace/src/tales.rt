@@ -28,6 +28,18 @@ fn add_notes(page: &mut Page, notes: &str) -> Result<(), NoMem>
     Ok(())
 }
 
+/// A page with the title of a line: its number and what stands on it.
+fn titled_page(alloc: Global, number: u64, content: &[u8]) -> Result<Page, NoMem>
+    ensures { IfOk result (λ page. IsTold page []) }
+{
+    let number = format!(in alloc; "{number} ")?;
+    let mut title = Vec::from_slice(alloc, number.as_bytes())?;
+    title.extend_from_slice(content)?;
+    let mut page = Page::new(alloc);
+    page.head(title.as_slice())?;
+    Ok(page)
+}
+
 /// A line that was run: its number and what stands on it, what `replay` prints for it, and what it did.
 fn line_page(
     alloc: Global,
@@ -40,14 +52,10 @@ fn line_page(
     requires { IsStepText taken.now.printed }
     ensures { IfOk result (λ page. IsTold page taken.now.printed) }
 {
+    let mut page = titled_page(alloc, number, content)?;
+    page.tell(taken.printed.as_slice())?;
     let mut notes = Text::new(alloc);
     note_account(&mut notes, world, journal, &taken.account);
-    let number = format!(in alloc; "{number} ")?;
-    let mut title = Vec::from_slice(alloc, number.as_bytes())?;
-    title.extend_from_slice(content)?;
-    let mut page = Page::new(alloc);
-    page.head(title.as_slice())?;
-    page.tell(taken.printed.as_slice())?;
     add_notes(&mut page, notes.whole()?)?;
     Ok(page)
 }

@@ -84,32 +84,30 @@ fn stop_of(fault: Fault, is_up: bool) -> Stop {
 }
 
 impl Account {
-    /// Nothing yet of the line that is to be run now.
-    pub(crate) fn new(alloc: Global, world: &World) -> Account {
-        Account {
+    /// What a line did that was run, before which there were so many marks, and so many messages had been sent; and whether `replay` prints `idle` for
+    /// it. The journal notes it too.
+    pub(crate) fn of(
+        alloc: Global,
+        world: &World,
+        journal: &mut Journal,
+        (marks, sent): (usize, usize),
+        content: &[u8],
+        is_idle: bool,
+    ) -> Result<Account, NoMem> {
+        journal.note_line(world.marks(), world.sent(), marks, sent)?;
+        let line = parse(alloc, content)?;
+        let mut account = Account {
             is_event: true,
             deliveries: Vec::new(alloc),
             stop: None,
             started: None,
-            marks: world.marks().len(),
-            sent: world.sent().len(),
+            marks,
+            sent,
+        };
+        if let Some(line) = &line {
+            account.note_line(world, journal, line, is_idle)?;
         }
-    }
-
-    /// Notes what the line did, now that it was run, and whether `replay` prints `idle` for it. The journal notes it too.
-    pub(crate) fn note(
-        &mut self,
-        alloc: Global,
-        world: &World,
-        journal: &mut Journal,
-        content: &[u8],
-        is_idle: bool,
-    ) -> Result<(), NoMem> {
-        journal.note_line(world.marks(), world.sent(), self.marks, self.sent)?;
-        match parse(alloc, content)? {
-            Some(line) => self.note_line(world, journal, &line, is_idle),
-            None => Ok(()),
-        }
+        Ok(account)
     }
 
     /// Notes what a line did that says this.

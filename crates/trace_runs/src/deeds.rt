@@ -51,7 +51,8 @@ pub fn answer_of<'a>(marks: &'a [Mark], operation: &Operation) -> Option<&'a Ans
 
 /// Sets registers from this place on to these bytes, as many as there is room for.
 fn set(registers: &mut Vec<u8>, from: usize, bytes: &[u8]) {
-    for (register, byte) in registers.iter_mut().skip(from).zip(bytes) {
+    let from = from.min(registers.len());
+    for (register, byte) in registers[from..].iter_mut().zip(bytes) {
         *register = *byte;
     }
 }

@@ -197,13 +197,14 @@ impl Journal {
 
     /// Notes that a brick stopped, at the mark at this place: its operations that were open are cut off.
     fn note_crash(&mut self, place: usize, brick: BrickId) -> Result<(), NoMem> {
-        let first = self.stopped.get(&brick.0).copied().unwrap_or(0);
-        for operation in self.operations.iter_mut().skip(first) {
+        let count = self.operations.len();
+        let first = self.stopped.get(&brick.0).copied().unwrap_or(0).min(count);
+        for operation in &mut self.operations[first..] {
             if operation.brick == brick && operation.end.is_none() {
                 operation.end = Some(place);
             }
         }
-        self.stopped.insert(brick.0, self.operations.len())?;
+        self.stopped.insert(brick.0, count)?;
         Ok(())
     }
 

@@ -46,11 +46,11 @@ pub fn take_line(
 ) -> Result<Option<Taken>, NoMem>
     ensures { IfOk result (TakesLine world.old world.new content.now) }
 {
-    let mut account = Account::new(alloc, world);
+    let before = (world.marks().len(), world.sent().len());
     match step(world, content)? {
         Some(printed) => {
             let is_idle = printed.as_slice() == b"idle\n".as_slice();
-            account.note(alloc, world, journal, content, is_idle)?;
+            let account = Account::of(alloc, world, journal, before, content, is_idle)?;
             Ok(Some(Taken { account, printed }))
         }
         None => Ok(None),

@@ -1,18 +1,8 @@
-use Rattle.std.proofs.Common.{List, ℕ, [], codes, ◌∙◌, subst}
+use Rattle.std.proofs.Common.{List, ℕ, [], subst}
 use Rattle.trace.specs.Told.{IsTold}
-use Rattle.trace.proofs.WholeTexts.{told-none}
-use Rattle.trace.proofs.PrintedTexts.{number-solid}
-use Rattle.trace.proofs.LinesTold.{page-told}
 use Rattle.trace.proofs.tales.line_page.Goals as goal
-
-pub head-requires : goal.head-requires
-head-requires c =
-    number-solid c.args.number c.as_slice.result.now c.in_ok-title.title.items (codes " ") c.args.content.now
-    (c.as_slice.ensures.value ∙ c.in_ok-extend_from_slice.ensures.items)
-    (c.in_ok-title.ensures.items ∙ c.as_bytes.ensures.value ∙ c.in_ok-number.ensures.ok)
 
 pub returns : goal.returns
 returns c =
-    let titled = c.in_ok-head.ensures [] (page-told c.new-page.result [] [] c.new-page.ensures told-none) in
     c.in_ok-add_notes.ensures c.args.taken.now.printed
-    (subst (λ (l : List ℕ). IsTold c.tell.new.self l) c.as_slice-2.ensures.value (c.in_ok-tell.ensures [] titled))
+    (subst (λ (l : List ℕ). IsTold c.tell.new.self l) c.as_slice.ensures.value (c.in_ok-tell.ensures [] c.in_ok-page.ensures))
