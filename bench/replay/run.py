@@ -1,7 +1,7 @@
 #!/usr/bin/env python3
 """How much processor time `replay run` takes a line, and how much memory.
 
-    bench/replay/run.py [PROGRAM] [--beside COMMAND].. [--lines N].. [--stops N] [--audits N] [--seconds S]
+    bench/replay/run.py [PROGRAM] [--beside COMMAND].. [--lines N].. [--stops N] [--calms N] [--audits N] [--seconds S]
 
 It makes schedules of 20,000, 100,000 and 1,000,000 lines (or of those that --lines names), runs the built program on each, and prints a
 row: the processor time of the run, user and system, divided by the number of lines, and the most memory that it held at one time.
@@ -16,6 +16,8 @@ Its row then says so, and a longer schedule is not tried with that command. Let 
 
 With --stops a schedule is run in their place that stops a brick so many times and starts it again: each time it crashes, its start is cut
 short at one of the calls of its disk, with one of three picks, and then it starts. Every start opens its store.
+
+With --calms a schedule of N writes is run in their place, each alone among all bricks, by a line `calm` of its own.
 
 With --audits what is printed for schedules of N lines is audited in their place: for the one below; for one of writes that only begin, of
 which a brick has 64 open before it crashes and starts again, so that almost each of its lines prints a mark; and for one each of whose
@@ -79,6 +81,14 @@ def stops(count):
     return LAYOUT + "".join(row + "\n" for row in rows)
 
 
+def calms(count):
+    """The input of so many writes, each of which runs alone among all bricks."""
+    rows = []
+    for number in range(count):
+        rows += [f"writeall {number % 4} 0 {number % 64} {number % 256:02x}01", f"calm {number + 1} 0 1 2 3"]
+    return LAYOUT.replace("block = 64", "block = 1") + "".join(row + "\n" for row in rows)
+
+
 def begins(lines):
     """The input of so many lines that begins writes, and stops their brick where it has as many open as it may have."""
     rows = []
@@ -96,6 +106,8 @@ def inputs(asked):
     """What is run, each with its number of lines."""
     if asked.stops:
         return [(3 * asked.stops, stops(asked.stops))]
+    if asked.calms:
+        return [(2 * asked.calms, calms(asked.calms))]
     return [(lines, schedule(lines)) for lines in asked.lines or [20_000, 100_000, 1_000_000]]
 
 
@@ -140,6 +152,7 @@ def main():
     words.add_argument("--beside", action="append", default=[], metavar="COMMAND")
     words.add_argument("--lines", action="append", type=int, metavar="N")
     words.add_argument("--stops", type=int, metavar="N")
+    words.add_argument("--calms", type=int, metavar="N")
     words.add_argument("--audits", type=int, metavar="N")
     words.add_argument("--seconds", type=float, default=300)
     asked = words.parse_args()
