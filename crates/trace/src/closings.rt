@@ -1,21 +1,21 @@
 //! What a run left: the happenings of each stripe that an operation named, and its log at each member.
 
 use brick_store::State;
-use fab_base::{BrickId, Bytes, GroupId, NoMem, Stamp, StripeNo};
-use reg_model::Happening;
-use trace_runs::{Journal, Text, answer_of, is_up, op_of, put_answer, put_op};
+use fab_base::{BrickId, Bytes, GroupId, Stamp, StripeNo};
+use reg_model::{Happening, Mark};
+use trace_runs::{Journal, Text, answer_of, op_of, put_answer, put_op};
 use world::World;
 
-/// Notes a happening: its operation and position, and what it read or wrote.
-fn note_happening(notes: &mut Text, world: &World, journal: &Journal, happening: Happening) {
+/// Notes a happening: its operation and position, and what it read or wrote, by all marks.
+fn note_happening(notes: &mut Text, marks: &[Mark], journal: &Journal, happening: Happening) {
     let number = happening.operation;
     notes.fill("happened %@%", &[number, happening.position]);
     if let Some(operation) = journal.operation(number) {
-        if let Some(op) = op_of(world.marks(), operation) {
+        if let Some(op) = op_of(marks, operation) {
             notes.put(" ");
             put_op(notes, op);
         }
-        if let Some(answer) = answer_of(world.marks(), operation) {
+        if let Some(answer) = answer_of(marks, operation) {
             notes.put(": ");
             put_answer(notes, answer);
         }
@@ -31,43 +31,40 @@ fn older<'a>(log: &'a State<'_>, bound: Option<Stamp>) -> Option<(Stamp, &'a Byt
     }
 }
 
-/// Notes the log of a stripe at a member, newest version first.
-fn note_log(notes: &mut Text, world: &World, brick: BrickId, group: GroupId, stripe: StripeNo) {
-    if !is_up(world, brick) {
+/// Notes the log of a stripe at a member, newest version first. A brick without one is down.
+fn note_log(notes: &mut Text, brick: BrickId, log: Option<State<'_>>) {
+    let Some(log) = log else {
         notes.fill("brick % is down\n", &[brick.0.into()]);
         return;
-    }
+    };
     notes.fill("brick % keeps", &[brick.0.into()]);
-    if let Some(log) = world.log_of(brick, group, stripe) {
-        let mut bound = None;
-        for _ in 0..log.len() {
-            if let Some((stamp, block)) = older(&log, bound) {
-                notes.put_stamp(" ", stamp);
-                notes.put("=");
-                notes.put_hex(block.as_slice());
-                bound = Some(stamp);
-            }
+    let mut bound = None;
+    for _ in 0..log.len() {
+        if let Some((stamp, block)) = older(&log, bound) {
+            notes.put_stamp(" ", stamp);
+            notes.put("=");
+            notes.put_hex(block.as_slice());
+            bound = Some(stamp);
         }
     }
     notes.put("\n");
 }
 
-/// Notes what a run left of a stripe: a note a line.
+/// Notes what a run left of a stripe, its happenings being these: a note a line.
 pub(crate) fn note_stripe(
     notes: &mut Text,
     world: &World,
     journal: &Journal,
+    happenings: &[Happening],
     group: GroupId,
     stripe: StripeNo,
-) -> Result<(), NoMem> {
-    let happenings = world.happenings(group, stripe)?;
-    for happening in &happenings {
-        note_happening(notes, world, journal, *happening);
+) {
+    for happening in happenings {
+        note_happening(notes, world.marks(), journal, *happening);
     }
     if let Some(found) = world.layout().group(group) {
         for brick in found.members().as_slice() {
-            note_log(notes, world, *brick, group, stripe);
+            note_log(notes, *brick, world.log_of(*brick, group, stripe));
         }
     }
-    Ok(())
 }

@@ -34,7 +34,7 @@ fn draw_lines<S: Source>(
             Turn::Ran(line, taken) => {
                 if count < MOST_DRAWN && taken.account.is_event {
                     let content = content_of(line.as_slice());
-                    drawing.add(world, count + 1, content, &taken.account)?;
+                    drawing.add(world, count + 1, content, &taken.account);
                 }
             }
             Turn::Ended => return Ok(Outcome::Drawn(drawing.finish(world, &journal)?, count)),

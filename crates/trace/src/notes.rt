@@ -1,13 +1,13 @@
 //! What a line of a schedule did, in words.
 
 use fab_base::BrickId;
+use messages::Packet;
 use trace_runs::{Account, Fate, Journal, Stop, Text, packet_at, put_message};
-use world::World;
 
-/// Writes a message, with its number.
-fn put_packet(notes: &mut Text, world: &World, journal: &Journal, number: u64) {
-    match packet_at(world.sent(), number) {
-        Some(packet) => put_message(notes, number, packet, journal.operation_of(packet)),
+/// Writes the message of a number, of all that were sent, with its number.
+fn put_packet(notes: &mut Text, sent: &[Packet], journal: &Journal, number: u64) {
+    match packet_at(sent, number) {
+        Some(packet) => put_message(notes, number, packet, journal.operation_of(number)),
         None => notes.fill("#%", &[number]),
     }
 }
@@ -34,11 +34,16 @@ fn note_stop(notes: &mut Text, brick: BrickId, stop: Stop) {
     notes.fill(form, &[brick.0.into(), call]);
 }
 
-/// Notes what a line did, beside what `replay` prints for it: a note a line.
-pub(crate) fn note_account(notes: &mut Text, world: &World, journal: &Journal, account: &Account) {
+/// Notes what a line did, beside what `replay` prints for it: a note a line. These messages had been sent once it was run.
+pub(crate) fn note_account(
+    notes: &mut Text,
+    sent: &[Packet],
+    journal: &Journal,
+    account: &Account,
+) {
     for (number, fate) in &account.deliveries {
         notes.put("delivered ");
-        put_packet(notes, world, journal, *number);
+        put_packet(notes, sent, journal, *number);
         notes.put(fate_text(*fate));
         notes.put("\n");
     }
@@ -48,8 +53,8 @@ pub(crate) fn note_account(notes: &mut Text, world: &World, journal: &Journal, a
     if let Some(brick) = account.started {
         notes.fill("brick % started\n", &[brick.0.into()]);
     }
-    for place in account.sent..world.sent().len() {
-        put_packet(notes, world, journal, (place as u64).saturating_add(1));
+    for place in account.sent..sent.len() {
+        put_packet(notes, sent, journal, (place as u64).saturating_add(1));
         notes.put("\n");
     }
 }

@@ -13,6 +13,8 @@ use crate::schedules::{Opening, Turn, open, take_turn};
 use fab_base::{GroupId, NoMem, StripeNo};
 use fab_io::{Sink, Source};
 use lines::{Unread, content_of};
+use messages::Packet;
+use reg_model::Happening;
 use replay::{Halt, Verdict, write};
 use std::alloc::Global;
 use trace_runs::{Journal, Taken, Text};
@@ -43,7 +45,7 @@ fn titled_page(alloc: Global, number: u64, content: &[u8]) -> Result<Page, NoMem
 /// A line that was run: its number and what stands on it, what `replay` prints for it, and what it did.
 fn line_page(
     alloc: Global,
-    world: &World,
+    sent: &[Packet],
     journal: &Journal,
     number: u64,
     content: &[u8],
@@ -55,7 +57,7 @@ fn line_page(
     let mut page = titled_page(alloc, number, content)?;
     page.tell(taken.printed.as_slice())?;
     let mut notes = Text::new(alloc);
-    note_account(&mut notes, world, journal, &taken.account);
+    note_account(&mut notes, sent, journal, &taken.account);
     add_notes(&mut page, notes.whole()?)?;
     Ok(page)
 }
@@ -63,7 +65,7 @@ fn line_page(
 /// Writes a line that was run.
 fn tell_line<K: Sink>(
     alloc: Global,
-    world: &World,
+    sent: &[Packet],
     journal: &Journal,
     sink: &mut K,
     number: u64,
@@ -73,23 +75,25 @@ fn tell_line<K: Sink>(
     requires { IsStepText taken.now.printed }
     ensures { WritesTold result (K.told sink.old) (K.told sink.new) taken.now.printed }
 {
-    let page = line_page(alloc, world, journal, number, content, taken)?;
+    let page = line_page(alloc, sent, journal, number, content, taken)?;
     write(sink, page.as_slice())
 }
 
-/// Adds what a run left of a stripe.
+/// Adds what a run left of a stripe, its happenings being these.
 fn add_stripe(
     alloc: Global,
     page: &mut Page,
     world: &World,
     journal: &Journal,
-    group: u32,
-    stripe: u32,
+    happenings: &[Happening],
+    group: GroupId,
+    stripe: StripeNo,
 ) -> Result<(), NoMem>
     ensures { OnOk result ((told : List ℕ) → IsTold page.old told → IsTold page.new told) }
 {
     let mut notes = Text::new(alloc);
-    note_stripe(&mut notes, world, journal, GroupId(group), StripeNo(stripe))?;
+    note_stripe(&mut notes, world, journal, happenings, group, stripe);
+    let (group, stripe) = (group.0, stripe.0);
     let title = format!(in alloc; "stripe {group} {stripe}")?;
     page.head(title.as_bytes())?;
     add_notes(page, notes.whole()?)?;
@@ -100,9 +104,13 @@ fn add_stripe(
 fn closing_page(alloc: Global, world: &World, journal: &Journal) -> Result<Page, NoMem>
     ensures { IfOk result (λ page. IsTold page []) }
 {
+    let entries = world.stripe_entries()?;
     let mut page = Page::new(alloc);
     for (group, stripe) in journal.stripes() {
-        add_stripe(alloc, &mut page, world, journal, *group, *stripe)?;
+        let (group, stripe) = (GroupId(*group), StripeNo(*stripe));
+        let happenings = world.happenings_among(&entries, group, stripe)?;
+        let happenings = happenings.as_slice();
+        add_stripe(alloc, &mut page, world, journal, happenings, group, stripe)?;
     }
     Ok(page)
 }
@@ -155,7 +163,15 @@ fn tell_lines<S: Source, K: Sink>(
         match take_turn(alloc, world, &mut journal, source, unread, count)? {
             Turn::Ran(line, taken) => {
                 let content = content_of(line.as_slice());
-                tell_line(alloc, world, &journal, sink, count + 1, content, &taken)?;
+                tell_line(
+                    alloc,
+                    world.sent(),
+                    &journal,
+                    sink,
+                    count + 1,
+                    content,
+                    &taken,
+                )?;
             }
             Turn::Ended => return finish(alloc, world, &journal, sink),
             Turn::Refused(verdict, why) => return refuse(alloc, sink, verdict, why.as_str()),

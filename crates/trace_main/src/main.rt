@@ -4,6 +4,7 @@
 use clap::{Arg, Command};
 use fab_io::{StdSink, StdSource};
 use std::alloc::{AllocError, Global};
+use std::io::ErrorKind;
 use std::process::ExitCode;
 use std::{env, io};
 use trace::trace;
@@ -20,6 +21,16 @@ fn command<'a>(alloc: Global) -> Result<Command<'a>, AllocError> {
         .arg(form)
 }
 
+/// The words of the command line behind the program's name.
+fn words(rt: &HostRuntime) -> io::Result<Vec<String>> {
+    match env::args(rt) {
+        Ok(words) => Ok(words.skip(1).collect(rt.alloc())?),
+        // A word that is no text makes a faulty command line, as the empty one is.
+        Err(error) if error.kind() == ErrorKind::InvalidData => Ok(Vec::new(rt.alloc())),
+        Err(error) => Err(error),
+    }
+}
+
 /// Shows the run of standard input, and answers the exit status.
 fn show(rt: &HostRuntime, words: &[String]) -> u8 {
     let mut source = StdSource::new(rt.reader());
@@ -30,9 +41,8 @@ fn show(rt: &HostRuntime, words: &[String]) -> u8 {
 
 /// Runs the program, and answers its exit status.
 fn run(rt: &HostRuntime) -> io::Result<u8> {
-    let alloc = rt.alloc();
-    let words: Vec<String> = env::args(rt)?.skip(1).collect(alloc)?;
-    match command(alloc)?.try_get_matches_from(words.as_slice()) {
+    let words = words(rt)?;
+    match command(rt.alloc())?.try_get_matches_from(words.as_slice()) {
         Ok(_) => Ok(show(rt, words.as_slice())),
         Err(error) => {
             error.print(rt)?;

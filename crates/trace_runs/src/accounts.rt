@@ -36,6 +36,7 @@ pub enum Stop {
 }
 
 /// What a line did.
+#[derive(Drop)]
 pub struct Account {
     /// Whether the line says anything.
     pub is_event: bool,
@@ -51,21 +52,8 @@ pub struct Account {
     pub sent: usize,
 }
 
-impl Drop for Account {
-    fn drop(self) {
-        let Self {
-            is_event: _,
-            deliveries: _,
-            stop: _,
-            started: _,
-            marks: _,
-            sent: _,
-        } = self;
-    }
-}
-
 /// Whether a brick is up.
-pub fn is_up(world: &World, brick: BrickId) -> bool {
+pub(crate) fn is_up(world: &World, brick: BrickId) -> bool {
     world.log_of(brick, GroupId(0), StripeNo(0)).is_some()
 }
 

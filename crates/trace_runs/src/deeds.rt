@@ -51,9 +51,10 @@ pub fn answer_of<'a>(marks: &'a [Mark], operation: &Operation) -> Option<&'a Ans
 
 /// Sets registers from this place on to these bytes, as many as there is room for.
 fn set(registers: &mut Vec<u8>, from: usize, bytes: &[u8]) {
-    let from = from.min(registers.len());
-    for (register, byte) in registers[from..].iter_mut().zip(bytes) {
-        *register = *byte;
+    for (place, byte) in bytes.iter().enumerate() {
+        if let Some(register) = registers.get_mut(from.saturating_add(place)) {
+            *register = *byte;
+        }
     }
 }
 

@@ -19,7 +19,8 @@ use world::World;
 /// How high a bar is, with the gap below it.
 const ROW: u64 = 19;
 
-/// A run that is drawn, a line of its schedule after another.
+/// A run that is drawn, a line of its schedule after another. Where a column finds no memory to be noted, the picture is never whole.
+#[derive(Drop)]
 pub struct Drawing {
     alloc: Global,
     picture: Picture,
@@ -29,18 +30,13 @@ pub struct Drawing {
     senders: Vec<usize>,
     /// The column in which each mark was made.
     makers: Vec<usize>,
+    /// The last column that is taken of each row of bars.
+    rows: Vec<usize>,
 }
 
-impl Drop for Drawing {
-    fn drop(self) {
-        let Self {
-            alloc: _,
-            picture: _,
-            columns: _,
-            senders: _,
-            makers: _,
-        } = self;
-    }
+/// The column at this place, where there is one.
+fn column_at(columns: &[usize], place: usize) -> Option<usize> {
+    columns.get(place).copied()
 }
 
 /// Whether the happening at this place is the last of its position.
@@ -80,18 +76,6 @@ fn sender_of(
     sender
 }
 
-/// The first row that is free from this column on, which is taken up to the last.
-fn take_row(ends: &mut Vec<usize>, first: usize, last: usize) -> Result<u64, NoMem> {
-    for (row, end) in ends.iter_mut().enumerate() {
-        if *end < first {
-            *end = last;
-            return Ok(row as u64);
-        }
-    }
-    ends.push(last)?;
-    Ok((ends.len() as u64).saturating_sub(1))
-}
-
 impl Drawing {
     /// Nothing is drawn yet.
     pub fn new(alloc: Global) -> Drawing {
@@ -101,65 +85,61 @@ impl Drawing {
             columns: 0,
             senders: Vec::new(alloc),
             makers: Vec::new(alloc),
+            rows: Vec::new(alloc),
         }
     }
 
     /// Draws a line that was just run.
-    pub fn add(
-        &mut self,
-        world: &World,
-        number: u64,
-        content: &[u8],
-        account: &Account,
-    ) -> Result<(), NoMem> {
+    pub fn add(&mut self, world: &World, number: u64, content: &[u8], account: &Account) {
         let first = self.columns;
         self.columns = first.saturating_add(account.deliveries.len().max(1));
         let bottom = lane_of(BrickId(world.layout().bricks()));
         draw_title(&mut self.picture, number, content, first, bottom);
-        self.add_marks(world.marks(), account.marks)?;
-        self.add_messages(world.sent(), account, first)?;
+        self.add_marks(world.marks(), account.marks);
+        self.add_messages(world.sent(), account, first);
+        self.draw_messages(world.sent(), account.sent);
         self.draw_deliveries(world.sent(), account, first);
         draw_lanes(&mut self.picture, world, first, self.columns);
         if let Some(brick) = account.started {
             draw_power(&mut self.picture, "start", first, brick);
         }
-        Ok(())
     }
 
     /// Notes the marks of a line, and draws the bricks that it stopped.
-    fn add_marks(&mut self, marks: &[Mark], first: usize) -> Result<(), NoMem> {
+    fn add_marks(&mut self, marks: &[Mark], first: usize) {
         let column = self.columns.saturating_sub(1);
         for place in first..marks.len() {
-            self.makers.push(column)?;
+            if self.makers.push(column).is_err() {
+                self.picture.name.note_gap();
+            }
             if let Mark::Crash { brick, .. } = &marks[place] {
                 draw_power(&mut self.picture, "stop", column, *brick);
             }
         }
-        Ok(())
     }
 
-    /// Notes where the messages of a line were sent, and draws how many.
-    fn add_messages(
-        &mut self,
-        sent: &[Packet],
-        account: &Account,
-        column: usize,
-    ) -> Result<(), NoMem> {
+    /// Notes where the messages of a line were sent.
+    fn add_messages(&mut self, sent: &[Packet], account: &Account, column: usize) {
         for place in account.sent..sent.len() {
             let number = (place as u64).saturating_add(1);
             let sender = sender_of(sent, account, column, number, &sent[place]);
-            self.senders.push(sender)?;
-        }
-        let mut first = account.sent;
-        for place in account.sent..sent.len() {
-            let sender = self.senders.get(place).copied();
-            if self.senders.get(place.saturating_add(1)).copied() != sender {
-                let column = sender.unwrap_or(column);
-                draw_sent(&mut self.picture, &sent[place], first, place, column);
-                first = place.saturating_add(1);
+            if self.senders.push(sender).is_err() {
+                self.picture.name.note_gap();
             }
         }
-        Ok(())
+    }
+
+    /// Draws how many messages of a line were sent in each column, of all from this one on.
+    fn draw_messages(&mut self, sent: &[Packet], first: usize) {
+        let mut first = first;
+        for place in first..sent.len() {
+            let next = place.saturating_add(1);
+            let sender = column_at(&self.senders, place);
+            if let (Some(column), true) = (sender, column_at(&self.senders, next) != sender) {
+                draw_sent(&mut self.picture, &sent[place], first, place, column);
+                first = next;
+            }
+        }
     }
 
     /// Draws the messages that a line was to deliver.
@@ -168,7 +148,7 @@ impl Drawing {
             if let Some(packet) = packet_at(sent, *number) {
                 let column = first.saturating_add(place);
                 let place = (*number as usize).wrapping_sub(1);
-                let sender = self.senders.get(place).copied().unwrap_or(column);
+                let sender = column_at(&self.senders, place).unwrap_or(column);
                 let is_lost = matches!(fate, Fate::Down);
                 let columns = (sender, column);
                 draw_delivery(&mut self.picture, packet, *number, is_lost, columns);
@@ -176,25 +156,28 @@ impl Drawing {
         }
     }
 
-    /// The picture of the run, as the text of an SVG document.
-    pub fn finish(mut self, world: &World, journal: &Journal) -> Result<Text, NoMem> {
-        draw_names(&mut self.picture, world.layout().bricks());
-        self.draw_stubs(world);
-        let mut y = self.draw_bars(world, journal)?;
+    /// The picture of the run, as the text of an SVG document, once all lines are drawn.
+    pub fn finish(&mut self, world: &World, journal: &Journal) -> Result<Text, NoMem> {
+        let bricks = world.layout().bricks();
+        draw_names(&mut self.picture, bricks);
+        self.draw_stubs(world.sent(), journal);
+        let mut y = self.draw_bars(world.marks(), journal, lane_of(BrickId(bricks)));
+        let entries = world.stripe_entries()?;
         for (group, stripe) in journal.stripes() {
             draw_stripe(&mut self.picture, *group, *stripe, y, self.columns);
-            self.draw_course(world, journal, y, GroupId(*group), StripeNo(*stripe))?;
+            let happenings = world.happenings_among(&entries, GroupId(*group), StripeNo(*stripe))?;
+            self.draw_course(world, journal, y, GroupId(*group), happenings.as_slice())?;
             y = y.saturating_add(LANE);
         }
         self.picture.text(self.columns, y)
     }
 
     /// Draws the messages that were never delivered.
-    fn draw_stubs(&mut self, world: &World) {
-        for (place, packet) in world.sent().iter().enumerate() {
+    fn draw_stubs(&mut self, sent: &[Packet], journal: &Journal) {
+        for (place, packet) in sent.iter().enumerate() {
             let number = (place as u64).saturating_add(1);
-            let sender = self.senders.get(place).copied();
-            if let (Some(sender), false) = (sender, world.was_delivered(number)) {
+            let sender = column_at(&self.senders, place);
+            if let (Some(sender), false) = (sender, journal.was_delivered(number)) {
                 draw_stub(&mut self.picture, packet, sender);
             }
         }
@@ -202,19 +185,30 @@ impl Drawing {
 
     /// The column in which an operation ended. None where it did not, or is past what is drawn.
     fn end_of(&self, operation: &Operation) -> Option<usize> {
-        self.makers.get(operation.end?).copied()
+        column_at(&self.makers, operation.end?)
     }
 
-    /// Draws the operations below the bricks, and answers where the first stripe's lane is.
-    fn draw_bars(&mut self, world: &World, journal: &Journal) -> Result<u64, NoMem> {
-        let top = lane_of(BrickId(world.layout().bricks()));
-        let marks = world.marks();
-        let mut ends = Vec::new(self.alloc);
+    /// The first row of bars that is free from this column on, which is taken up to the last.
+    fn take_row(&mut self, first: usize, last: usize) -> u64 {
+        for (row, end) in self.rows.iter_mut().enumerate() {
+            if *end < first {
+                *end = last;
+                return row as u64;
+            }
+        }
+        if self.rows.push(last).is_err() {
+            self.picture.name.note_gap();
+        }
+        (self.rows.len() as u64).saturating_sub(1)
+    }
+
+    /// Draws the operations from this place on down, and answers where the first stripe's lane is.
+    fn draw_bars(&mut self, marks: &[Mark], journal: &Journal, top: u64) -> u64 {
         for (place, operation) in journal.operations().iter().enumerate() {
-            if let Some(first) = self.makers.get(operation.begin).copied() {
+            if let Some(first) = column_at(&self.makers, operation.begin) {
                 let end = self.end_of(operation);
                 let last = end.unwrap_or(self.columns.saturating_sub(1));
-                let row = take_row(&mut ends, first, last)?;
+                let row = self.take_row(first, last);
                 let y = row.saturating_mul(ROW).saturating_add(top);
                 let number = (place as u64).saturating_add(1);
                 let answer = answer_of(marks, operation);
@@ -225,30 +219,28 @@ impl Drawing {
                 }
             }
         }
-        let rows = (ends.len() as u64).saturating_mul(ROW);
-        Ok(rows.saturating_add(top).saturating_add(30))
+        let rows = (self.rows.len() as u64).saturating_mul(ROW);
+        rows.saturating_add(top).saturating_add(30)
     }
 
-    /// Draws what a stripe's registers hold at first, and from each happening on.
+    /// Draws what the registers of a stripe of this group hold at first, and from each happening on.
     fn draw_course(
         &mut self,
         world: &World,
         journal: &Journal,
         y: u64,
         group: GroupId,
-        stripe: StripeNo,
+        happenings: &[Happening],
     ) -> Result<(), NoMem> {
         let mut registers = first_registers(self.alloc, world.layout(), group)?;
         self.picture.name.put_hex(registers.as_slice());
         self.picture.label(NAMES, y.saturating_add(14), "", &[]);
-        let happenings = world.happenings(group, stripe)?;
         let block = usize::from(world.layout().block());
-        let marks = world.marks();
         for (place, happening) in happenings.iter().enumerate() {
             if let Some(operation) = journal.operation(happening.operation) {
-                change(op_of(marks, operation), block, &mut registers);
+                change(op_of(world.marks(), operation), block, &mut registers);
             }
-            let is_last = is_last(happenings.as_slice(), place, happening.position);
+            let is_last = is_last(happenings, place, happening.position);
             self.draw_happening(*happening, is_last, y, registers.as_slice());
         }
         Ok(())
@@ -262,7 +254,7 @@ impl Drawing {
         }
         picture.name.fill(" %", &[happening.operation]);
         if is_last {
-            let column = self.makers.get(happening.position as usize).copied();
+            let column = column_at(&self.makers, happening.position as usize);
             draw_happening(picture, column, y, registers);
         }
     }

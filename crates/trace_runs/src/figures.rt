@@ -2,7 +2,7 @@
 
 use crate::accounts::is_up;
 use crate::deeds::{put_answer, put_op};
-use crate::packets::names_of;
+use crate::packets::{kind_of, word_of};
 use crate::pictures::{Picture, left_of};
 use fab_base::{Answer, BrickId, Op};
 use messages::Packet;
@@ -72,7 +72,7 @@ pub(crate) fn draw_sent(
     }
     let number = (last as u64).saturating_add(1);
     picture.name.fill("% ", &[number]);
-    picture.label(x, y, names_of(&packet.message).0, &[]);
+    picture.label(x, y, word_of(&packet.message), &[]);
 }
 
 /// Draws a message that was to be delivered: an arrow from the column in which it was sent to another one.
@@ -83,12 +83,12 @@ pub(crate) fn draw_delivery(
     is_lost: bool,
     columns: (usize, usize),
 ) {
-    let (word, kind) = names_of(&packet.message);
     let x = left_of(columns.1).saturating_add(4);
     let y = lane_of(packet.to);
     let from = departure(columns.0, packet.from);
-    picture.line(kind, is_lost, from, (x, y));
+    picture.line(kind_of(&packet.message), is_lost, from, (x, y));
     picture.name.fill("#% ", &[number]);
+    let word = word_of(&packet.message);
     picture.label(x.saturating_add(6), y.saturating_sub(6), word, &[]);
 }
 
@@ -122,7 +122,7 @@ pub(crate) fn draw_stub(picture: &mut Picture, packet: &Packet, sender: usize) {
     } else {
         y.saturating_add(rise)
     };
-    let kind = names_of(&packet.message).1;
+    let kind = kind_of(&packet.message);
     picture.line(kind, true, (x, y), (x.saturating_add(16), end));
 }
 

@@ -8,6 +8,9 @@ use std::alloc::Global;
 use std::collections::{BTreeMap, BTreeSet};
 use world::World;
 
+/// A call: its coordinator, how often that brick's store had been opened, and the call's number since then.
+type CallKey = (u16, u32, u64);
+
 /// What is known of an operation.
 #[derive(Clone, Copy)]
 pub struct Operation {
@@ -23,50 +26,60 @@ pub struct Operation {
     phase: u32,
 }
 
+/// What is known of a message.
+#[derive(Clone, Copy)]
+struct Notice {
+    /// The operation that it is of.
+    operation: Option<u64>,
+    /// Whether it was delivered to a brick that was up.
+    is_delivered: bool,
+}
+
 /// What is known of the operations of a run.
+#[derive(Drop)]
 pub struct Journal {
     /// The operations by number, from 1.
     operations: Vec<Operation>,
-    /// How many had begun when each brick stopped the last time: of those its own have ended.
+    /// The messages by number, from 1.
+    notices: Vec<Notice>,
+    /// How many operations had begun when each brick stopped the last time: of those its own have ended.
     stopped: BTreeMap<u16, usize>,
-    /// The numbers of operations by their coordinator, its boot and their call.
-    numbers: BTreeMap<(u16, u32, u64), u64>,
+    /// The numbers of operations by their calls.
+    numbers: BTreeMap<CallKey, u64>,
     /// The stripes that operations named, by group and number.
     stripes: BTreeSet<(u32, u32)>,
     /// An operation that began, and none of whose messages was seen yet.
     nameless: Option<u64>,
-    /// The numbers of the messages that were delivered to a brick that was up.
-    delivered: BTreeSet<u64>,
     /// The replies that were counted, by operation, phase and brick.
     counted: BTreeSet<(u64, u32, u16)>,
 }
 
-impl Drop for Journal {
-    fn drop(self) {
-        let Self {
-            operations: _,
-            stopped: _,
-            numbers: _,
-            stripes: _,
-            nameless: _,
-            delivered: _,
-            counted: _,
-        } = self;
-    }
-}
-
-/// The coordinator and the call that a message is of. None where it is of no operation.
-fn call_of(packet: &Packet) -> Option<(BrickId, Call)> {
+/// The call that a message is of, and the number of its phase. None where it is of no operation.
+fn call_of(packet: &Packet) -> Option<(CallKey, u32)> {
     match &packet.message {
-        Message::Request(call, _) => Some((packet.from, *call)),
-        Message::Reply(call, _) => Some((packet.to, *call)),
+        Message::Request(call, _) => Some((key_of(packet.from, call), call.phase)),
+        Message::Reply(call, _) => Some((key_of(packet.to, call), call.phase)),
         _ => None,
     }
 }
 
-/// The operation of a number, to change it.
-fn operation_at(operations: &mut Vec<Operation>, number: u64) -> Option<&mut Operation> {
-    operations.get_mut((number as usize).wrapping_sub(1))
+/// A call of this coordinator.
+fn key_of(coordinator: BrickId, call: &Call) -> CallKey {
+    (coordinator.0, call.boot, call.seq)
+}
+
+/// The place of an operation, or of a message, of this number.
+fn place_of(number: u64) -> usize {
+    (number as usize).wrapping_sub(1)
+}
+
+/// Cuts off the operations of a brick that are open, at the mark at this place.
+fn cut_off(operations: &mut [Operation], brick: BrickId, place: usize) {
+    for operation in operations {
+        if operation.brick == brick && operation.end.is_none() {
+            operation.end = Some(place);
+        }
+    }
 }
 
 impl Journal {
@@ -74,18 +87,18 @@ impl Journal {
     pub fn new(alloc: Global) -> Journal {
         Journal {
             operations: Vec::new(alloc),
+            notices: Vec::new(alloc),
             stopped: BTreeMap::new(alloc),
             numbers: BTreeMap::new(alloc),
             stripes: BTreeSet::new(alloc),
             nameless: None,
-            delivered: BTreeSet::new(alloc),
             counted: BTreeSet::new(alloc),
         }
     }
 
     /// The operation of a number.
     pub fn operation(&self, number: u64) -> Option<&Operation> {
-        self.operations.get((number as usize).wrapping_sub(1))
+        self.operations.get(place_of(number))
     }
 
     /// All operations, number 1 first.
@@ -98,29 +111,55 @@ impl Journal {
         &self.stripes
     }
 
-    /// The number of the operation that a message is of.
-    pub fn operation_of(&self, packet: &Packet) -> Option<u64> {
-        let (coordinator, call) = call_of(packet)?;
-        self.numbers
-            .get(&(coordinator.0, call.boot, call.seq))
-            .copied()
+    /// The number of the operation that the message of a number is of.
+    pub fn operation_of(&self, number: u64) -> Option<u64> {
+        self.notices.get(place_of(number))?.operation
+    }
+
+    /// Whether the message of a number was delivered to a brick that was up.
+    pub(crate) fn was_delivered(&self, number: u64) -> bool {
+        match self.notices.get(place_of(number)) {
+            Some(notice) => notice.is_delivered,
+            None => false,
+        }
+    }
+
+    /// Sets that the message of a number was delivered to a brick that was up.
+    fn set_delivered(&mut self, number: u64) {
+        if let Some(notice) = self.notices.get_mut(place_of(number)) {
+            notice.is_delivered = true;
+        }
+    }
+
+    /// Whether the message at this place is of this operation, and no delivery of it was noted.
+    fn is_due(&self, place: usize, operation: u64) -> bool {
+        match self.notices.get(place) {
+            Some(notice) => notice.operation == Some(operation) && !notice.is_delivered,
+            None => false,
+        }
     }
 
     /// Notes that a message was delivered to a brick that was up, and answers what came of it where nothing else tells it. An operation counts the first
     /// reply of each brick in its newest phase.
     pub(crate) fn note_delivery(&mut self, number: u64, packet: &Packet) -> Result<Fate, NoMem> {
-        self.delivered.insert(number)?;
-        let call = match &packet.message {
-            Message::Reply(call, _) => call,
-            Message::Request(_, Request::Collect { .. }) => return Ok(Fate::Told),
-            _ => return Ok(Fate::Ignored),
-        };
-        let number = self.operation_of(packet).unwrap_or(0);
-        let is_due = match self.operation(number) {
-            Some(operation) => operation.end.is_none() && call.phase == operation.phase,
+        self.set_delivered(number);
+        match &packet.message {
+            Message::Reply(call, _) => {
+                let operation = self.operation_of(number).unwrap_or(0);
+                self.note_reply(operation, call.phase, packet.from)
+            }
+            Message::Request(_, Request::Collect { .. }) => Ok(Fate::Told),
+            _ => Ok(Fate::Ignored),
+        }
+    }
+
+    /// Notes a brick's reply in a phase of an operation, and answers whether it was counted.
+    fn note_reply(&mut self, operation: u64, phase: u32, brick: BrickId) -> Result<Fate, NoMem> {
+        let is_due = match self.operation(operation) {
+            Some(operation) => operation.end.is_none() && operation.phase == phase,
             None => false,
         };
-        if is_due && self.counted.insert((number, call.phase, packet.from.0))? {
+        if is_due && self.counted.insert((operation, phase, brick.0))? {
             return Ok(Fate::Counted);
         }
         Ok(Fate::NotCounted)
@@ -133,15 +172,14 @@ impl Journal {
         operation: u64,
         deliveries: &mut Vec<(u64, Fate)>,
     ) -> Result<(), NoMem> {
-        let sent = world.sent();
         let first = match self.operation(operation) {
             Some(found) => found.sent,
-            None => sent.len(),
+            None => self.notices.len(),
         };
-        for place in first..sent.len() {
+        for place in first..self.notices.len() {
             let number = (place as u64).saturating_add(1);
-            let is_own = self.operation_of(&sent[place]) == Some(operation);
-            if is_own && world.was_delivered(number) && self.delivered.insert(number)? {
+            if self.is_due(place, operation) && world.was_delivered(number) {
+                self.set_delivered(number);
                 deliveries.push((number, Fate::Told))?;
             }
         }
@@ -157,7 +195,7 @@ impl Journal {
         sent_before: usize,
     ) -> Result<(), NoMem> {
         for place in marks_before..marks.len() {
-            self.note_mark(place, &marks[place], sent_before)?;
+            self.note_mark(place, &marks[place])?;
         }
         for place in sent_before..sent.len() {
             self.note_sent(&sent[place])?;
@@ -165,8 +203,8 @@ impl Journal {
         Ok(())
     }
 
-    /// Notes the mark at this place, made by a line before which so many messages had been sent.
-    fn note_mark(&mut self, place: usize, mark: &Mark, sent: usize) -> Result<(), NoMem> {
+    /// Notes the mark at this place.
+    fn note_mark(&mut self, place: usize, mark: &Mark) -> Result<(), NoMem> {
         match mark {
             Mark::Begin {
                 operation,
@@ -179,14 +217,14 @@ impl Journal {
                     brick: *brick,
                     begin: place,
                     end: None,
-                    sent,
+                    sent: self.notices.len(),
                     phase: 0,
                 })?;
                 self.stripes.insert((ask.group.0, ask.stripe.0))?;
                 Ok(())
             }
             Mark::End { operation, .. } => {
-                if let Some(operation) = operation_at(&mut self.operations, *operation) {
+                if let Some(operation) = self.operations.get_mut(place_of(*operation)) {
                     operation.end = Some(place);
                 }
                 Ok(())
@@ -198,29 +236,33 @@ impl Journal {
     /// Notes that a brick stopped, at the mark at this place: its operations that were open are cut off.
     fn note_crash(&mut self, place: usize, brick: BrickId) -> Result<(), NoMem> {
         let count = self.operations.len();
-        let first = self.stopped.get(&brick.0).copied().unwrap_or(0).min(count);
-        for operation in &mut self.operations[first..] {
-            if operation.brick == brick && operation.end.is_none() {
-                operation.end = Some(place);
-            }
-        }
-        self.stopped.insert(brick.0, count)?;
+        let first = self.stopped.insert(brick.0, count)?.unwrap_or(0).min(count);
+        cut_off(&mut self.operations[first..], brick, place);
         Ok(())
     }
 
     /// Notes a message that was sent.
     fn note_sent(&mut self, packet: &Packet) -> Result<(), NoMem> {
-        let Some((coordinator, call)) = call_of(packet) else {
-            return Ok(());
+        let operation = match call_of(packet) {
+            Some((key, phase)) => self.note_call(key, phase)?,
+            None => None,
         };
-        if let Some(operation) = self.nameless.take() {
-            self.numbers
-                .insert((coordinator.0, call.boot, call.seq), operation)?;
-        }
-        let operation = self.operation_of(packet).unwrap_or(0);
-        if let Some(operation) = operation_at(&mut self.operations, operation) {
-            operation.phase = operation.phase.max(call.phase);
-        }
+        self.notices.push(Notice {
+            operation,
+            is_delivered: false,
+        })?;
         Ok(())
+    }
+
+    /// Notes that a message of a call was sent, in this phase, and answers the call's operation.
+    fn note_call(&mut self, key: CallKey, phase: u32) -> Result<Option<u64>, NoMem> {
+        if let Some(operation) = self.nameless.take() {
+            self.numbers.insert(key, operation)?;
+        }
+        let number = self.numbers.get(&key).copied();
+        if let Some(operation) = self.operations.get_mut(place_of(number.unwrap_or(0))) {
+            operation.phase = operation.phase.max(phase);
+        }
+        Ok(number)
     }
 }

@@ -13,7 +13,7 @@ mod pictures;
 mod taking;
 mod texts;
 
-pub use accounts::{Account, Fate, Stop, is_up, packet_at};
+pub use accounts::{Account, Fate, Stop, packet_at};
 pub use deeds::{answer_of, op_of, put_answer, put_op};
 pub use drawing::Drawing;
 pub use journals::{Journal, Operation};

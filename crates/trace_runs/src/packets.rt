@@ -3,50 +3,85 @@
 use crate::texts::Text;
 use messages::{Look, Message, Packet, Reply, Request, Version, Want};
 
-/// A request's word, and the kind that it is drawn as.
-fn request_names(request: &Request) -> (&'static str, &'static str) {
+/// A request's word.
+fn request_word(request: &Request) -> &'static str {
     match request {
-        Request::Read { .. } => ("read", "read"),
-        Request::Order { .. } => ("order", "order"),
-        Request::OrderRead { .. } => ("orderread", "order"),
-        Request::Write { .. } => ("write", "write"),
-        Request::Modify { .. } => ("modify", "write"),
-        Request::Collect { .. } => ("collect", "collect"),
-        Request::OldRead { .. } => ("oldread", "read"),
-        Request::Prepare { .. } => ("prepare", "collect"),
-        Request::Accept { .. } => ("accept", "collect"),
+        Request::Read { .. } => "read",
+        Request::Order { .. } => "order",
+        Request::OrderRead { .. } => "orderread",
+        Request::Write { .. } => "write",
+        Request::Modify { .. } => "modify",
+        Request::Collect { .. } => "collect",
+        Request::OldRead { .. } => "oldread",
+        Request::Prepare { .. } => "prepare",
+        Request::Accept { .. } => "accept",
     }
 }
 
-/// A reply's word, and the kind that it is drawn as.
-fn reply_names(reply: &Reply) -> (&'static str, &'static str) {
+/// A reply's word.
+fn reply_word(reply: &Reply) -> &'static str {
     match reply {
-        Reply::Found { .. } => ("found", "reply"),
-        Reply::Ordered => ("ordered", "reply"),
-        Reply::OrderedRead { .. } => ("orderedread", "reply"),
-        Reply::Stored => ("stored", "reply"),
-        Reply::Behind { .. } => ("behind", "refusal"),
-        Reply::Later { .. } => ("later", "refusal"),
-        Reply::Full { .. } => ("full", "refusal"),
-        Reply::Moved { .. } => ("moved", "refusal"),
-        Reply::Old { .. } => ("old", "reply"),
-        Reply::Retired => ("retired", "refusal"),
-        Reply::Promise { .. } => ("promise", "reply"),
-        Reply::Accepted => ("accepted", "reply"),
-        Reply::Outbid { .. } => ("outbid", "refusal"),
-        Reply::NotSynced => ("notsynced", "refusal"),
+        Reply::Found { .. } => "found",
+        Reply::Ordered => "ordered",
+        Reply::OrderedRead { .. } => "orderedread",
+        Reply::Stored => "stored",
+        Reply::Behind { .. } => "behind",
+        Reply::Later { .. } => "later",
+        Reply::Full { .. } => "full",
+        Reply::Moved { .. } => "moved",
+        Reply::Old { .. } => "old",
+        Reply::Retired => "retired",
+        Reply::Promise { .. } => "promise",
+        Reply::Accepted => "accepted",
+        Reply::Outbid { .. } => "outbid",
+        Reply::NotSynced => "notsynced",
     }
 }
 
-/// A message's word, and the kind that it is drawn as.
-pub(crate) fn names_of(message: &Message) -> (&'static str, &'static str) {
+/// A message's word.
+pub(crate) fn word_of(message: &Message) -> &'static str {
     match message {
-        Message::Request(_, request) => request_names(request),
-        Message::Reply(_, reply) => reply_names(reply),
-        Message::Learn { .. } => ("learn", "collect"),
-        Message::Synced { .. } => ("synced", "collect"),
-        Message::Client(_) => ("client", "read"),
-        Message::ClientReply { .. } => ("clientreply", "reply"),
+        Message::Request(_, request) => request_word(request),
+        Message::Reply(_, reply) => reply_word(reply),
+        Message::Learn { .. } => "learn",
+        Message::Synced { .. } => "synced",
+        Message::Client(_) => "client",
+        Message::ClientReply { .. } => "clientreply",
+    }
+}
+
+/// Whether a reply refuses.
+fn is_refusal(reply: &Reply) -> bool {
+    matches!(
+        reply,
+        Reply::Behind { .. }
+            | Reply::Later { .. }
+            | Reply::Full { .. }
+            | Reply::Moved { .. }
+            | Reply::Retired
+            | Reply::Outbid { .. }
+            | Reply::NotSynced
+    )
+}
+
+/// The kind that a request is drawn as.
+fn request_kind(request: &Request) -> &'static str {
+    match request {
+        Request::Read { .. } | Request::OldRead { .. } => "read",
+        Request::Order { .. } | Request::OrderRead { .. } => "order",
+        Request::Write { .. } | Request::Modify { .. } => "write",
+        _ => "collect",
+    }
+}
+
+/// The kind that a message is drawn as.
+pub(crate) fn kind_of(message: &Message) -> &'static str {
+    match message {
+        Message::Request(_, request) => request_kind(request),
+        Message::Reply(_, reply) if is_refusal(reply) => "refusal",
+        Message::Reply(..) | Message::ClientReply { .. } => "reply",
+        Message::Learn { .. } | Message::Synced { .. } => "collect",
+        Message::Client(_) => "read",
     }
 }
 
@@ -124,7 +159,7 @@ fn put_reply(text: &mut Text, reply: &Reply) {
 /// Writes the message of a number, of this operation, as `#7 write 1>0 op 1 phase 2 stamp 1.1.0.1 block 41`.
 pub fn put_message(text: &mut Text, number: u64, packet: &Packet, operation: Option<u64>) {
     text.fill("#% ", &[number]);
-    text.put(names_of(&packet.message).0);
+    text.put(word_of(&packet.message));
     text.fill(" %>%", &[packet.from.0.into(), packet.to.0.into()]);
     if let Some(operation) = operation {
         text.fill(" op %", &[operation]);

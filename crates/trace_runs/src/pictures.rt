@@ -62,23 +62,13 @@ const FRONT: &str = "<?xml version=\"1.0\" encoding=\"UTF-8\"?>
 const GROUND: &str = "<rect width=\"100%\" height=\"100%\" fill=\"#FFFFFF\"/>\n";
 
 /// A picture.
+#[derive(Drop)]
 pub(crate) struct Picture {
     alloc: Global,
     shapes: Text,
     labels: Text,
     /// What the next label says.
     pub(crate) name: Text,
-}
-
-impl Drop for Picture {
-    fn drop(self) {
-        let Self {
-            alloc: _,
-            shapes: _,
-            labels: _,
-            name: _,
-        } = self;
-    }
 }
 
 /// What stands before the shapes of a picture of this width and height.

@@ -10,20 +10,12 @@ use std::alloc::Global;
 use world::{StepFault, World};
 
 /// A line that was run.
+#[derive(Drop)]
 pub struct Taken {
     /// What it did.
     pub account: Account,
     /// What `replay` prints for it.
     pub printed: Bytes,
-}
-
-impl Drop for Taken {
-    fn drop(self) {
-        let Self {
-            account: _,
-            printed: _,
-        } = self;
-    }
 }
 
 /// Runs a line, and answers what `replay` prints for it. None where it is no line.
@@ -35,6 +27,11 @@ fn step(world: &mut World, content: &[u8]) -> Result<Option<Bytes>, NoMem>
         Err(StepFault::BadLine) => Ok(None),
         Err(StepFault::NoMemory) => Err(NoMem::NoMemory),
     }
+}
+
+/// Whether `replay` prints for a line that it did nothing.
+fn is_idle(printed: &Bytes) -> bool {
+    printed.as_slice() == b"idle\n".as_slice()
 }
 
 /// Runs a line, and answers what it did. None where it is no line.
@@ -49,7 +46,7 @@ pub fn take_line(
     let before = (world.marks().len(), world.sent().len());
     match step(world, content)? {
         Some(printed) => {
-            let is_idle = printed.as_slice() == b"idle\n".as_slice();
+            let is_idle = is_idle(&printed);
             let account = Account::of(alloc, world, journal, before, content, is_idle)?;
             Ok(Some(Taken { account, printed }))
         }

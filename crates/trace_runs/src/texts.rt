@@ -9,19 +9,20 @@ const SHOWN_BYTES: usize = 8;
 /// The most characters of a label.
 pub(crate) const CHARACTERS: usize = 20;
 
+/// The character that stands for a byte of a label.
+fn shown_as(byte: u8) -> char {
+    match byte {
+        b'<' | b'>' | b'&' | b'"' => '?',
+        b' '..=b'~' => char::from(byte),
+        _ => '?',
+    }
+}
+
 /// A text that is being made. Where a piece found no memory it is missing, and the text is never whole.
+#[derive(Drop)]
 pub struct Text {
     text: String,
     has_gap: bool,
-}
-
-impl Drop for Text {
-    fn drop(self) {
-        let Self {
-            text: _,
-            has_gap: _,
-        } = self;
-    }
 }
 
 impl Text {
@@ -72,10 +73,9 @@ impl Text {
 
     /// Adds bytes in hex, the first 8 of them alone where there are more.
     pub fn put_hex(&mut self, bytes: &[u8]) {
-        for byte in bytes.iter().take(SHOWN_BYTES) {
-            if write!(self.text, "{byte:02x}").is_err() {
-                self.has_gap = true;
-            }
+        let shown = bytes.len().min(SHOWN_BYTES);
+        for byte in &bytes[..shown] {
+            self.put_byte(*byte);
         }
         self.put(match bytes.len() {
             0 => "none",
@@ -84,18 +84,26 @@ impl Text {
         });
     }
 
+    /// Adds a byte in hex.
+    fn put_byte(&mut self, byte: u8) {
+        if write!(self.text, "{byte:02x}").is_err() {
+            self.has_gap = true;
+        }
+    }
+
     /// Adds the first characters of a label, with `?` for what is no printable ASCII or has a meaning in SVG.
     pub(crate) fn put_label(&mut self, label: &[u8]) {
-        for byte in label.iter().take(CHARACTERS) {
-            let shown = match byte {
-                b'<' | b'>' | b'&' | b'"' => '?',
-                b' '..=b'~' => char::from(*byte),
-                _ => '?',
-            };
-            if self.text.push(shown).is_err() {
+        let shown = label.len().min(CHARACTERS);
+        for byte in &label[..shown] {
+            if self.text.push(shown_as(*byte)).is_err() {
                 self.has_gap = true;
             }
         }
+    }
+
+    /// Notes that a piece is missing.
+    pub(crate) fn note_gap(&mut self) {
+        self.has_gap = true;
     }
 
     /// Takes all pieces away. A gap stays noted.
