@@ -5,7 +5,7 @@
 
 Runs `rt ci --anew` in this repository, which proves all from nothing, whatever earlier runs kept on this machine. It writes what that prints to
 FILE (bench/gate/printed, if it isn't given), and then prints the processor seconds (user and system) of each crate's proof with its programs' builds,
-and of its wrong bodies, and the sum that the system counts for the whole run.
+of the tools that those started (LLVM and linkers), and of its wrong bodies, and the sum that the system counts for the whole run.
 It looks at the running checks each half second, so that the last half second of each is missing: the sum of the crates is some hundredths less
 than the whole. Run it with nothing else on the machine. It ends with the status of `rt ci`.
 """
@@ -23,30 +23,47 @@ TICKS = os.sysconf("SC_CLK_TCK")
 PAUSE = 0.5
 
 
-def running_checks():
-    """Each running check: its process and when that began, its crate, whether it tries a wrong body, and its processor seconds so far."""
+def running():
+    """Each running process by its number: its parent's, when it began, its words, its folder, and its processor seconds so far."""
+    found = {}
     for name in os.listdir("/proc"):
         if not name.isdigit():
             continue
         try:
             with open(f"/proc/{name}/cmdline", "rb") as it:
                 words = it.read().decode(errors="replace").split("\0")
-            if not words[0].endswith("/rattle") or "--crate-name" not in words:
-                continue
             folder = os.readlink(f"/proc/{name}/cwd")
             with open(f"/proc/{name}/stat") as it:
                 fields = it.read().rpartition(")")[2].split()
         except OSError:
             continue
-        seconds = (int(fields[11]) + int(fields[12])) / TICKS
-        yield (name, fields[19]), words[words.index("--crate-name") + 1], "rt-edit" in folder, seconds
+        found[name] = fields[1], fields[19], words, folder, (int(fields[11]) + int(fields[12])) / TICKS
+    return found
+
+
+def is_check(words):
+    """Whether these are the words of a check of a crate, or of a build."""
+    return words[0].endswith("/rattle") and "--crate-name" in words
+
+
+def running_checks():
+    """Each running check and each tool that one started: its process and when that began, its crate, what it counts for, and its seconds."""
+    found = running()
+    for name, (_, begun, own, _, seconds) in found.items():
+        above = name
+        while above in found and not is_check(found[above][2]):
+            above = found[above][0]
+        if above in found:
+            _, _, words, folder, _ = found[above]
+            kind = "wrong bodies" if "rt-edit" in folder else "proof" if is_check(own) else "tools"
+            yield (name, begun), words[words.index("--crate-name") + 1], kind, seconds
 
 
 def watch(found, ended):
     """Notes the running checks until `ended` is set."""
     while not ended.wait(PAUSE):
-        for process, crate, is_edit, seconds in running_checks():
-            found[process] = (crate, is_edit, seconds)
+        for process, crate, kind, seconds in running_checks():
+            found[process] = crate, kind, seconds
 
 
 def main(words):
@@ -62,13 +79,13 @@ def main(words):
     ended.set()
     watcher.join()
     used = resource.getrusage(resource.RUSAGE_CHILDREN)
-    proofs, edits = collections.Counter(), collections.Counter()
-    for crate, is_edit, seconds in found.values():
-        (edits if is_edit else proofs)[crate] += seconds
-    print("crate | proof and builds, s | wrong bodies, s")
-    for crate in sorted({*proofs, *edits}, key=lambda it: -proofs[it]):
-        print(f"{crate} | {proofs[crate]:.0f} | {edits[crate]:.0f}")
-    print(f"all crates | {sum(proofs.values()):.0f} | {sum(edits.values()):.0f}")
+    spent = {kind: collections.Counter() for kind in ("proof", "tools", "wrong bodies")}
+    for crate, kind, seconds in found.values():
+        spent[kind][crate] += seconds
+    print("crate | proof and builds, s | their tools, s | wrong bodies, s")
+    for crate in sorted({name for of in spent.values() for name in of}, key=lambda it: -spent["proof"][it]):
+        print(" | ".join([crate, *(f"{of[crate]:.0f}" for of in spent.values())]))
+    print(" | ".join(["all crates", *(f"{sum(of.values()):.0f}" for of in spent.values())]))
     print(f"the whole run: {(used.ru_utime + used.ru_stime) / 60:.1f} processor minutes, {wall / 60:.1f} minutes on {os.cpu_count()} processors")
     with open(printed) as it:
         last = [line for line in it if re.search(r"\d+ passed, \d+ failed", line)]

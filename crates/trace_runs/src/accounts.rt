@@ -110,8 +110,8 @@ impl Account {
             Line::Deliver { message, fault } => {
                 self.note_delivery(world, journal, *message, *fault, is_idle)
             }
-            Line::Calm { operation, .. } => {
-                journal.note_deliveries(world, *operation, &mut self.deliveries)
+            Line::Calm { operation, .. } if !is_idle => {
+                journal.list_deliveries(world, *operation, &mut self.deliveries)
             }
             Line::Start { brick, fault } => {
                 self.note_start(world, *brick, *fault, is_idle);

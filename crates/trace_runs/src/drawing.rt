@@ -20,7 +20,6 @@ use world::World;
 const ROW: u64 = 19;
 
 /// A run that is drawn, a line of its schedule after another. Where a column finds no memory to be noted, the picture is never whole.
-#[derive(Drop)]
 pub struct Drawing {
     alloc: Global,
     picture: Picture,
@@ -32,6 +31,19 @@ pub struct Drawing {
     makers: Vec<usize>,
     /// The last column that is taken of each row of bars.
     rows: Vec<usize>,
+}
+
+impl Drop for Drawing {
+    fn drop(self) {
+        let Self {
+            alloc: _,
+            picture: _,
+            columns: _,
+            senders: _,
+            makers: _,
+            rows: _,
+        } = self;
+    }
 }
 
 /// The column at this place, where there is one.
@@ -160,7 +172,7 @@ impl Drawing {
     pub fn finish(&mut self, world: &World, journal: &Journal) -> Result<Text, NoMem> {
         let bricks = world.layout().bricks();
         draw_names(&mut self.picture, bricks);
-        self.draw_stubs(world.sent(), journal);
+        self.draw_stubs(world);
         let mut y = self.draw_bars(world.marks(), journal, lane_of(BrickId(bricks)));
         let entries = world.stripe_entries()?;
         for (group, stripe) in journal.stripes() {
@@ -173,11 +185,11 @@ impl Drawing {
     }
 
     /// Draws the messages that were never delivered.
-    fn draw_stubs(&mut self, sent: &[Packet], journal: &Journal) {
-        for (place, packet) in sent.iter().enumerate() {
+    fn draw_stubs(&mut self, world: &World) {
+        for (place, packet) in world.sent().iter().enumerate() {
             let number = (place as u64).saturating_add(1);
             let sender = column_at(&self.senders, place);
-            if let (Some(sender), false) = (sender, journal.was_delivered(number)) {
+            if let (Some(sender), false) = (sender, world.was_delivered(number)) {
                 draw_stub(&mut self.picture, packet, sender);
             }
         }

@@ -26,22 +26,12 @@ pub struct Operation {
     phase: u32,
 }
 
-/// What is known of a message.
-#[derive(Clone, Copy)]
-struct Notice {
-    /// The operation that it is of.
-    operation: Option<u64>,
-    /// Whether it was delivered to a brick that was up.
-    is_delivered: bool,
-}
-
 /// What is known of the operations of a run.
-#[derive(Drop)]
 pub struct Journal {
     /// The operations by number, from 1.
     operations: Vec<Operation>,
-    /// The messages by number, from 1.
-    notices: Vec<Notice>,
+    /// The operation that each message is of, by number from 1.
+    owners: Vec<Option<u64>>,
     /// How many operations had begun when each brick stopped the last time: of those its own have ended.
     stopped: BTreeMap<u16, usize>,
     /// The numbers of operations by their calls.
@@ -52,6 +42,20 @@ pub struct Journal {
     nameless: Option<u64>,
     /// The replies that were counted, by operation, phase and brick.
     counted: BTreeSet<(u64, u32, u16)>,
+}
+
+impl Drop for Journal {
+    fn drop(self) {
+        let Self {
+            operations: _,
+            owners: _,
+            stopped: _,
+            numbers: _,
+            stripes: _,
+            nameless: _,
+            counted: _,
+        } = self;
+    }
 }
 
 /// The call that a message is of, and the number of its phase. None where it is of no operation.
@@ -87,7 +91,7 @@ impl Journal {
     pub fn new(alloc: Global) -> Journal {
         Journal {
             operations: Vec::new(alloc),
-            notices: Vec::new(alloc),
+            owners: Vec::new(alloc),
             stopped: BTreeMap::new(alloc),
             numbers: BTreeMap::new(alloc),
             stripes: BTreeSet::new(alloc),
@@ -113,36 +117,12 @@ impl Journal {
 
     /// The number of the operation that the message of a number is of.
     pub fn operation_of(&self, number: u64) -> Option<u64> {
-        self.notices.get(place_of(number))?.operation
+        *self.owners.get(place_of(number))?
     }
 
-    /// Whether the message of a number was delivered to a brick that was up.
-    pub(crate) fn was_delivered(&self, number: u64) -> bool {
-        match self.notices.get(place_of(number)) {
-            Some(notice) => notice.is_delivered,
-            None => false,
-        }
-    }
-
-    /// Sets that the message of a number was delivered to a brick that was up.
-    fn set_delivered(&mut self, number: u64) {
-        if let Some(notice) = self.notices.get_mut(place_of(number)) {
-            notice.is_delivered = true;
-        }
-    }
-
-    /// Whether the message at this place is of this operation, and no delivery of it was noted.
-    fn is_due(&self, place: usize, operation: u64) -> bool {
-        match self.notices.get(place) {
-            Some(notice) => notice.operation == Some(operation) && !notice.is_delivered,
-            None => false,
-        }
-    }
-
-    /// Notes that a message was delivered to a brick that was up, and answers what came of it where nothing else tells it. An operation counts the first
+    /// Notes that the message of a number was delivered to a brick that was up, and answers what came of it where nothing else tells it. An operation counts the first
     /// reply of each brick in its newest phase.
     pub(crate) fn note_delivery(&mut self, number: u64, packet: &Packet) -> Result<Fate, NoMem> {
-        self.set_delivered(number);
         match &packet.message {
             Message::Reply(call, _) => {
                 let operation = self.operation_of(number).unwrap_or(0);
@@ -165,21 +145,21 @@ impl Journal {
         Ok(Fate::NotCounted)
     }
 
-    /// Notes the messages of an operation that were delivered as it ran alone.
-    pub(crate) fn note_deliveries(
-        &mut self,
+    /// Lists the messages of an operation that were delivered as it ran alone: none of its messages was delivered before.
+    pub(crate) fn list_deliveries(
+        &self,
         world: &World,
         operation: u64,
         deliveries: &mut Vec<(u64, Fate)>,
     ) -> Result<(), NoMem> {
         let first = match self.operation(operation) {
             Some(found) => found.sent,
-            None => self.notices.len(),
+            None => self.owners.len(),
         };
-        for place in first..self.notices.len() {
+        for place in first..self.owners.len() {
             let number = (place as u64).saturating_add(1);
-            if self.is_due(place, operation) && world.was_delivered(number) {
-                self.set_delivered(number);
+            let is_own = self.operation_of(number) == Some(operation);
+            if is_own && world.was_delivered(number) {
                 deliveries.push((number, Fate::Told))?;
             }
         }
@@ -217,7 +197,7 @@ impl Journal {
                     brick: *brick,
                     begin: place,
                     end: None,
-                    sent: self.notices.len(),
+                    sent: self.owners.len(),
                     phase: 0,
                 })?;
                 self.stripes.insert((ask.group.0, ask.stripe.0))?;
@@ -247,10 +227,7 @@ impl Journal {
             Some((key, phase)) => self.note_call(key, phase)?,
             None => None,
         };
-        self.notices.push(Notice {
-            operation,
-            is_delivered: false,
-        })?;
+        self.owners.push(operation)?;
         Ok(())
     }
 

@@ -10,12 +10,20 @@ use std::alloc::Global;
 use world::{StepFault, World};
 
 /// A line that was run.
-#[derive(Drop)]
 pub struct Taken {
     /// What it did.
     pub account: Account,
     /// What `replay` prints for it.
     pub printed: Bytes,
+}
+
+impl Drop for Taken {
+    fn drop(self) {
+        let Self {
+            account: _,
+            printed: _,
+        } = self;
+    }
 }
 
 /// Runs a line, and answers what `replay` prints for it. None where it is no line.

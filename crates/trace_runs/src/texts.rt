@@ -19,10 +19,18 @@ fn shown_as(byte: u8) -> char {
 }
 
 /// A text that is being made. Where a piece found no memory it is missing, and the text is never whole.
-#[derive(Drop)]
 pub struct Text {
     text: String,
     has_gap: bool,
+}
+
+impl Drop for Text {
+    fn drop(self) {
+        let Self {
+            text: _,
+            has_gap: _,
+        } = self;
+    }
 }
 
 impl Text {
