@@ -2,7 +2,7 @@
 
 use fab_base::BrickId;
 use messages::Packet;
-use trace_runs::{Account, Fate, Journal, Stop, Text, packet_at, put_message};
+use trace_runs::{Account, Fate, Journal, Stop, Text, number_at, packet_at, put_message};
 
 /// Writes the message of a number, of all that were sent, with its number.
 fn put_packet(notes: &mut Text, sent: &[Packet], journal: &Journal, number: u64) {
@@ -54,7 +54,7 @@ pub(crate) fn note_account(
         notes.fill("brick % started\n", &[brick.0.into()]);
     }
     for place in account.sent..sent.len() {
-        put_packet(notes, sent, journal, (place as u64).saturating_add(1));
+        put_packet(notes, sent, journal, number_at(place));
         notes.put("\n");
     }
 }

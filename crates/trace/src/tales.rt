@@ -163,15 +163,8 @@ fn tell_lines<S: Source, K: Sink>(
         match take_turn(alloc, world, &mut journal, source, unread, count)? {
             Turn::Ran(line, taken) => {
                 let content = content_of(line.as_slice());
-                tell_line(
-                    alloc,
-                    world.sent(),
-                    &journal,
-                    sink,
-                    count + 1,
-                    content,
-                    &taken,
-                )?;
+                let sent = world.sent();
+                tell_line(alloc, sent, &journal, sink, count + 1, content, &taken)?;
             }
             Turn::Ended => return finish(alloc, world, &journal, sink),
             Turn::Refused(verdict, why) => return refuse(alloc, sink, verdict, why.as_str()),

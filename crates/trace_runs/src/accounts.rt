@@ -1,6 +1,6 @@
 //! What a line of a schedule did.
 
-use crate::journals::Journal;
+use crate::journals::{Journal, place_of};
 use fab_base::{BrickId, GroupId, NoMem, StripeNo};
 use lines::{Fault, Line, parse};
 use messages::Packet;
@@ -59,7 +59,7 @@ pub(crate) fn is_up(world: &World, brick: BrickId) -> bool {
 
 /// The message of a number, among all that were sent.
 pub fn packet_at(sent: &[Packet], number: u64) -> Option<&Packet> {
-    sent.get((number as usize).wrapping_sub(1))
+    sent.get(place_of(number))
 }
 
 /// What befell a call of a brick's disk, where the brick is up or not now that the line was run.

@@ -6,7 +6,7 @@ use crate::figures::{
     LANE, NAMES, draw_answer, draw_bar, draw_delivery, draw_happening, draw_lanes, draw_names,
     draw_power, draw_sent, draw_stripe, draw_stub, draw_title, lane_of,
 };
-use crate::journals::{Journal, Operation};
+use crate::journals::{Journal, Operation, number_at, place_of};
 use crate::pictures::Picture;
 use crate::texts::Text;
 use fab_base::{BrickId, GroupId, NoMem, StripeNo};
@@ -133,7 +133,7 @@ impl Drawing {
     /// Notes where the messages of a line were sent.
     fn add_messages(&mut self, sent: &[Packet], account: &Account, column: usize) {
         for place in account.sent..sent.len() {
-            let number = (place as u64).saturating_add(1);
+            let number = number_at(place);
             let sender = sender_of(sent, account, column, number, &sent[place]);
             if self.senders.push(sender).is_err() {
                 self.picture.name.note_gap();
@@ -159,8 +159,7 @@ impl Drawing {
         for (place, (number, fate)) in account.deliveries.iter().enumerate() {
             if let Some(packet) = packet_at(sent, *number) {
                 let column = first.saturating_add(place);
-                let place = (*number as usize).wrapping_sub(1);
-                let sender = column_at(&self.senders, place).unwrap_or(column);
+                let sender = column_at(&self.senders, place_of(*number)).unwrap_or(column);
                 let is_lost = matches!(fate, Fate::Down);
                 let columns = (sender, column);
                 draw_delivery(&mut self.picture, packet, *number, is_lost, columns);
@@ -187,7 +186,7 @@ impl Drawing {
     /// Draws the messages that were never delivered.
     fn draw_stubs(&mut self, world: &World) {
         for (place, packet) in world.sent().iter().enumerate() {
-            let number = (place as u64).saturating_add(1);
+            let number = number_at(place);
             let sender = column_at(&self.senders, place);
             if let (Some(sender), false) = (sender, world.was_delivered(number)) {
                 draw_stub(&mut self.picture, packet, sender);
@@ -222,7 +221,7 @@ impl Drawing {
                 let last = end.unwrap_or(self.columns.saturating_sub(1));
                 let row = self.take_row(first, last);
                 let y = row.saturating_mul(ROW).saturating_add(top);
-                let number = (place as u64).saturating_add(1);
+                let number = number_at(place);
                 let answer = answer_of(marks, operation);
                 let op = op_of(marks, operation);
                 draw_bar(&mut self.picture, number, op, answer, (first, last), y);

@@ -2,6 +2,7 @@
 
 use crate::accounts::is_up;
 use crate::deeds::{put_answer, put_op};
+use crate::journals::number_at;
 use crate::packets::{kind_of, word_of};
 use crate::pictures::{Picture, left_of};
 use fab_base::{Answer, BrickId, Op};
@@ -67,11 +68,9 @@ pub(crate) fn draw_sent(
     let y = lane_of(packet.from).saturating_add(14);
     picture.name.put("+#");
     if first < last {
-        let number = (first as u64).saturating_add(1);
-        picture.name.fill("%-", &[number]);
+        picture.name.fill("%-", &[number_at(first)]);
     }
-    let number = (last as u64).saturating_add(1);
-    picture.name.fill("% ", &[number]);
+    picture.name.fill("% ", &[number_at(last)]);
     picture.label(x, y, word_of(&packet.message), &[]);
 }
 

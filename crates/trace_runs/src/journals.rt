@@ -72,9 +72,14 @@ fn key_of(coordinator: BrickId, call: &Call) -> CallKey {
     (coordinator.0, call.boot, call.seq)
 }
 
-/// The place of an operation, or of a message, of this number.
-fn place_of(number: u64) -> usize {
+/// The place of the operation, or of the message, of a number.
+pub(crate) fn place_of(number: u64) -> usize {
     (number as usize).wrapping_sub(1)
+}
+
+/// The number of the operation, or of the message, at a place.
+pub fn number_at(place: usize) -> u64 {
+    (place as u64).saturating_add(1)
 }
 
 /// Cuts off the operations of a brick that are open, at the mark at this place.
@@ -120,8 +125,8 @@ impl Journal {
         *self.owners.get(place_of(number))?
     }
 
-    /// Notes that the message of a number was delivered to a brick that was up, and answers what came of it where nothing else tells it. An operation counts the first
-    /// reply of each brick in its newest phase.
+    /// What came of the message of a number, which was delivered to a brick that was up, where no message or mark tells it. A reply that was
+    /// counted is noted: an operation counts the first reply of each brick in its newest phase.
     pub(crate) fn note_delivery(&mut self, number: u64, packet: &Packet) -> Result<Fate, NoMem> {
         match &packet.message {
             Message::Reply(call, _) => {
@@ -157,7 +162,7 @@ impl Journal {
             None => self.owners.len(),
         };
         for place in first..self.owners.len() {
-            let number = (place as u64).saturating_add(1);
+            let number = number_at(place);
             let is_own = self.operation_of(number) == Some(operation);
             if is_own && world.was_delivered(number) {
                 deliveries.push((number, Fate::Told))?;

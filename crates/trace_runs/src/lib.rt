@@ -16,7 +16,7 @@ mod texts;
 pub use accounts::{Account, Fate, Stop, packet_at};
 pub use deeds::{answer_of, op_of, put_answer, put_op};
 pub use drawing::Drawing;
-pub use journals::{Journal, Operation};
+pub use journals::{Journal, Operation, number_at};
 pub use packets::put_message;
 pub use taking::{Taken, take_line};
 pub use texts::Text;
