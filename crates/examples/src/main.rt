@@ -6,15 +6,23 @@
 //! output. Such a run must end with the status of that fault, and print no more than a prefix of the output. The line `fronts NAME` runs
 //! each front of NAME.in: it must end with the status that stands at the place of its length in NAME.fronts, a digit each. The line
 //! `trace NAME` runs the program `trace` over NAME.in with the word `text`: it must print what stands in NAME.trace. The line `svg NAME`
-//! runs it with the word `svg`: no two labels of the picture may overlap.
+//! runs it with the word `svg`: no two labels of the picture may overlap. The line `stops NAME` runs it with the word `text` again
+//! and again. Each line of NAME.stops is `FAULT: LINE; LINE ..`: this fault of a disk takes the place of the word `FAULT` of NAME.in, and the lines
+//! of the trace that name no message must be these: what `replay` prints, where disks stopped, what happened, and what bricks keep in the end.
+//!
+//! The line `often WRITES` writes a stripe so often over bricks with little room, by `replay`, each write alone, and has each brick drop what is
+//! older: all must be done.
 #![tactic(auto)]
 
 mod labels;
+mod stops;
+mod writes;
 
 use fab_io::{MemSink, MemSource};
 use replay::replay;
 use std::alloc::{AllocError, Global};
 use std::rt::Files;
+use std::str::SplitWhitespace;
 use std::{fmt, fs, io};
 use trace::trace;
 
@@ -65,6 +73,10 @@ enum Kind {
     Trace,
     /// It is drawn by `trace`.
     Svg,
+    /// It is run by `trace` with each of some faults of a disk.
+    Stops,
+    /// It is a number of writes, which `replay` runs.
+    Often,
 }
 
 impl Kind {
@@ -75,6 +87,8 @@ impl Kind {
             "fronts" => Kind::Fronts,
             "trace" => Kind::Trace,
             "svg" => Kind::Svg,
+            "stops" => Kind::Stops,
+            "often" => Kind::Often,
             _ => Kind::Run,
         }
     }
@@ -85,15 +99,16 @@ impl Kind {
             Kind::Run | Kind::Faults => Some("out"),
             Kind::Fronts => Some("fronts"),
             Kind::Trace => Some("trace"),
-            Kind::Svg => None,
+            Kind::Stops => Some("stops"),
+            Kind::Svg | Kind::Often => None,
         }
     }
 
     /// The word of the program where the line gives none.
     fn word(self) -> &'static str {
         match self {
-            Kind::Run | Kind::Faults | Kind::Fronts => "run",
-            Kind::Trace => "text",
+            Kind::Run | Kind::Faults | Kind::Fronts | Kind::Often => "run",
+            Kind::Trace | Kind::Stops => "text",
             Kind::Svg => "svg",
         }
     }
@@ -106,6 +121,8 @@ impl Kind {
             Kind::Fronts => " cut short",
             Kind::Trace => " traced",
             Kind::Svg => " drawn",
+            Kind::Stops => " stopped",
+            Kind::Often => " writes over little room",
         }
     }
 }
@@ -119,8 +136,8 @@ struct Ending {
 
 /// What is run, and what is wanted of it.
 #[derive(Drop)]
-struct Case {
-    name: String,
+struct Case<'a> {
+    name: &'a str,
     kind: Kind,
     words: Vec<String>,
     input: Vec<u8>,
@@ -152,31 +169,47 @@ impl fmt::Display for Trouble {
     }
 }
 
-impl Case {
+/// The words of a program: those that are left of a line, or else one.
+fn words_of(
+    alloc: Global,
+    tokens: &mut SplitWhitespace<'_>,
+    word: &str,
+) -> Result<Vec<String>, AllocError> {
+    let mut words = Vec::new(alloc);
+    for token in tokens {
+        words.push(String::from_str(alloc, token)?)?;
+    }
+    if words.is_empty() {
+        words.push(String::from_str(alloc, word)?)?;
+    }
+    Ok(words)
+}
+
+/// What stands in the file of a case, by the last part of the file's name. Nothing where there is none.
+fn file(rt: &(impl Files + AllocGlobal), name: &str, suffix: Option<&str>) -> io::Result<Vec<u8>> {
+    match suffix {
+        Some(suffix) => fs::read(rt, format!(in rt.alloc(); "{name}.{suffix}")?),
+        None => Ok(Vec::new(rt.alloc())),
+    }
+}
+
+impl<'a> Case<'a> {
     /// What a line says, with the files that it names.
-    fn read(rt: &(impl Files + AllocGlobal), line: &str) -> io::Result<Case> {
-        let alloc = rt.alloc();
+    fn read(rt: &(impl Files + AllocGlobal), line: &'a str) -> io::Result<Case<'a>> {
         let mut tokens = line.split_whitespace();
         let first = tokens.next().unwrap_or("");
         let kind = Kind::of(first);
         let name = match kind {
             Kind::Run => first,
-            Kind::Faults | Kind::Fronts | Kind::Trace | Kind::Svg => tokens.next().unwrap_or(""),
+            _ => tokens.next().unwrap_or(""),
         };
         let status = tokens.next().unwrap_or("0").parse().unwrap_or(u8::MAX);
-        let mut words = Vec::new(alloc);
-        for token in tokens {
-            words.push(String::from_str(alloc, token)?)?;
-        }
-        if words.is_empty() {
-            words.push(String::from_str(alloc, kind.word())?)?;
-        }
-        let input = fs::read(rt, format!(in alloc; "{name}.in")?)?;
-        let output = match kind.suffix() {
-            Some(suffix) => fs::read(rt, format!(in alloc; "{name}.{suffix}")?)?,
-            None => Vec::new(alloc),
+        let words = words_of(rt.alloc(), &mut tokens, kind.word())?;
+        let input = match kind {
+            Kind::Often => writes::over_little_room(rt.alloc(), name.parse().unwrap_or(0))?,
+            _ => file(rt, name, Some("in"))?,
         };
-        let name = String::from_str(alloc, name)?;
+        let output = file(rt, name, kind.suffix())?;
         Ok(Case {
             name,
             kind,
@@ -208,7 +241,7 @@ impl Case {
             None => (),
         }
         let words = self.words.as_slice();
-        let status = if matches!(self.kind, Kind::Trace | Kind::Svg) {
+        let status = if matches!(self.kind, Kind::Trace | Kind::Svg | Kind::Stops) {
             let mut errors = MemSink::new(alloc);
             trace(alloc, words, &mut source, &mut sink, &mut errors)
         } else {
@@ -235,6 +268,32 @@ impl Case {
             }
         }
         Ok(None)
+    }
+
+    /// What is wrong where a fault of a disk takes its place in the input, for each fault that the output lists.
+    fn trouble_of_stops(&self, alloc: Global) -> Result<Option<Trouble>, AllocError> {
+        let input = str::from_utf8(self.input.as_slice()).unwrap_or("");
+        for line in str::from_utf8(self.output.as_slice()).unwrap_or("").lines() {
+            let (fault, lines) = line.split_once(": ").unwrap_or((line, ""));
+            let input = stops::with_fault(alloc, input, fault)?;
+            let ending = self.run_over(alloc, input, None)?;
+            let trace = str::from_utf8(ending.sink.taken()).unwrap_or("");
+            if ending.status != self.status || !stops::tells(trace, lines) {
+                return Ok(Some(Trouble::Output));
+            }
+        }
+        Ok(None)
+    }
+
+    /// What is wrong with so many writes: one that is not done.
+    fn trouble_of_writes(&self, alloc: Global) -> Result<Option<Trouble>, AllocError> {
+        let count = self.name;
+        let last = format!(in alloc; "begun {count} answered {count} aborted 0 crashes 0\n")?;
+        let ending = self.run(alloc, None)?;
+        if ending.sink.taken().ends_with(last.as_bytes()) {
+            return Ok(None);
+        }
+        Ok(Some(Trouble::Output))
     }
 
     /// What is wrong with the labels of a picture.
@@ -290,6 +349,8 @@ impl Case {
         match self.kind {
             Kind::Fronts => return self.trouble_of_fronts(alloc),
             Kind::Svg => return self.trouble_of_labels(alloc),
+            Kind::Stops => return self.trouble_of_stops(alloc),
+            Kind::Often => return self.trouble_of_writes(alloc),
             Kind::Run | Kind::Faults | Kind::Trace => (),
         }
         let mut found = self.trouble(alloc)?;
@@ -304,8 +365,9 @@ impl Case {
 
 fn main(rt: HostRuntime) -> io::Result<()> {
     for line in rt.lines(rt.alloc()) {
-        let case = Case::read(&rt, line?.as_str())?;
-        let name = case.name.as_str();
+        let line = line?;
+        let case = Case::read(&rt, line.as_str())?;
+        let name = case.name;
         let with = case.kind.said();
         match case.first_trouble(rt.alloc())? {
             None => println!(rt; "{name}{with} ok")?,
