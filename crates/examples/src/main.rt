@@ -145,10 +145,11 @@ struct Case<'a> {
     output: Vec<u8>,
 }
 
-/// What is wrong with a case: another status, another output, labels that overlap, another status after so many bytes of the input, or another
-/// end where a fault comes.
+/// What is found of a case: nothing wrong, another status, another output, labels that overlap, another status after so many bytes of the
+/// input, or another end where a fault comes.
 #[derive(Drop)]
-enum Trouble {
+enum Finding {
+    Fine,
     Status(u8),
     Output,
     Labels,
@@ -156,15 +157,16 @@ enum Trouble {
     After(Fault),
 }
 
-impl fmt::Display for Trouble {
+impl fmt::Display for Finding {
     fn fmt<W: fmt::Write>(&self, f: &mut fmt::Formatter<W>) -> fmt::Result {
         match self {
-            Trouble::Status(found) => write!(f, "ends with {found}"),
-            Trouble::Output => write!(f, "prints something else"),
-            Trouble::Labels => write!(f, "has labels that overlap"),
-            Trouble::Front(length, found) => write!(f, "ends with {found} after {length} bytes"),
-            Trouble::After(Fault::Read(call)) => write!(f, "ends badly where read {call} fails"),
-            Trouble::After(Fault::Write(call)) => write!(f, "ends badly where write {call} fails"),
+            Finding::Fine => write!(f, "ok"),
+            Finding::Status(found) => write!(f, "ends with {found}"),
+            Finding::Output => write!(f, "prints something else"),
+            Finding::Labels => write!(f, "has labels that overlap"),
+            Finding::Front(length, found) => write!(f, "ends with {found} after {length} bytes"),
+            Finding::After(Fault::Read(call)) => write!(f, "ends badly where read {call} fails"),
+            Finding::After(Fault::Write(call)) => write!(f, "ends badly where write {call} fails"),
         }
     }
 }
@@ -255,23 +257,23 @@ impl<'a> Case<'a> {
         self.run_over(alloc, self.input.clone()?, fault)
     }
 
-    /// What is wrong with a front of the input: the first one that ends with another status.
-    fn trouble_of_fronts(&self, alloc: Global) -> Result<Option<Trouble>, AllocError> {
+    /// Looks at each front of the input: at the status with which it ends.
+    fn look_at_fronts(&self, alloc: Global) -> Result<Finding, AllocError> {
         let mut front = Vec::new(alloc);
         for (length, digit) in self.output.iter().enumerate() {
             let status = self.run_over(alloc, front.clone()?, None)?.status;
             if status != digit.wrapping_sub(b'0') {
-                return Ok(Some(Trouble::Front(length, status)));
+                return Ok(Finding::Front(length, status));
             }
             if let Some(byte) = self.input.as_slice().get(length) {
                 front.push(*byte)?;
             }
         }
-        Ok(None)
+        Ok(Finding::Fine)
     }
 
-    /// What is wrong where a fault of a disk takes its place in the input, for each fault that the output lists.
-    fn trouble_of_stops(&self, alloc: Global) -> Result<Option<Trouble>, AllocError> {
+    /// Looks at what is told where a fault of a disk takes its place in the input, for each fault that the output lists.
+    fn look_at_stops(&self, alloc: Global) -> Result<Finding, AllocError> {
         let input = str::from_utf8(self.input.as_slice()).unwrap_or("");
         for line in str::from_utf8(self.output.as_slice()).unwrap_or("").lines() {
             let (fault, lines) = line.split_once(": ").unwrap_or((line, ""));
@@ -279,51 +281,51 @@ impl<'a> Case<'a> {
             let ending = self.run_over(alloc, input, None)?;
             let trace = str::from_utf8(ending.sink.taken()).unwrap_or("");
             if ending.status != self.status || !stops::tells(trace, lines) {
-                return Ok(Some(Trouble::Output));
+                return Ok(Finding::Output);
             }
         }
-        Ok(None)
+        Ok(Finding::Fine)
     }
 
-    /// What is wrong with so many writes: one that is not done.
-    fn trouble_of_writes(&self, alloc: Global) -> Result<Option<Trouble>, AllocError> {
+    /// Looks at whether so many writes are all done.
+    fn look_at_writes(&self, alloc: Global) -> Result<Finding, AllocError> {
         let count = self.name;
         let last = format!(in alloc; "begun {count} answered {count} aborted 0 crashes 0\n")?;
         let ending = self.run(alloc, None)?;
         if ending.sink.taken().ends_with(last.as_bytes()) {
-            return Ok(None);
+            return Ok(Finding::Fine);
         }
-        Ok(Some(Trouble::Output))
+        Ok(Finding::Output)
     }
 
-    /// What is wrong with the labels of a picture.
-    fn trouble_of_labels(&self, alloc: Global) -> Result<Option<Trouble>, AllocError> {
+    /// Looks at the labels of a picture.
+    fn look_at_labels(&self, alloc: Global) -> Result<Finding, AllocError> {
         let ending = self.run(alloc, None)?;
         if ending.status != self.status {
-            return Ok(Some(Trouble::Status(ending.status)));
+            return Ok(Finding::Status(ending.status));
         }
         if let Ok(picture) = str::from_utf8(ending.sink.taken()) {
             if labels::are_apart(alloc, picture)? {
-                return Ok(None);
+                return Ok(Finding::Fine);
             }
         }
-        Ok(Some(Trouble::Labels))
+        Ok(Finding::Labels)
     }
 
-    /// What is wrong where no end fails.
-    fn trouble(&self, alloc: Global) -> Result<Option<Trouble>, AllocError> {
+    /// Looks at a run whose ends do not fail.
+    fn look_at_run(&self, alloc: Global) -> Result<Finding, AllocError> {
         let ending = self.run(alloc, None)?;
         if ending.status != self.status {
-            return Ok(Some(Trouble::Status(ending.status)));
+            return Ok(Finding::Status(ending.status));
         }
         if ending.sink.taken() != self.output.as_slice() {
-            return Ok(Some(Trouble::Output));
+            return Ok(Finding::Output);
         }
-        Ok(None)
+        Ok(Finding::Fine)
     }
 
-    /// What is wrong where this fault comes, or the one a call later, and so on up to the first that the run doesn't reach.
-    fn trouble_from(&self, alloc: Global, first: Fault) -> Result<Option<Trouble>, AllocError> {
+    /// Looks at what comes of this fault, of the one a call later, and so on up to the first that the run doesn't reach.
+    fn look_at_faults(&self, alloc: Global, first: Fault) -> Result<Finding, AllocError> {
         let mut fault = first;
         for number in 0..MOST_CALLS {
             let ending = self.run(alloc, Some(fault))?;
@@ -331,9 +333,9 @@ impl<'a> Case<'a> {
             if ending.status != fault.status() {
                 let is_past = ending.status == self.status && printed == self.output.as_slice();
                 return Ok(if number > 0 && is_past {
-                    None
+                    Finding::Fine
                 } else {
-                    Some(Trouble::After(fault))
+                    Finding::After(fault)
                 });
             }
             if !self.output.starts_with(printed) {
@@ -341,22 +343,22 @@ impl<'a> Case<'a> {
             }
             fault = fault.next();
         }
-        Ok(Some(Trouble::After(fault)))
+        Ok(Finding::After(fault))
     }
 
-    /// The first thing that is wrong: without a fault, and then with those that the case asks for.
-    fn first_trouble(&self, alloc: Global) -> Result<Option<Trouble>, AllocError> {
+    /// Looks at what the case asks for, and answers the first thing that is wrong.
+    fn look(&self, alloc: Global) -> Result<Finding, AllocError> {
         match self.kind {
-            Kind::Fronts => return self.trouble_of_fronts(alloc),
-            Kind::Svg => return self.trouble_of_labels(alloc),
-            Kind::Stops => return self.trouble_of_stops(alloc),
-            Kind::Often => return self.trouble_of_writes(alloc),
+            Kind::Fronts => return self.look_at_fronts(alloc),
+            Kind::Svg => return self.look_at_labels(alloc),
+            Kind::Stops => return self.look_at_stops(alloc),
+            Kind::Often => return self.look_at_writes(alloc),
             Kind::Run | Kind::Faults | Kind::Trace => (),
         }
-        let mut found = self.trouble(alloc)?;
+        let mut found = self.look_at_run(alloc)?;
         for first in [Fault::Read(1), Fault::Write(1)] {
-            if found.is_none() && self.kind == Kind::Faults {
-                found = self.trouble_from(alloc, first)?;
+            if matches!(found, Finding::Fine) && self.kind == Kind::Faults {
+                found = self.look_at_faults(alloc, first)?;
             }
         }
         Ok(found)
@@ -369,10 +371,8 @@ fn main(rt: HostRuntime) -> io::Result<()> {
         let case = Case::read(&rt, line.as_str())?;
         let name = case.name;
         let with = case.kind.said();
-        match case.first_trouble(rt.alloc())? {
-            None => println!(rt; "{name}{with} ok")?,
-            Some(trouble) => println!(rt; "{name}{with} {trouble}")?,
-        }
+        let found = case.look(rt.alloc())?;
+        println!(rt; "{name}{with} {found}")?;
     }
     Ok(())
 }
