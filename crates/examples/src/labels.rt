@@ -47,8 +47,10 @@ pub fn are_apart(alloc: Global, picture: &str) -> Result<bool, AllocError> {
         let Some(label) = Label::read(element) else {
             return Ok(false);
         };
-        if labels.iter().any(|other| label.overlaps(*other)) {
-            return Ok(false);
+        for other in labels.as_slice() {
+            if label.overlaps(*other) {
+                return Ok(false);
+            }
         }
         labels.push(label)?;
     }

@@ -8,7 +8,8 @@
 //! `trace NAME` runs the program `trace` over NAME.in with the word `text`: it must print what stands in NAME.trace. The line `svg NAME`
 //! runs it with the word `svg`: no two labels of the picture may overlap. The line `stops NAME` runs it with the word `text` again
 //! and again. Each line of NAME.stops is `FAULT: LINE; LINE ..`: this fault of a disk takes the place of the word `FAULT` of NAME.in, and the lines
-//! of the trace that name no message must be these: what `replay` prints, where disks stopped, what happened, and what bricks keep in the end.
+//! of the trace that name no message must be these: what `replay` prints, where disks stopped, what happened, and what bricks keep in the end. Where
+//! `fronts` and `stops` find nothing wrong, they say in how many runs.
 //!
 //! The line `often WRITES` writes a stripe so often over bricks with little room, by `replay`, each write alone, and has each brick drop what is
 //! older: all must be done.
@@ -145,11 +146,12 @@ struct Case<'a> {
     output: Vec<u8>,
 }
 
-/// What is found of a case: nothing wrong, another status, another output, labels that overlap, another status after so many bytes of the
-/// input, or another end where a fault comes.
+/// What is found of a case: nothing wrong, nothing wrong in so many runs, another status, another output, labels that overlap, another status
+/// after so many bytes of the input, or another end where a fault comes.
 #[derive(Drop)]
 enum Finding {
     Fine,
+    AllFine(usize),
     Status(u8),
     Output,
     Labels,
@@ -161,6 +163,7 @@ impl fmt::Display for Finding {
     fn fmt<W: fmt::Write>(&self, f: &mut fmt::Formatter<W>) -> fmt::Result {
         match self {
             Finding::Fine => write!(f, "ok"),
+            Finding::AllFine(runs) => write!(f, "ok in {runs} runs"),
             Finding::Status(found) => write!(f, "ends with {found}"),
             Finding::Output => write!(f, "prints something else"),
             Finding::Labels => write!(f, "has labels that overlap"),
@@ -269,13 +272,14 @@ impl<'a> Case<'a> {
                 front.push(*byte)?;
             }
         }
-        Ok(Finding::Fine)
+        Ok(Finding::AllFine(self.output.len()))
     }
 
     /// Looks at what is told where a fault of a disk takes its place in the input, for each fault that the output lists.
     fn look_at_stops(&self, alloc: Global) -> Result<Finding, AllocError> {
         let input = str::from_utf8(self.input.as_slice()).unwrap_or("");
-        for line in str::from_utf8(self.output.as_slice()).unwrap_or("").lines() {
+        let output = str::from_utf8(self.output.as_slice()).unwrap_or("");
+        for line in output.lines() {
             let (fault, lines) = line.split_once(": ").unwrap_or((line, ""));
             let input = stops::with_fault(alloc, input, fault)?;
             let ending = self.run_over(alloc, input, None)?;
@@ -284,7 +288,7 @@ impl<'a> Case<'a> {
                 return Ok(Finding::Output);
             }
         }
-        Ok(Finding::Fine)
+        Ok(Finding::AllFine(output.lines().count()))
     }
 
     /// Looks at whether so many writes are all done.

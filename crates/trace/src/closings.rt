@@ -1,9 +1,9 @@
 //! What a run left: the happenings of each stripe that an operation named, and its log at each member.
 
 use brick_store::State;
-use fab_base::{BrickId, Bytes, GroupId, Stamp, StripeNo};
+use fab_base::{BrickId, Bytes, Stamp};
 use reg_model::{Happening, Mark};
-use trace_runs::{Journal, Text, answer_of, op_of, put_answer, put_op};
+use trace_runs::{Course, Journal, Text, answer_of, op_of, put_answer, put_op};
 use world::World;
 
 /// Notes a happening: its operation and position, and what it read or wrote, by all marks.
@@ -50,21 +50,15 @@ fn note_log(notes: &mut Text, brick: BrickId, log: Option<State<'_>>) {
     notes.put("\n");
 }
 
-/// Notes what a run left of a stripe, its happenings being these: a note a line.
-pub(crate) fn note_stripe(
-    notes: &mut Text,
-    world: &World,
-    journal: &Journal,
-    happenings: &[Happening],
-    group: GroupId,
-    stripe: StripeNo,
-) {
-    for happening in happenings {
+/// Notes what a run left of a stripe, to which this happened: a note a line.
+pub(crate) fn note_stripe(notes: &mut Text, world: &World, journal: &Journal, course: &Course) {
+    for happening in course.happenings.as_slice() {
         note_happening(notes, world.marks(), journal, *happening);
     }
-    if let Some(found) = world.layout().group(group) {
+    if let Some(found) = world.layout().group(course.group) {
         for brick in found.members().as_slice() {
-            note_log(notes, *brick, world.log_of(*brick, group, stripe));
+            let log = world.log_of(*brick, course.group, course.stripe);
+            note_log(notes, *brick, log);
         }
     }
 }

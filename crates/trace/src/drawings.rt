@@ -5,7 +5,7 @@ use fab_io::{Sink, Source};
 use lines::{Unread, content_of};
 use replay::{Halt, Verdict, write};
 use std::alloc::Global;
-use trace_runs::{Drawing, Journal, Text};
+use trace_runs::{Drawing, Journal, Text, courses_of};
 use world::World;
 
 /// The most lines that are drawn.
@@ -13,11 +13,39 @@ const MOST_DRAWN: u64 = 2_000;
 
 /// What came of an input that was to be drawn.
 #[derive(Drop)]
-enum Outcome {
-    /// A picture, and how many lines there are.
-    Drawn(Text, u64),
-    /// None: how that ends the run, and what `replay` prints then, without its line feed.
-    Refused(Verdict, String),
+struct Outcome {
+    /// How the run ended.
+    verdict: Verdict,
+    /// The picture. Empty where nothing is drawn.
+    picture: Text,
+    /// Why nothing is drawn, or not all lines. Empty where they are.
+    notice: Text,
+}
+
+/// A picture of all lines, or of the first of so many.
+fn drawn(alloc: Global, picture: Text, lines: u64) -> Outcome {
+    let mut notice = Text::new(alloc);
+    if lines > MOST_DRAWN {
+        let numbers = [MOST_DRAWN, lines];
+        notice.fill("the first % of % lines are drawn\n", &numbers);
+    }
+    Outcome {
+        verdict: Verdict::Whole,
+        picture,
+        notice,
+    }
+}
+
+/// No picture: how that ends the run, and what `replay` prints then, without its line feed.
+fn refused(alloc: Global, verdict: Verdict, why: &str) -> Outcome {
+    let mut notice = Text::new(alloc);
+    notice.put(why);
+    notice.put("\n");
+    Outcome {
+        verdict,
+        picture: Text::new(alloc),
+        notice,
+    }
 }
 
 /// Runs the lines of a schedule over this disk, and draws them.
@@ -37,8 +65,12 @@ fn draw_lines<S: Source>(
                     drawing.add(world, count + 1, content, &taken.account);
                 }
             }
-            Turn::Ended => return Ok(Outcome::Drawn(drawing.finish(world, &journal)?, count)),
-            Turn::Refused(verdict, why) => return Ok(Outcome::Refused(verdict, why)),
+            Turn::Ended => {
+                let courses = courses_of(alloc, world, &journal)?;
+                let picture = drawing.finish(world, &journal, courses.as_slice());
+                return Ok(drawn(alloc, picture, count));
+            }
+            Turn::Refused(verdict, why) => return Ok(refused(alloc, verdict, why.as_str())),
         }
     }
     // No memory holds so many lines.
@@ -50,7 +82,7 @@ fn draw_source<S: Source>(alloc: Global, source: &mut S) -> Result<Outcome, Halt
     let mut unread = Unread::new(alloc);
     match open(alloc, source, &mut unread)? {
         Opening::Opened(mut world) => draw_lines(alloc, &mut world, source, &mut unread),
-        Opening::Refused(why) => Ok(Outcome::Refused(Verdict::BadLayout, why)),
+        Opening::Refused(why) => Ok(refused(alloc, Verdict::BadLayout, why.as_str())),
     }
 }
 
@@ -66,22 +98,8 @@ pub(crate) fn draw<S: Source, K: Sink, E: Sink>(
     sink: &mut K,
     errors: &mut E,
 ) -> Result<Verdict, Halt> {
-    let mut notice = Text::new(alloc);
-    match draw_source(alloc, source)? {
-        Outcome::Drawn(picture, lines) => {
-            say(sink, &picture)?;
-            if lines > MOST_DRAWN {
-                let numbers = [MOST_DRAWN, lines];
-                notice.fill("the first % of % lines are drawn\n", &numbers);
-                say(errors, &notice)?;
-            }
-            Ok(Verdict::Whole)
-        }
-        Outcome::Refused(verdict, why) => {
-            notice.put(why.as_str());
-            notice.put("\n");
-            say(errors, &notice)?;
-            Ok(verdict)
-        }
-    }
+    let outcome = draw_source(alloc, source)?;
+    say(sink, &outcome.picture)?;
+    say(errors, &outcome.notice)?;
+    Ok(outcome.verdict)
 }

@@ -10,14 +10,13 @@ use crate::closings::note_stripe;
 use crate::notes::note_account;
 use crate::pages::Page;
 use crate::schedules::{Opening, Turn, open, take_turn};
-use fab_base::{GroupId, NoMem, StripeNo};
+use fab_base::NoMem;
 use fab_io::{Sink, Source};
 use lines::{Unread, content_of};
 use messages::Packet;
-use reg_model::Happening;
 use replay::{Halt, Verdict, write};
 use std::alloc::Global;
-use trace_runs::{Journal, Taken, Text};
+use trace_runs::{Course, Journal, Taken, Text, courses_of};
 use world::World;
 
 /// Adds notes to a page, a note a line.
@@ -79,21 +78,19 @@ fn tell_line<K: Sink>(
     write(sink, page.as_slice())
 }
 
-/// Adds what a run left of a stripe, its happenings being these.
+/// Adds what a run left of a stripe, to which this happened.
 fn add_stripe(
     alloc: Global,
     page: &mut Page,
     world: &World,
     journal: &Journal,
-    happenings: &[Happening],
-    group: GroupId,
-    stripe: StripeNo,
+    course: &Course,
 ) -> Result<(), NoMem>
     ensures { OnOk result ((told : List ℕ) → IsTold page.old told → IsTold page.new told) }
 {
     let mut notes = Text::new(alloc);
-    note_stripe(&mut notes, world, journal, happenings, group, stripe);
-    let (group, stripe) = (group.0, stripe.0);
+    note_stripe(&mut notes, world, journal, course);
+    let (group, stripe) = (course.group.0, course.stripe.0);
     let title = format!(in alloc; "stripe {group} {stripe}")?;
     page.head(title.as_bytes())?;
     add_notes(page, notes.whole()?)?;
@@ -104,13 +101,10 @@ fn add_stripe(
 fn closing_page(alloc: Global, world: &World, journal: &Journal) -> Result<Page, NoMem>
     ensures { IfOk result (λ page. IsTold page []) }
 {
-    let entries = world.stripe_entries()?;
+    let courses = courses_of(alloc, world, journal)?;
     let mut page = Page::new(alloc);
-    for (group, stripe) in journal.stripes() {
-        let (group, stripe) = (GroupId(*group), StripeNo(*stripe));
-        let happenings = world.happenings_among(&entries, group, stripe)?;
-        let happenings = happenings.as_slice();
-        add_stripe(alloc, &mut page, world, journal, happenings, group, stripe)?;
+    for course in courses.as_slice() {
+        add_stripe(alloc, &mut page, world, journal, course)?;
     }
     Ok(page)
 }

@@ -1,6 +1,7 @@
 //! A run as a picture: a lane for each brick, an arrow for each message, a bar for each operation, and a lane for each stripe.
 
 use crate::accounts::{Account, Fate, is_up, packet_at};
+use crate::courses::Course;
 use crate::deeds::{answer_of, change, op_of};
 use crate::figures::{
     LANE, NAMES, draw_answer, draw_bar, draw_delivery, draw_happening, draw_lanes, draw_names,
@@ -9,7 +10,7 @@ use crate::figures::{
 use crate::journals::{Journal, Operation, number_at, place_of};
 use crate::pictures::Picture;
 use crate::texts::Text;
-use fab_base::{BrickId, GroupId, NoMem, StripeNo};
+use fab_base::{BrickId, GroupId, NoMem};
 use layout::Layout;
 use messages::Packet;
 use reg_model::{Happening, Mark};
@@ -167,17 +168,27 @@ impl Drawing {
         }
     }
 
-    /// The picture of the run, as the text of an SVG document, once all lines are drawn.
-    pub fn finish(&mut self, world: &World, journal: &Journal) -> Result<Text, NoMem> {
-        let bricks = world.layout().bricks();
-        draw_names(&mut self.picture, bricks);
+    /// The picture of the run, as the text of an SVG document, once all lines are drawn. This happened to stripes.
+    pub fn finish(&mut self, world: &World, journal: &Journal, courses: &[Course]) -> Text {
+        let layout = world.layout();
+        draw_names(&mut self.picture, layout.bricks());
         self.draw_stubs(world);
-        let mut y = self.draw_bars(world.marks(), journal, lane_of(BrickId(bricks)));
-        let entries = world.stripe_entries()?;
-        for (group, stripe) in journal.stripes() {
-            draw_stripe(&mut self.picture, *group, *stripe, y, self.columns);
-            let happenings = world.happenings_among(&entries, GroupId(*group), StripeNo(*stripe))?;
-            self.draw_course(world, journal, y, GroupId(*group), happenings.as_slice())?;
+        let mut y = self.draw_bars(world.marks(), journal, lane_of(BrickId(layout.bricks())));
+        for course in courses {
+            draw_stripe(
+                &mut self.picture,
+                course.group.0,
+                course.stripe.0,
+                y,
+                self.columns,
+            );
+            match first_registers(self.alloc, layout, course.group) {
+                Ok(registers) => {
+                    let block = usize::from(layout.block());
+                    self.draw_course(world.marks(), journal, y, course, block, registers);
+                }
+                Err(NoMem::NoMemory) => self.picture.name.note_gap(),
+            }
             y = y.saturating_add(LANE);
         }
         self.picture.text(self.columns, y)
@@ -234,27 +245,27 @@ impl Drawing {
         rows.saturating_add(top).saturating_add(30)
     }
 
-    /// Draws what the registers of a stripe of this group hold at first, and from each happening on.
+    /// Draws what the registers of a stripe hold, which are these at first, from each happening on. A block has so many bytes.
     fn draw_course(
         &mut self,
-        world: &World,
+        marks: &[Mark],
         journal: &Journal,
         y: u64,
-        group: GroupId,
-        happenings: &[Happening],
-    ) -> Result<(), NoMem> {
-        let mut registers = first_registers(self.alloc, world.layout(), group)?;
+        course: &Course,
+        block: usize,
+        registers: Vec<u8>,
+    ) {
+        let mut registers = registers;
+        let happenings = course.happenings.as_slice();
         self.picture.name.put_hex(registers.as_slice());
         self.picture.label(NAMES, y.saturating_add(14), "", &[]);
-        let block = usize::from(world.layout().block());
         for (place, happening) in happenings.iter().enumerate() {
             if let Some(operation) = journal.operation(happening.operation) {
-                change(op_of(world.marks(), operation), block, &mut registers);
+                change(op_of(marks, operation), block, &mut registers);
             }
             let is_last = is_last(happenings, place, happening.position);
             self.draw_happening(*happening, is_last, y, registers.as_slice());
         }
-        Ok(())
     }
 
     /// Draws a happening with those before it at the same position, once it is the last of them, and what a stripe's registers then hold.

@@ -6,10 +6,14 @@ use messages::{Call, Message, Packet, Request};
 use reg_model::Mark;
 use std::alloc::Global;
 use std::collections::{BTreeMap, BTreeSet};
+use std::mem;
 use world::World;
 
 /// A call: its coordinator, how often that brick's store had been opened, and the call's number since then.
 type CallKey = (u16, u32, u64);
+
+/// A reply: the brick that sent it, and the phase and the number of its operation.
+type ReplyKey = (u16, u32, u64);
 
 /// What is known of an operation.
 #[derive(Clone, Copy)]
@@ -32,16 +36,16 @@ pub struct Journal {
     operations: Vec<Operation>,
     /// The operation that each message is of, by number from 1.
     owners: Vec<Option<u64>>,
-    /// How many operations had begun when each brick stopped the last time: of those its own have ended.
-    stopped: BTreeMap<u16, usize>,
+    /// How many operations had begun when each brick, up to the last that stopped, did so the last time: of those its own have ended.
+    stopped: Vec<usize>,
     /// The numbers of operations by their calls.
     numbers: BTreeMap<CallKey, u64>,
     /// The stripes that operations named, by group and number.
     stripes: BTreeSet<(u32, u32)>,
     /// An operation that began, and none of whose messages was seen yet.
     nameless: Option<u64>,
-    /// The replies that were counted, by operation, phase and brick.
-    counted: BTreeSet<(u64, u32, u16)>,
+    /// The replies that were counted, and the number of the message that each was.
+    counted: BTreeMap<ReplyKey, u64>,
 }
 
 impl Drop for Journal {
@@ -97,11 +101,11 @@ impl Journal {
         Journal {
             operations: Vec::new(alloc),
             owners: Vec::new(alloc),
-            stopped: BTreeMap::new(alloc),
+            stopped: Vec::new(alloc),
             numbers: BTreeMap::new(alloc),
             stripes: BTreeSet::new(alloc),
             nameless: None,
-            counted: BTreeSet::new(alloc),
+            counted: BTreeMap::new(alloc),
         }
     }
 
@@ -129,22 +133,21 @@ impl Journal {
     /// counted is noted: an operation counts the first reply of each brick in its newest phase.
     pub(crate) fn note_delivery(&mut self, number: u64, packet: &Packet) -> Result<Fate, NoMem> {
         match &packet.message {
-            Message::Reply(call, _) => {
-                let operation = self.operation_of(number).unwrap_or(0);
-                self.note_reply(operation, call.phase, packet.from)
-            }
+            Message::Reply(call, _) => self.note_reply(number, call.phase, packet.from),
             Message::Request(_, Request::Collect { .. }) => Ok(Fate::Told),
             _ => Ok(Fate::Ignored),
         }
     }
 
-    /// Notes a brick's reply in a phase of an operation, and answers whether it was counted.
-    fn note_reply(&mut self, operation: u64, phase: u32, brick: BrickId) -> Result<Fate, NoMem> {
+    /// Notes that the message of a number was delivered, a brick's reply in a phase, and answers whether it was counted.
+    fn note_reply(&mut self, number: u64, phase: u32, brick: BrickId) -> Result<Fate, NoMem> {
+        let operation = self.operation_of(number).unwrap_or(0);
         let is_due = match self.operation(operation) {
-            Some(operation) => operation.end.is_none() && operation.phase == phase,
+            Some(found) => found.end.is_none() && found.phase == phase,
             None => false,
         };
-        if is_due && self.counted.insert((operation, phase, brick.0))? {
+        let key = (brick.0, phase, operation);
+        if is_due && self.counted.insert(key, number)?.is_none() {
             return Ok(Fate::Counted);
         }
         Ok(Fate::NotCounted)
@@ -220,8 +223,12 @@ impl Journal {
 
     /// Notes that a brick stopped, at the mark at this place: its operations that were open are cut off.
     fn note_crash(&mut self, place: usize, brick: BrickId) -> Result<(), NoMem> {
+        let index = usize::from(brick.0);
         let count = self.operations.len();
-        let first = self.stopped.insert(brick.0, count)?.unwrap_or(0).min(count);
+        if self.stopped.len() <= index {
+            self.stopped.resize(index + 1, 0)?;
+        }
+        let first = mem::replace(&mut self.stopped[index], count).min(count);
         cut_off(&mut self.operations[first..], brick, place);
         Ok(())
     }

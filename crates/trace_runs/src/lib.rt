@@ -4,6 +4,7 @@
 #![tactic(auto)]
 
 mod accounts;
+mod courses;
 mod deeds;
 mod drawing;
 mod figures;
@@ -14,6 +15,7 @@ mod taking;
 mod texts;
 
 pub use accounts::{Account, Fate, Stop, packet_at};
+pub use courses::{Course, courses_of};
 pub use deeds::{answer_of, op_of, put_answer, put_op};
 pub use drawing::Drawing;
 pub use journals::{Journal, Operation, number_at};

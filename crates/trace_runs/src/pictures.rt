@@ -1,7 +1,6 @@
 //! A picture in SVG 1.1. All places are in pixels, from the upper left corner.
 
 use crate::texts::{CHARACTERS, Text};
-use fab_base::NoMem;
 use std::alloc::Global;
 
 /// How wide a character is drawn at most.
@@ -146,15 +145,14 @@ impl Picture {
     }
 
     /// The text of the picture, up to the end of so many columns and down to a place.
-    pub(crate) fn text(&self, columns: usize, height: u64) -> Result<Text, NoMem> {
+    pub(crate) fn text(&self, columns: usize, height: u64) -> Text {
         let width = left_of(columns).max(640);
-        self.name.whole()?;
-        let shapes = self.shapes.whole()?;
-        let labels = self.labels.whole()?;
         let mut text = front(self.alloc, width, height);
-        text.put(shapes);
-        text.put(labels);
+        text.put_text(&self.shapes);
+        text.put_text(&self.labels);
+        // All labels were drawn, so the name has no pieces, but maybe a gap.
+        text.put_text(&self.name);
         text.put("</svg>\n");
-        Ok(text)
+        text
     }
 }

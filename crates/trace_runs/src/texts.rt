@@ -109,6 +109,12 @@ impl Text {
         }
     }
 
+    /// Adds all pieces of another text.
+    pub(crate) fn put_text(&mut self, other: &Text) {
+        self.put(other.pieces());
+        self.has_gap = self.has_gap || other.has_gap;
+    }
+
     /// Notes that a piece is missing.
     pub(crate) fn note_gap(&mut self) {
         self.has_gap = true;
