@@ -3,6 +3,7 @@
 use brick_store::State;
 use fab_base::{BrickId, Bytes, Stamp};
 use reg_model::{Happening, Mark};
+use std::alloc::Global;
 use trace_runs::{Course, Journal, Text, answer_of, op_of, put_answer, put_op};
 use world::World;
 
@@ -50,15 +51,22 @@ fn note_log(notes: &mut Text, brick: BrickId, log: Option<State<'_>>) {
     notes.put("\n");
 }
 
-/// Notes what a run left of a stripe, to which this happened: a note a line.
-pub(crate) fn note_stripe(notes: &mut Text, world: &World, journal: &Journal, course: &Course) {
+/// What a run left of a stripe, to which this happened: a note a line.
+pub(crate) fn stripe_notes(
+    alloc: Global,
+    world: &World,
+    journal: &Journal,
+    course: &Course,
+) -> Text {
+    let mut notes = Text::new(alloc);
     for happening in course.happenings.as_slice() {
-        note_happening(notes, world.marks(), journal, *happening);
+        note_happening(&mut notes, world.marks(), journal, *happening);
     }
     if let Some(found) = world.layout().group(course.group) {
         for brick in found.members().as_slice() {
             let log = world.log_of(*brick, course.group, course.stripe);
-            note_log(notes, *brick, log);
+            note_log(&mut notes, *brick, log);
         }
     }
+    notes
 }

@@ -2,6 +2,7 @@
 
 use fab_base::BrickId;
 use messages::Packet;
+use std::alloc::Global;
 use trace_runs::{Account, Fate, Journal, Stop, Text, number_at, packet_at, put_message};
 
 /// Writes the message of a number, of all that were sent, with its number.
@@ -34,27 +35,29 @@ fn note_stop(notes: &mut Text, brick: BrickId, stop: Stop) {
     notes.fill(form, &[brick.0.into(), call]);
 }
 
-/// Notes what a line did, beside what `replay` prints for it: a note a line. These messages had been sent once it was run.
-pub(crate) fn note_account(
-    notes: &mut Text,
+/// What a line did, beside what `replay` prints for it: a note a line. These messages had been sent once it was run.
+pub(crate) fn account_notes(
+    alloc: Global,
     sent: &[Packet],
     journal: &Journal,
     account: &Account,
-) {
+) -> Text {
+    let mut notes = Text::new(alloc);
     for (number, fate) in &account.deliveries {
         notes.put("delivered ");
-        put_packet(notes, sent, journal, *number);
+        put_packet(&mut notes, sent, journal, *number);
         notes.put(fate_text(*fate));
         notes.put("\n");
     }
     if let Some((brick, stop)) = account.stop {
-        note_stop(notes, brick, stop);
+        note_stop(&mut notes, brick, stop);
     }
     if let Some(brick) = account.started {
         notes.fill("brick % started\n", &[brick.0.into()]);
     }
     for place in account.sent..sent.len() {
-        put_packet(notes, sent, journal, number_at(place));
+        put_packet(&mut notes, sent, journal, number_at(place));
         notes.put("\n");
     }
+    notes
 }

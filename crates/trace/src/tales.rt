@@ -6,8 +6,8 @@ ghost use Rattle.lines.specs.Reading.{ReadsSchedule};
 ghost use Rattle.trace.specs.Told.{IsTold, IsStepText};
 ghost use Rattle.trace.specs.Tales.{EndsAs, IsSolid, Tells, TellsRest, WritesTold};
 
-use crate::closings::note_stripe;
-use crate::notes::note_account;
+use crate::closings::stripe_notes;
+use crate::notes::account_notes;
 use crate::pages::Page;
 use crate::schedules::{Opening, Turn, open, take_turn};
 use fab_base::NoMem;
@@ -20,10 +20,10 @@ use trace_runs::{Course, Journal, Taken, Text, courses_of};
 use world::World;
 
 /// Adds notes to a page, a note a line.
-fn add_notes(page: &mut Page, notes: &str) -> Result<(), NoMem>
+fn add_notes(page: &mut Page, notes: &Text) -> Result<(), NoMem>
     ensures { OnOk result ((told : List ℕ) → IsTold page.old told → IsTold page.new told) }
 {
-    for note in notes.lines() {
+    for note in notes.whole()?.lines() {
         page.note(note.as_bytes())?;
     }
     Ok(())
@@ -55,9 +55,8 @@ fn line_page(
 {
     let mut page = titled_page(alloc, number, content)?;
     page.tell(taken.printed.as_slice())?;
-    let mut notes = Text::new(alloc);
-    note_account(&mut notes, sent, journal, &taken.account);
-    add_notes(&mut page, notes.whole()?)?;
+    let notes = account_notes(alloc, sent, journal, &taken.account);
+    add_notes(&mut page, &notes)?;
     Ok(page)
 }
 
@@ -78,23 +77,14 @@ fn tell_line<K: Sink>(
     write(sink, page.as_slice())
 }
 
-/// Adds what a run left of a stripe, to which this happened.
-fn add_stripe(
-    alloc: Global,
-    page: &mut Page,
-    world: &World,
-    journal: &Journal,
-    course: &Course,
-) -> Result<(), NoMem>
+/// Adds these notes of a stripe, behind its title.
+fn add_stripe(alloc: Global, page: &mut Page, course: &Course, notes: &Text) -> Result<(), NoMem>
     ensures { OnOk result ((told : List ℕ) → IsTold page.old told → IsTold page.new told) }
 {
-    let mut notes = Text::new(alloc);
-    note_stripe(&mut notes, world, journal, course);
     let (group, stripe) = (course.group.0, course.stripe.0);
     let title = format!(in alloc; "stripe {group} {stripe}")?;
     page.head(title.as_bytes())?;
-    add_notes(page, notes.whole()?)?;
-    Ok(())
+    add_notes(page, notes)
 }
 
 /// What a run left of each stripe that an operation named.
@@ -104,7 +94,8 @@ fn closing_page(alloc: Global, world: &World, journal: &Journal) -> Result<Page,
     let courses = courses_of(alloc, world, journal)?;
     let mut page = Page::new(alloc);
     for course in courses.as_slice() {
-        add_stripe(alloc, &mut page, world, journal, course)?;
+        let notes = stripe_notes(alloc, world, journal, course);
+        add_stripe(alloc, &mut page, course, &notes)?;
     }
     Ok(page)
 }

@@ -36,7 +36,8 @@ pub struct Journal {
     operations: Vec<Operation>,
     /// The operation that each message is of, by number from 1.
     owners: Vec<Option<u64>>,
-    /// How many operations had begun when each brick, up to the last that stopped, did so the last time: of those its own have ended.
+    /// How many operations had begun when a brick stopped the last time, by its number, up to the highest that has stopped: of those its own
+    /// have ended.
     stopped: Vec<usize>,
     /// The numbers of operations by their calls.
     numbers: BTreeMap<CallKey, u64>,

@@ -1,4 +1,5 @@
+use Rattle.trace.proofs.Margins.{on_ok}
 use Rattle.trace.proofs.tales.add_stripe.Goals as goal
 
 pub returns : goal.returns
-returns c = λ told is. c.in_ok-add_notes.ensures told (c.in_ok-head.ensures told is)
+returns c = on_ok c.add_notes.result _ _ (λ h told is. h told (c.in_ok-head.ensures told is)) c.add_notes.ensures
