@@ -168,7 +168,7 @@ impl Drawing {
         }
     }
 
-    /// The picture of the run, as the text of an SVG document, once all lines are drawn. This happened to stripes.
+    /// The picture of the run, as the text of an SVG document, once all lines are drawn. The courses are those of its stripes.
     pub fn finish(&mut self, world: &World, journal: &Journal, courses: &[Course]) -> Text {
         let layout = world.layout();
         draw_names(&mut self.picture, layout.bricks());

@@ -45,8 +45,8 @@ pub struct Journal {
     stripes: BTreeSet<(u32, u32)>,
     /// An operation that began, and none of whose messages was seen yet.
     nameless: Option<u64>,
-    /// The replies that were counted, and the number of the message that each was.
-    counted: BTreeMap<ReplyKey, u64>,
+    /// The replies that were counted.
+    counted: BTreeSet<ReplyKey>,
 }
 
 impl Drop for Journal {
@@ -106,7 +106,7 @@ impl Journal {
             numbers: BTreeMap::new(alloc),
             stripes: BTreeSet::new(alloc),
             nameless: None,
-            counted: BTreeMap::new(alloc),
+            counted: BTreeSet::new(alloc),
         }
     }
 
@@ -147,8 +147,7 @@ impl Journal {
             Some(found) => found.end.is_none() && found.phase == phase,
             None => false,
         };
-        let key = (brick.0, phase, operation);
-        if is_due && self.counted.insert(key, number)?.is_none() {
+        if is_due && self.counted.insert((brick.0, phase, operation))? {
             return Ok(Fate::Counted);
         }
         Ok(Fate::NotCounted)
