@@ -1,7 +1,7 @@
 #!/usr/bin/env python3
 """How much processor time `replay run` takes a line, and how much memory.
 
-    bench/replay/run.py [PROGRAM] [--beside COMMAND].. [--lines N].. [--stops N] [--calms N] [--audits N] [--seconds S]
+    bench/replay/run.py [PROGRAM] [--beside COMMAND].. [--lines N].. [--stops N] [--calms N] [--openings N] [--audits N] [--seconds S]
 
 It makes schedules of 20,000, 100,000 and 1,000,000 lines (or of those that --lines names), runs the built program on each, and prints a
 row: the processor time of the run, user and system, divided by the number of lines, and the most memory that it held at one time.
@@ -18,6 +18,10 @@ With --stops a schedule is run in their place that stops a brick so many times a
 short at one of the calls of its disk, with one of three picks, and then it starts. Every start opens its store.
 
 With --calms a schedule of N writes is run in their place, each alone among all bricks, by a line `calm` of its own.
+
+With --openings a brick's store is filled and then opened N times, by stops and starts of that brick: once with 150,000 orders of 8
+stripes, and once with 150,000 writes that end. Each is run without the stops and starts too. A row gives what the starts alone took, divided by
+N and by 150,000, and the most memory of both runs. A store of the writes holds an order and a version for each, and an opening reads each block.
 
 With --audits what is printed for schedules of N lines is audited in their place: for the one below; for one of writes that only begin, of
 which a brick has 64 open before it crashes and starts again, so that almost each of its lines prints a mark; and for one each of whose
@@ -56,6 +60,9 @@ LAYOUT = "block = 64\nbricks = 4\nrecords = 1048576\n[[group]]\nm = 2\nmembers =
 WRITE_STEPS = [0, 1, 2, 4, 5, 6, 7, 8, 9, 11, 12, 13]
 READ_STEPS = [0, 1, 2, 4, 5, 6]
 
+FEW = "block = 1\nbricks = 3\nrecords = 1048576\n[[group]]\nm = 1\nmembers = [0, 1, 2]\nstripes = 8\n---\n"
+FILLED = 150_000
+
 
 def schedule(lines):
     """The input of so many lines: whole pairs of a write and a read, as far as they go."""
@@ -87,6 +94,25 @@ def calms(count):
     for number in range(count):
         rows += [f"writeall {number % 4} 0 {number % 64} {number % 256:02x}01", f"calm {number + 1} 0 1 2 3"]
     return LAYOUT.replace("block = 64", "block = 1") + "".join(row + "\n" for row in rows)
+
+
+def orders(count):
+    """The input of so many orders of 8 stripes at brick 1, each with a later stamp than those before. Brick 0, which asks, may have 64 operations open."""
+    rows = []
+    for number in range(count):
+        if number % 64 == 0:
+            rows += ["crash 0", "start 0"] if number else []
+            rows.append(f"clock 0 {1 + number}")
+        rows += [f"writeall 0 0 {number % 8} {number % 256:02x}", f"deliver {4 * number + 2}"]
+    return FEW + "".join(row + "\n" for row in rows)
+
+
+def writes(count):
+    """The input of so many writes of 8 stripes that end."""
+    rows = []
+    for number in range(count):
+        rows += [f"writeall 0 0 {number % 8} {number % 256:02x}", f"calm {number + 1} 0 1 2"]
+    return FEW + "".join(row + "\n" for row in rows)
 
 
 def begins(lines):
@@ -129,6 +155,25 @@ def run(command, given, printed, seconds):
     return None if ended else child.returncode, used.ru_utime + used.ru_stime, used.ru_maxrss
 
 
+def openings(asked):
+    """Runs schedules with and without openings of a full store, and prints a row for each."""
+    starts = "crash 1\nstart 1\n" * asked.openings
+    with tempfile.TemporaryDirectory() as folder:
+        given, printed = (pathlib.Path(folder, name) for name in ["given", "printed"])
+        for what, make in [("orders", orders), ("writes", writes)]:
+            text = make(FILLED)
+            for command in [[asked.program, "run"]] + [words.split() for words in asked.beside]:
+                found = []
+                for more in ["", starts]:
+                    given.write_text(text + more)
+                    found.append(run(command, given, printed, asked.seconds))
+                (_, before, least), (status, after, most) = found
+                each = 1e9 * (after - before) / (asked.openings * FILLED)
+                sizes = f"{least / 1024:.1f} and {most / 1024:.1f} MB"
+                print(f"{each:9.1f} ns for each of {FILLED} {what}  {before:6.2f} and {after:6.2f} s  {sizes}  status {status}: {' '.join(command)}")
+                sys.stdout.flush()
+
+
 def audits(asked):
     """Runs schedules, audits what was printed, and prints a row for each."""
     with tempfile.TemporaryDirectory() as folder:
@@ -153,9 +198,12 @@ def main():
     words.add_argument("--lines", action="append", type=int, metavar="N")
     words.add_argument("--stops", type=int, metavar="N")
     words.add_argument("--calms", type=int, metavar="N")
+    words.add_argument("--openings", type=int, metavar="N")
     words.add_argument("--audits", type=int, metavar="N")
     words.add_argument("--seconds", type=float, default=300)
     asked = words.parse_args()
+    if asked.openings:
+        return openings(asked)
     if asked.audits:
         return audits(asked)
     commands = [[asked.program, "run"]] + [command.split() for command in asked.beside]
