@@ -1,0 +1,5 @@
+pub mod Agreement
+pub mod Steps
+pub mod Acceptors
+pub mod Greatest
+pub mod Example
