@@ -1,5 +1,5 @@
 -- A barred ballot chooses nothing, ever; what a quorum's promises leave free is safe; and two values that are chosen are equal.
-use Rattle.std.proofs.Common.{◌≡◌, ℕ, ◌*◌, ◌<◌, Bool, true, false, not, ◌⊎◌, inl, inr, ⊎_elim, Option, Some, None, is_some, refl, sym, ap, ◌∙◌, subst, arith}
+use Rattle.std.proofs.Common.{◌≡◌, ℕ, ◌<◌, Bool, true, false, not, ◌⊎◌, inl, inr, ⊎_elim, Option, Some, None, is_some, refl, sym, ap, ◌∙◌, subst, arith}
 use Rattle.std.proofs.lemmas.Bool.{cases_Bool, false≢true, and_parts, and_from}
 use Rattle.std.proofs.lemmas.Option.{same_Some}
 use Rattle.fab_base.specs.declared.stamps.Ballot.{Ballot}
@@ -7,7 +7,7 @@ use Rattle.fab_base.specs.Stamps.{ballot_below}
 use Rattle.fab_base.proofs.StampOrder.{ballot_below_order}
 use Rattle.quorum.specs.Quorums.{both}
 use Rattle.quorum.proofs.Counts.{count_both, count_some, count_monotone}
-use Rattle.synod_laws.specs.Synods.{Synod, is_lost, IsBarred, IsChosen, IsSafe, Agrees, Grows, IsAtMost, IsBelow, HasPromised, HasQuorum, IsGreatest, MayPropose}
+use Rattle.synod_laws.specs.Synods.{IsMajority, Synod, is_lost, IsBarred, IsChosen, IsSafe, Agrees, Grows, IsAtMost, IsBelow, HasPromised, HasQuorum, IsGreatest, MayPropose}
 
 -- nothing is both there and missing
 pub none_is_some : {A : Type 0} (o : Option A) (a : A) → o ≡ None → o ≡ Some a → ⊥
@@ -87,42 +87,42 @@ chosen_stays n q s next b a grows chosen =
     (chosen.0, chosen.1, λ k within member. grows.votes k b a (chosen.2 k within member))
 
 -- what is chosen was proposed
-pub chosen_proposed : {A : Type 0} (n q : ℕ) (s : Synod A) (b : Ballot) (a : A) → n < 2 * q → Agrees n q s → IsChosen n q s b a
+pub chosen_proposed : {A : Type 0} (n q : ℕ) (s : Synod A) (b : Ballot) (a : A) → IsMajority n q → Agrees n q s → IsChosen n q s b a
     → s.choices b ≡ Some a
-chosen_proposed n q s b a half agrees chosen =
-    let voter = count_some n chosen.0 (omega (arith, half, chosen.1)) in
+chosen_proposed n q s b a majority agrees chosen =
+    let voter = count_some n chosen.0 (omega (arith, majority, chosen.1)) in
     agrees.votes voter.0 b a (chosen.2 voter.0 voter.1 voter.2)
 
 -- what is chosen under a lower ballot is what the upper one was proposed with
-chosen_below : {A : Type 0} (n q : ℕ) (s : Synod A) (b c : Ballot) (a e : A) → n < 2 * q → Agrees n q s → ballot_below b c ≡ true
+chosen_below : {A : Type 0} (n q : ℕ) (s : Synod A) (b c : Ballot) (a e : A) → IsMajority n q → Agrees n q s → ballot_below b c ≡ true
     → IsChosen n q s b a → s.choices c ≡ Some e → a ≡ e
-chosen_below n q s b c a e half agrees below chosen proposed = ⊎_elim
-    (λ (same : s.choices b ≡ Some e). same_Some a e (sym (chosen_proposed n q s b a half agrees chosen) ∙ same))
+chosen_below n q s b c a e majority agrees below chosen proposed = ⊎_elim
+    (λ (same : s.choices b ≡ Some e). same_Some a e (sym (chosen_proposed n q s b a majority agrees chosen) ∙ same))
     (λ (barred : IsBarred n q s b). absurd (barred_unchosen n q s b a barred chosen))
     (agrees.safe c e proposed b below)
 
 -- two values that are chosen are equal
-pub two_chosen : {A : Type 0} (n q : ℕ) (s : Synod A) (b c : Ballot) (a e : A) → n < 2 * q → Agrees n q s
+pub two_chosen : {A : Type 0} (n q : ℕ) (s : Synod A) (b c : Ballot) (a e : A) → IsMajority n q → Agrees n q s
     → IsChosen n q s b a → IsChosen n q s c e → a ≡ e
-two_chosen n q s b c a e half agrees one two =
-    let first = chosen_proposed n q s b a half agrees one in
-    let second = chosen_proposed n q s c e half agrees two in
+two_chosen n q s b c a e majority agrees one two =
+    let first = chosen_proposed n q s b a majority agrees one in
+    let second = chosen_proposed n q s c e majority agrees two in
     ⊎_elim
-    (λ (lower : ballot_below b c ≡ true). chosen_below n q s b c a e half agrees lower one second)
+    (λ (lower : ballot_below b c ≡ true). chosen_below n q s b c a e majority agrees lower one second)
     (λ (others : (ballot_below c b ≡ true) ⊎ (b ≡ c)). ⊎_elim
-    (λ (higher : ballot_below c b ≡ true). sym (chosen_below n q s c b e a half agrees higher two first))
+    (λ (higher : ballot_below c b ≡ true). sym (chosen_below n q s c b e a majority agrees higher two first))
     (λ (same : b ≡ c). same_Some a e (sym first ∙ ap s.choices same ∙ second))
     others)
     (ballot_cases b c)
 
 -- a ballot below one that a quorum promised to is barred, where none of these seats voted under it
-lost_quorum : {A : Type 0} (n q : ℕ) (s : Synod A) (b d : Ballot) (p : ℕ → Bool) (told : ℕ → Option (Ballot × A)) → n < 2 * q
+lost_quorum : {A : Type 0} (n q : ℕ) (s : Synod A) (b d : Ballot) (p : ℕ → Bool) (told : ℕ → Option (Ballot × A)) → IsMajority n q
     → HasQuorum n q s b p told → ballot_below d b ≡ true
     → ((k : ℕ) (e : A) → k < n → p k ≡ true → s.votes k d ≡ Some e → ⊥) → IsBarred n q s d
-lost_quorum n q s b d p told half quorum below unvoted =
+lost_quorum n q s b d p told majority quorum below unvoted =
     omega (
       arith,
-      half,
+      majority,
       quorum.many,
       count_monotone n p (is_lost s d) (λ k within member.
           and_from (s.past k d) (not (is_some (s.votes k d))) ((quorum.each k within member).past d below)
@@ -135,11 +135,11 @@ lost_quorum n q s b d p told half quorum below unvoted =
 
 -- What a quorum's promises leave free is safe: a ballot below that of the greatest vote told is so by what that one was proposed with, that ballot has this
 -- value, and all others below were voted for by none of the quorum, and are past for it.
-pub safe_step : {A : Type 0} (n q : ℕ) (s : Synod A) (b : Ballot) (p : ℕ → Bool) (told : ℕ → Option (Ballot × A)) (a : A) → n < 2 * q
+pub safe_step : {A : Type 0} (n q : ℕ) (s : Synod A) (b : Ballot) (p : ℕ → Bool) (told : ℕ → Option (Ballot × A)) (a : A) → IsMajority n q
     → Agrees n q s → HasQuorum n q s b p told → MayPropose n p told a → IsSafe n q s b a
-safe_step {A = A} n q s b p told a half agrees quorum may = λ d below. ⊎_elim
+safe_step {A = A} n q s b p told a majority agrees quorum may = λ d below. ⊎_elim
     (λ (none : (k : ℕ) → k < n → p k ≡ true → told k ≡ None).
-    inr (lost_quorum n q s b d p told half quorum below
+    inr (lost_quorum n q s b d p told majority quorum below
     (λ k e within member voted. subst (λ (o : Option (Ballot × A)). IsAtMost d o) (none k within member)
     ((quorum.each k within member).covers d e below voted))))
     (λ (greatest : (c : Ballot) × IsGreatest n p told c a). at_most d below greatest.0 greatest.1)
@@ -152,7 +152,7 @@ safe_step {A = A} n q s b p told a half agrees quorum may = λ d below. ⊎_elim
         ⊎_elim
         (λ (lower : ballot_below d c ≡ true). agrees.safe c a proposed.1 d lower)
         (λ (others : (ballot_below c d ≡ true) ⊎ (d ≡ c)). ⊎_elim
-        (λ (higher : ballot_below c d ≡ true). inr (lost_quorum n q s b d p told half quorum below
+        (λ (higher : ballot_below c d ≡ true). inr (lost_quorum n q s b d p told majority quorum below
         (λ k e within member voted. false≢true
         (sym (greatest.most k within member d ((quorum.each k within member).covers d e below voted)) ∙ higher))))
         (λ (same : d ≡ c). inl (ap s.choices same ∙ proposed.1))

@@ -1,6 +1,6 @@
 -- The safe step over a list of counted replies: the value of the greatest ballot that they tell, or else the proposer's own, may be proposed. And what is
 -- chosen by a list of seats.
-use Rattle.std.proofs.Common.{◌≡◌, ℕ, ◌*◌, ◌<◌, ◌≤◌, true, false, cond, nat_eq, ◌⊎◌, inl, inr, ⊎_elim, List, [], ◌∷◌, length, All, Option, Some, None, refl, sym, ap, ◌∙◌, subst, arith}
+use Rattle.std.proofs.Common.{◌≡◌, ℕ, ◌<◌, ◌≤◌, true, false, cond, nat_eq, ◌⊎◌, inl, inr, ⊎_elim, List, [], ◌∷◌, length, All, Option, Some, None, refl, sym, ap, ◌∙◌, subst, arith}
 use Rattle.std.specs.List.{AllByRecursion}
 use Rattle.std.proofs.lemmas.Bool.{cond_both, false≢true, or_cases, or_right, eqb-true, eq-eqb, false_from_ne_true}
 use Rattle.std.proofs.lemmas.List.{length-map}
@@ -9,7 +9,7 @@ use Rattle.fab_base.specs.declared.stamps.Ballot.{Ballot}
 use Rattle.fab_base.specs.Stamps.{ballot_below}
 use Rattle.fab_base.proofs.StampOrder.{ballot_below_order}
 use Rattle.quorum.proofs.Counts.{seat_in, AreDistinctBelow, count_seat_in, with_seat_same}
-use Rattle.synod_laws.specs.Synods.{Synod, Agrees, Grows, IsAtMost, IsChosen, IsSafe, MayPropose, with_choice, Kept, Keeps, SaysPromise, greater_told, greatest_told, value_or, seats_of}
+use Rattle.synod_laws.specs.Synods.{IsMajority, Synod, Agrees, Grows, IsAtMost, IsChosen, IsSafe, MayPropose, with_choice, Kept, Keeps, SaysPromise, greater_told, greatest_told, value_or, seats_of}
 use Rattle.synod_laws.proofs.Agreement.{ballot_not_below_trans, safe_step}
 use Rattle.synod_laws.proofs.Steps.{ballot_same_refl, choice_grows, choice_agrees}
 use Rattle.synod_laws.proofs.Acceptors.{said_open, keeps_choice}
@@ -130,11 +130,11 @@ may_propose {A = A} n own replies distinct = by (greatest_told replies) refl
         )
 
 -- it is safe, where replies of a quorum count and the ballot is not proposed yet
-pub safe_replies : {A : Type 0} (n q : ℕ) (s : Synod A) (b : Ballot) (own : A) (replies : List (ℕ × Option (Ballot × A))) → n < 2 * q
+pub safe_replies : {A : Type 0} (n q : ℕ) (s : Synod A) (b : Ballot) (own : A) (replies : List (ℕ × Option (Ballot × A))) → IsMajority n q
     → s.choices b ≡ None → Agrees n q s → AreDistinctBelow n (seats_of replies) → q ≤ length replies
     → All (λ reply. SaysPromise s reply.0 b reply.1) replies → IsSafe n q s b (value_or own (greatest_told replies))
-safe_replies {A = A} n q s b own replies half free agrees distinct many says =
-    safe_step n q s b (seat_in (seats_of replies)) (told_by replies) (value_or own (greatest_told replies)) half agrees
+safe_replies {A = A} n q s b own replies majority free agrees distinct many says =
+    safe_step n q s b (seat_in (seats_of replies)) (told_by replies) (value_or own (greatest_told replies)) majority agrees
     (record {
       many = omega (arith, many, length-map replies (λ reply. reply.0), count_seat_in n (seats_of replies) distinct);
       each = λ k within member. said_open s k b (told_by replies k) free
@@ -151,14 +151,14 @@ pub record Proposing {A : Type 0} (n q : ℕ) (s : Synod A) (b : Ballot) (a : A)
   pub is : (with_choice s b a).choices b ≡ Some a
 
 -- a ballot that was not proposed may be, once replies of a quorum count, with the value of the greatest vote that they tell, or else with the proposer's own
-pub proposing : {A : Type 0} (n q : ℕ) (s : Synod A) (b : Ballot) (own : A) (replies : List (ℕ × Option (Ballot × A))) → n < 2 * q
+pub proposing : {A : Type 0} (n q : ℕ) (s : Synod A) (b : Ballot) (own : A) (replies : List (ℕ × Option (Ballot × A))) → IsMajority n q
     → s.choices b ≡ None → Agrees n q s → AreDistinctBelow n (seats_of replies) → q ≤ length replies
     → All (λ reply. SaysPromise s reply.0 b reply.1) replies → Proposing n q s b (value_or own (greatest_told replies))
-proposing n q s b own replies half free agrees distinct many says =
+proposing n q s b own replies majority free agrees distinct many says =
     let value = value_or own (greatest_told replies) in
     record {
       grows = choice_grows s b value free;
-      agrees = choice_agrees n q s b value free (safe_replies n q s b own replies half free agrees distinct many says) agrees;
+      agrees = choice_agrees n q s b value free (safe_replies n q s b own replies majority free agrees distinct many says) agrees;
       each = λ k kept keeps. keeps_choice s b value k kept keeps;
       is = ap (λ t. cond t (Some value) (s.choices b)) (ballot_same_refl b);
     }

@@ -1,11 +1,11 @@
 -- Each allowed step keeps the invariant, so every run of them does: the law of agreement.
-use Rattle.std.proofs.Common.{◌≡◌, ℕ, ◌*◌, ◌<◌, Bool, true, false, cond, not, ◌&&◌, nat_eq, ◌⊎◌, inl, inr, ⊎_elim, List, [], ◌∷◌, ◌++◌, Option, Some, None, refl, sym, ap, ◌∙◌, subst}
+use Rattle.std.proofs.Common.{◌≡◌, ℕ, Bool, true, false, cond, not, ◌&&◌, nat_eq, ◌⊎◌, inl, inr, ⊎_elim, List, [], ◌∷◌, ◌++◌, Option, Some, None, refl, sym, ap, ◌∙◌, subst}
 use Rattle.std.proofs.lemmas.Bool.{false≢true, and_parts, or_left, eqb-true, not-true}
 use Rattle.std.proofs.lemmas.Option.{same_Some}
 use Rattle.fab_base.specs.declared.stamps.Ballot.{Ballot}
 use Rattle.fab_base.specs.Stamps.{ballot_below}
 use Rattle.fab_base.proofs.StampOrder.{ballot_below_order}
-use Rattle.synod_laws.specs.Synods.{Synod, Step, Promises, Proposes, Votes, IsSafe, Agrees, Grows, no_synod, ballot_same, with_promise, with_choice, with_vote, after, run, IsAllowed, AreAllowed, EveryRunAgrees, EveryChoiceStays}
+use Rattle.synod_laws.specs.Synods.{IsMajority, Synod, Step, Promises, Proposes, Votes, IsSafe, Agrees, Grows, no_synod, ballot_same, with_promise, with_choice, with_vote, after, run, IsAllowed, AreAllowed, EveryRunAgrees, EveryChoiceStays}
 use Rattle.synod_laws.proofs.Agreement.{none_is_some, two_chosen, chosen_stays, safe_step, agrees_on, grows_on}
 
 -- ballots that test the same are equal
@@ -99,17 +99,17 @@ vote_agrees n q s seat b a present proposed agrees =
     (λ d e is. inl is)
 
 -- each allowed step keeps the invariant
-pub step_agrees : {A : Type 0} (n q : ℕ) (s : Synod A) (step : Step A) → n < 2 * q → Agrees n q s → IsAllowed n q s step → Agrees n q (after s step)
-step_agrees n q s (Promises seat b) half agrees allowed = promise_agrees n q s seat b agrees
-step_agrees n q s (Proposes b a seats told) half agrees allowed =
-    choice_agrees n q s b a allowed.0 (safe_step n q s b seats told a half agrees allowed.1 allowed.2) agrees
-step_agrees n q s (Votes seat b a) half agrees allowed = vote_agrees n q s seat b a allowed.0 allowed.1 agrees
+pub step_agrees : {A : Type 0} (n q : ℕ) (s : Synod A) (step : Step A) → IsMajority n q → Agrees n q s → IsAllowed n q s step → Agrees n q (after s step)
+step_agrees n q s (Promises seat b) majority agrees allowed = promise_agrees n q s seat b agrees
+step_agrees n q s (Proposes b a seats told) majority agrees allowed =
+    choice_agrees n q s b a allowed.0 (safe_step n q s b seats told a majority agrees allowed.1 allowed.2) agrees
+step_agrees n q s (Votes seat b a) majority agrees allowed = vote_agrees n q s seat b a allowed.0 allowed.1 agrees
 
 -- so does every run of allowed steps
-pub run_agrees : {A : Type 0} (n q : ℕ) (s : Synod A) (steps : List (Step A)) → n < 2 * q → Agrees n q s → AreAllowed n q s steps → Agrees n q (run s steps)
-run_agrees n q s [] half agrees allowed = agrees
-run_agrees n q s (step ∷ steps) half agrees allowed =
-    run_agrees n q (after s step) steps half (step_agrees n q s step half agrees allowed.0) allowed.1
+pub run_agrees : {A : Type 0} (n q : ℕ) (s : Synod A) (steps : List (Step A)) → IsMajority n q → Agrees n q s → AreAllowed n q s steps → Agrees n q (run s steps)
+run_agrees n q s [] majority agrees allowed = agrees
+run_agrees n q s (step ∷ steps) majority agrees allowed =
+    run_agrees n q (after s step) steps majority (step_agrees n q s step majority agrees allowed.0) allowed.1
 
 -- each allowed step goes on from what was
 pub step_grows : {A : Type 0} (n q : ℕ) (s : Synod A) (step : Step A) → Agrees n q s → IsAllowed n q s step → Grows s (after s step)
@@ -118,19 +118,19 @@ step_grows n q s (Proposes b a seats told) agrees allowed = choice_grows s b a a
 step_grows n q s (Votes seat b a) agrees allowed = vote_grows n q s seat b a allowed.0 allowed.1 agrees
 
 -- so does every run of them
-pub run_grows : {A : Type 0} (n q : ℕ) (s : Synod A) (steps : List (Step A)) → n < 2 * q → Agrees n q s → AreAllowed n q s steps → Grows s (run s steps)
-run_grows n q s [] half agrees allowed =
+pub run_grows : {A : Type 0} (n q : ℕ) (s : Synod A) (steps : List (Step A)) → IsMajority n q → Agrees n q s → AreAllowed n q s steps → Grows s (run s steps)
+run_grows n q s [] majority agrees allowed =
     record { votes = λ k b a is. is; past = λ k b is. is; choices = λ b a is. is; closed = λ k b a past voted. voted }
-run_grows n q s (step ∷ steps) half agrees allowed =
+run_grows n q s (step ∷ steps) majority agrees allowed =
     grows_on s (after s step) (run (after s step) steps) (step_grows n q s step agrees allowed.0)
-    (run_grows n q (after s step) steps half (step_agrees n q s step half agrees allowed.0) allowed.1)
+    (run_grows n q (after s step) steps majority (step_agrees n q s step majority agrees allowed.0) allowed.1)
 
 -- so does a longer run from a shorter one
-pub runs_grow : {A : Type 0} (n q : ℕ) (s : Synod A) (steps more : List (Step A)) → n < 2 * q → Agrees n q s → AreAllowed n q s (steps ++ more)
+pub runs_grow : {A : Type 0} (n q : ℕ) (s : Synod A) (steps more : List (Step A)) → IsMajority n q → Agrees n q s → AreAllowed n q s (steps ++ more)
     → Grows (run s steps) (run s (steps ++ more))
-runs_grow n q s [] more half agrees allowed = run_grows n q s more half agrees allowed
-runs_grow n q s (step ∷ steps) more half agrees allowed =
-    runs_grow n q (after s step) steps more half (step_agrees n q s step half agrees allowed.0) allowed.1
+runs_grow n q s [] more majority agrees allowed = run_grows n q s more majority agrees allowed
+runs_grow n q s (step ∷ steps) more majority agrees allowed =
+    runs_grow n q (after s step) steps more majority (step_agrees n q s step majority agrees allowed.0) allowed.1
 
 -- the invariant holds where nothing has happened
 pub agrees_first : {A : Type 0} (n q : ℕ) → Agrees n q (no_synod {A = A})
@@ -138,10 +138,10 @@ agrees_first {A = A} n q = record { votes = λ k b a is. absurd (none_is_some {A
 
 -- the law of agreement
 pub every_run_agrees : EveryRunAgrees
-every_run_agrees n q half steps allowed b c a e one two =
-    two_chosen n q (run no_synod steps) b c a e half (run_agrees n q no_synod steps half (agrees_first n q) allowed) one two
+every_run_agrees n q majority steps allowed b c a e one two =
+    two_chosen n q (run no_synod steps) b c a e majority (run_agrees n q no_synod steps majority (agrees_first n q) allowed) one two
 
 -- what is chosen stays chosen
 pub every_choice_stays : EveryChoiceStays
-every_choice_stays n q half steps more allowed b a chosen =
-    chosen_stays n q (run no_synod steps) (run no_synod (steps ++ more)) b a (runs_grow n q no_synod steps more half (agrees_first n q) allowed) chosen
+every_choice_stays n q majority steps more allowed b a chosen =
+    chosen_stays n q (run no_synod steps) (run no_synod (steps ++ more)) b a (runs_grow n q no_synod steps more majority (agrees_first n q) allowed) chosen

@@ -9,6 +9,10 @@ use Rattle.fab_base.specs.declared.stamps.Ballot.{Ballot}
 use Rattle.fab_base.specs.Stamps.{ballot_below}
 use Rattle.quorum.specs.Quorums.{count}
 
+-- q are more than half of n seats, so any two quorums share a seat
+abbrev pub IsMajority : ℕ → ℕ → Type 0
+IsMajority n q = n < 2 * q
+
 -- The history of all seats and ballots: what each seat has ever voted for under a ballot; whether a ballot is past for a seat, so that it will vote for
 -- nothing more under it; and what a ballot was proposed with.
 pub record Synod (A : Type 0) : Type 0 where
@@ -193,14 +197,14 @@ AreAllowed n q synod (step ∷ steps) = IsAllowed n q synod step × AreAllowed n
 -- members of a view are.
 abbrev pub EveryRunAgrees : Type 0
 EveryRunAgrees =
-    (n q : ℕ) → n < 2 * q → (steps : List (Step (List BrickId))) → AreAllowed n q no_synod steps
+    (n q : ℕ) → IsMajority n q → (steps : List (Step (List BrickId))) → AreAllowed n q no_synod steps
     → (ballot other : Ballot) (value another : List BrickId)
     → IsChosen n q (run no_synod steps) ballot value → IsChosen n q (run no_synod steps) other another → value ≡ another
 
 -- What is chosen stays chosen, however the run goes on.
 abbrev pub EveryChoiceStays : Type 0
 EveryChoiceStays =
-    (n q : ℕ) → n < 2 * q → (steps more : List (Step (List BrickId))) → AreAllowed n q no_synod (steps ++ more)
+    (n q : ℕ) → IsMajority n q → (steps more : List (Step (List BrickId))) → AreAllowed n q no_synod (steps ++ more)
     → (ballot : Ballot) (value : List BrickId)
     → IsChosen n q (run no_synod steps) ballot value → IsChosen n q (run no_synod (steps ++ more)) ballot value
 
