@@ -1,25 +1,26 @@
 -- What a seat keeps: its promise to a ballot and its last vote tell enough of the history for its next promise, and for its next vote.
-use Rattle.std.proofs.Common.{◌≡◌, ◌≢◌, ℕ, Bool, true, false, cond, ◌&&◌, ◌||◌, nat_eq, ◌⊎◌, inl, inr, ⊎_elim, Option, Some, None, refl, sym, ap, ◌∙◌, subst}
+use Rattle.std.proofs.Common.{◌≡◌, ◌≢◌, ℕ, Bool, true, false, cond, ◌&&◌, ◌||◌, nat_eq, inl, inr, ⊎_elim, Option, Some, None, refl, sym, ap, ◌∙◌, subst}
 use Rattle.std.proofs.lemmas.Bool.{false≢true, or_right, and_from, and_left, eq-eqb, ne_eqb}
 use Rattle.std.proofs.lemmas.Option.{some_pair_parts}
 use Rattle.fab_base.specs.declared.stamps.Ballot.{Ballot}
 use Rattle.fab_base.specs.Stamps.{ballot_below}
 use Rattle.fab_base.proofs.StampOrder.{ballot_below_order}
-use Rattle.synod_laws.specs.Synods.{Synod, Agrees, Grows, IsAtMost, HasPromised, no_synod, ballot_same, with_promise, with_choice, with_vote, with_acceptance, Kept, is_promised_above, is_above_promise, last_of, Keeps, SaysPromise}
-use Rattle.synod_laws.proofs.Agreement.{none_is_some, ballot_cases, ballot_not_below_trans, ballot_below_at_most, grows_on, promised_stays}
-use Rattle.synod_laws.proofs.Steps.{put_value, promise_grows, promise_agrees, vote_grows, vote_agrees, ballot_same_refl, same_place}
+use Rattle.synod_laws.specs.Synods.{Synod, Agrees, Grows, IsAtMost, HasPromised, no_synod, ballot_same, with_promise, with_proposal, with_vote, with_acceptance, Kept, is_promised_above, is_above_promise, last_of, Keeps, SaysPromise}
+use Rattle.synod_laws.proofs.Ballots.{by_order, ballot_not_below_trans, ballot_below_at_most, ballot_same_refl}
+use Rattle.synod_laws.proofs.Agreement.{none_is_some, grows_on, promised_stays}
+use Rattle.synod_laws.proofs.Steps.{put_value, promise_grows, promise_agrees, vote_grows, vote_agrees, same_place}
 
 -- a test that follows from another absorbs it
 or_absorbs : (x y : Bool) → (x ≡ true → y ≡ true) → (x || y) ≡ y
 or_absorbs true y then = sym (then refl)
 or_absorbs false y then = refl
 
--- or with what does not hold
+-- a test that does not hold adds nothing
 or_none : (x y : Bool) → y ≡ false → (x || y) ≡ x
 or_none true y isnt = refl
 or_none false y isnt = isnt
 
--- what was past for a seat is below the ballot that it may promise to
+-- the ballots that were past for a seat are below the one that it may promise to
 past_below : {A : Type 0} (kept : Kept A) (b d : Ballot) → is_promised_above kept b ≡ false → (is_promised_above kept d || ballot_below d b) ≡ ballot_below d b
 past_below None b d free = refl
 past_below (Some (p, last)) b d free = or_absorbs (ballot_below d p) (ballot_below d b) (λ lower. ballot_below_at_most d p b lower free)
@@ -38,7 +39,7 @@ keeps_first {A = A} k = record {
   within = λ b a is. absurd (none_is_some {A = Ballot × A} None (b, a) refl is);
 }
 
--- a seat keeps what it kept, where its votes and the ballots past for it are the same
+-- a seat keeps what it kept, where its votes and the ballots past for it stay the same
 pub keeps_same : {A : Type 0} (s next : Synod A) (k : ℕ) (kept : Kept A) → ((b : Ballot) → next.past k b ≡ s.past k b)
     → ((b : Ballot) → next.votes k b ≡ s.votes k b) → Keeps s k kept → Keeps next k kept
 keeps_same s next k kept past votes keeps = record {
@@ -48,7 +49,7 @@ keeps_same s next k kept past votes keeps = record {
   within = keeps.within;
 }
 
--- so where another seat promises
+-- so it does where another seat promises
 pub keeps_other_promise : {A : Type 0} (s : Synod A) (seat : ℕ) (b : Ballot) (k : ℕ) (kept : Kept A) → k ≢ seat → Keeps s k kept
     → Keeps (with_promise s seat b) k kept
 keeps_other_promise s seat b k kept other keeps =
@@ -64,41 +65,37 @@ keeps_other_vote s seat b a k kept other keeps =
     (λ d. ap (λ t. cond (t && ballot_same d b) (Some a) (s.votes k d)) (ne_eqb k seat other)) keeps
 
 -- and where a ballot is proposed
-pub keeps_choice : {A : Type 0} (s : Synod A) (b : Ballot) (a : A) (k : ℕ) (kept : Kept A) → Keeps s k kept → Keeps (with_choice s b a) k kept
-keeps_choice s b a k kept keeps = keeps_same s (with_choice s b a) k kept (λ d. refl) (λ d. refl) keeps
+pub keeps_proposal : {A : Type 0} (s : Synod A) (b : Ballot) (a : A) (k : ℕ) (kept : Kept A) → Keeps s k kept → Keeps (with_proposal s b a) k kept
+keeps_proposal s b a k kept keeps = keeps_same s (with_proposal s b a) k kept (λ d. refl) (λ d. refl) keeps
 
--- what a promise says stays said
+-- what an answer says stays so
 pub said_stays : {A : Type 0} (s next : Synod A) (k : ℕ) (b : Ballot) (told : Option (Ballot × A)) → Grows s next → SaysPromise s k b told
     → SaysPromise next k b told
 said_stays {A = A} s next k b told grows says = ⊎_elim
     (λ (promised : HasPromised s k b told). inl (promised_stays s next k b told grows promised))
-    (λ (proposed : (a : A) × (s.choices b ≡ Some a)). inr (proposed.0, grows.choices b proposed.0 proposed.1))
+    (λ (proposed : (a : A) × (s.proposals b ≡ Some a)). inr (proposed.0, grows.proposals b proposed.0 proposed.1))
     says
 
--- while a ballot is not proposed, what is said of a promise to it is so
-pub said_open : {A : Type 0} (s : Synod A) (k : ℕ) (b : Ballot) (told : Option (Ballot × A)) → s.choices b ≡ None → SaysPromise s k b told
+-- while a ballot is not proposed, an answer to it is a promise
+pub said_open : {A : Type 0} (s : Synod A) (k : ℕ) (b : Ballot) (told : Option (Ballot × A)) → s.proposals b ≡ None → SaysPromise s k b told
     → HasPromised s k b told
 said_open {A = A} s k b told free says = ⊎_elim
     (λ (promised : HasPromised s k b told). promised)
-    (λ (proposed : (a : A) × (s.choices b ≡ Some a)). absurd (none_is_some (s.choices b) proposed.0 free proposed.1))
+    (λ (proposed : (a : A) × (s.proposals b ≡ Some a)). absurd (none_is_some (s.proposals b) proposed.0 free proposed.1))
     says
 
--- a vote that is told truly, and that is not above the ballot, makes a promise true, or the ballot was proposed with its value
+-- where the lower ballots are past, a vote that covers the seat's own, is not above the ballot, and was proposed so may be told
 told_says : {A : Type 0} (s : Synod A) (k : ℕ) (b : Ballot) (told : Option (Ballot × A))
     → ((d : Ballot) → ballot_below d b ≡ true → s.past k d ≡ true)
     → ((d : Ballot) (a : A) → s.votes k d ≡ Some a → IsAtMost d told)
-    → ((c : Ballot) (a : A) → told ≡ Some (c, a) → (ballot_below b c ≡ false) × (s.choices c ≡ Some a)) → SaysPromise s k b told
+    → ((c : Ballot) (a : A) → told ≡ Some (c, a) → (ballot_below b c ≡ false) × (s.proposals c ≡ Some a)) → SaysPromise s k b told
 told_says s k b None past covers is = inl (record { past = past; covers = λ d a below voted. covers d a voted; below = tt })
 told_says s k b (Some (c, a)) past covers is =
     let vote = is c a refl in
-    ⊎_elim
-    (λ (lower : ballot_below c b ≡ true).
-    inl (record { past = past; covers = λ d e below voted. covers d e voted; below = (lower, vote.1) }))
-    (λ (others : (ballot_below b c ≡ true) ⊎ (c ≡ b)). ⊎_elim
-    (λ (higher : ballot_below b c ≡ true). absurd (false≢true (sym vote.0 ∙ higher)))
-    (λ (same : c ≡ b). inr (a, ap s.choices (sym same) ∙ vote.1))
-    others)
-    (ballot_cases c b)
+    by_order c b
+    (λ lower. inl (record { past = past; covers = λ d e below voted. covers d e voted; below = (lower, vote.1) }))
+    (λ higher. absurd (false≢true (sym vote.0 ∙ higher)))
+    (λ same. inr (a, ap s.proposals (sym same) ∙ vote.1))
 
 -- What a seat's promise to a ballot does.
 pub record Promising {A : Type 0} (n q : ℕ) (s : Synod A) (seat : ℕ) (kept : Kept A) (b : Ballot) : Type 0 where
@@ -147,7 +144,7 @@ pub record Accepting {A : Type 0} (n q : ℕ) (s : Synod A) (seat : ℕ) (kept :
 
 -- a seat that has promised to no greater ballot may vote for what this one was proposed with
 pub accepting : {A : Type 0} (n q : ℕ) (s : Synod A) (seat : ℕ) (kept : Kept A) (b : Ballot) (a : A) → is_promised_above kept b ≡ false
-    → s.choices b ≡ Some a → Agrees n q s → Keeps s seat kept → Accepting n q s seat kept b a
+    → s.proposals b ≡ Some a → Agrees n q s → Keeps s seat kept → Accepting n q s seat kept b a
 accepting {A = A} n q s seat kept b a free proposed agrees keeps = record {
   grows = grows_on s promised (with_acceptance s seat b a) promise.grows
       (vote_grows n q promised seat b a present proposed promise.agrees);

@@ -1,47 +1,17 @@
 -- A barred ballot chooses nothing, ever; what a quorum's promises leave free is safe; and two values that are chosen are equal.
-use Rattle.std.proofs.Common.{◌≡◌, ℕ, ◌<◌, Bool, true, false, not, ◌⊎◌, inl, inr, ⊎_elim, Option, Some, None, is_some, refl, sym, ap, ◌∙◌, subst, arith}
-use Rattle.std.proofs.lemmas.Bool.{cases_Bool, false≢true, and_parts, and_from}
+use Rattle.std.proofs.Common.{◌≡◌, ℕ, ◌<◌, Bool, true, not, ◌⊎◌, inl, inr, ⊎_elim, Option, Some, None, is_some, refl, sym, ap, ◌∙◌, subst, arith}
+use Rattle.std.proofs.lemmas.Bool.{false≢true, and_parts, and_from}
 use Rattle.std.proofs.lemmas.Option.{same_Some}
 use Rattle.fab_base.specs.declared.stamps.Ballot.{Ballot}
 use Rattle.fab_base.specs.Stamps.{ballot_below}
-use Rattle.fab_base.proofs.StampOrder.{ballot_below_order}
 use Rattle.quorum.specs.Quorums.{both}
 use Rattle.quorum.proofs.Counts.{count_both, count_some, count_monotone}
+use Rattle.synod_laws.proofs.Ballots.{by_order}
 use Rattle.synod_laws.specs.Synods.{IsMajority, Synod, is_lost, IsBarred, IsChosen, IsSafe, Agrees, Grows, IsAtMost, IsBelow, HasPromised, HasQuorum, IsGreatest, MayPropose}
 
 -- nothing is both there and missing
 pub none_is_some : {A : Type 0} (o : Option A) (a : A) → o ≡ None → o ≡ Some a → ⊥
 none_is_some o a none some = cc
-
--- one ballot is below another, or above it, or is it
-pub ballot_cases : (b c : Ballot) → (ballot_below b c ≡ true) ⊎ ((ballot_below c b ≡ true) ⊎ (b ≡ c))
-ballot_cases b c = ⊎_elim
-    (λ (lower : ballot_below b c ≡ true). inl lower)
-    (λ (isnt : ballot_below b c ≡ false). inr (⊎_elim
-    (λ (higher : ballot_below c b ≡ true). inl higher)
-    (λ (neither : ballot_below c b ≡ false). inr (ballot_below_order.total b c isnt neither))
-    (cases_Bool (ballot_below c b))))
-    (cases_Bool (ballot_below b c))
-
--- at or below is transitive
-pub ballot_not_below_trans : (a b c : Ballot) → ballot_below b a ≡ false → ballot_below c b ≡ false → ballot_below c a ≡ false
-ballot_not_below_trans a b c one two = ⊎_elim
-    (λ (lower : ballot_below c a ≡ true). ⊎_elim
-    (λ (up : ballot_below a b ≡ true). absurd (false≢true (sym two ∙ ballot_below_order.transitive c a b lower up)))
-    (λ (others : (ballot_below b a ≡ true) ⊎ (a ≡ b)). ⊎_elim
-    (λ (down : ballot_below b a ≡ true). absurd (false≢true (sym one ∙ down)))
-    (λ (same : a ≡ b). absurd (false≢true (sym two ∙ subst (λ (z : Ballot). ballot_below c z ≡ true) same lower)))
-    others)
-    (ballot_cases a b))
-    (λ (isnt : ballot_below c a ≡ false). isnt)
-    (cases_Bool (ballot_below c a))
-
--- a ballot below one is below what is at or above that
-pub ballot_below_at_most : (a b c : Ballot) → ballot_below a b ≡ true → ballot_below c b ≡ false → ballot_below a c ≡ true
-ballot_below_at_most a b c lower up = ⊎_elim
-    (λ (is : ballot_below a c ≡ true). is)
-    (λ (isnt : ballot_below a c ≡ false). absurd (false≢true (sym (ballot_not_below_trans b c a up isnt) ∙ lower)))
-    (cases_Bool (ballot_below a c))
 
 -- where nothing is there later, nothing was there before
 missing_before : {A : Type 0} (later before : Option A) → ((a : A) → later ≡ Some a → before ≡ Some a) → not (is_some before) ≡ true
@@ -77,7 +47,7 @@ barred_unchosen n q s b a barred chosen =
 -- what is safe stays safe
 pub safe_stays : {A : Type 0} (n q : ℕ) (s next : Synod A) (b : Ballot) (a : A) → Grows s next → IsSafe n q s b a → IsSafe n q next b a
 safe_stays n q s next b a grows safe = λ lower below. ⊎_elim
-    (λ (same : s.choices lower ≡ Some a). inl (grows.choices lower a same))
+    (λ (same : s.proposals lower ≡ Some a). inl (grows.proposals lower a same))
     (λ (barred : IsBarred n q s lower). inr (barred_stays n q s next lower grows barred))
     (safe lower below)
 
@@ -88,16 +58,16 @@ chosen_stays n q s next b a grows chosen =
 
 -- what is chosen was proposed
 pub chosen_proposed : {A : Type 0} (n q : ℕ) (s : Synod A) (b : Ballot) (a : A) → IsMajority n q → Agrees n q s → IsChosen n q s b a
-    → s.choices b ≡ Some a
+    → s.proposals b ≡ Some a
 chosen_proposed n q s b a majority agrees chosen =
     let voter = count_some n chosen.0 (omega (arith, majority, chosen.1)) in
     agrees.votes voter.0 b a (chosen.2 voter.0 voter.1 voter.2)
 
 -- what is chosen under a lower ballot is what the upper one was proposed with
 chosen_below : {A : Type 0} (n q : ℕ) (s : Synod A) (b c : Ballot) (a e : A) → IsMajority n q → Agrees n q s → ballot_below b c ≡ true
-    → IsChosen n q s b a → s.choices c ≡ Some e → a ≡ e
+    → IsChosen n q s b a → s.proposals c ≡ Some e → a ≡ e
 chosen_below n q s b c a e majority agrees below chosen proposed = ⊎_elim
-    (λ (same : s.choices b ≡ Some e). same_Some a e (sym (chosen_proposed n q s b a majority agrees chosen) ∙ same))
+    (λ (same : s.proposals b ≡ Some e). same_Some a e (sym (chosen_proposed n q s b a majority agrees chosen) ∙ same))
     (λ (barred : IsBarred n q s b). absurd (barred_unchosen n q s b a barred chosen))
     (agrees.safe c e proposed b below)
 
@@ -107,13 +77,10 @@ pub two_chosen : {A : Type 0} (n q : ℕ) (s : Synod A) (b c : Ballot) (a e : A)
 two_chosen n q s b c a e majority agrees one two =
     let first = chosen_proposed n q s b a majority agrees one in
     let second = chosen_proposed n q s c e majority agrees two in
-    ⊎_elim
-    (λ (lower : ballot_below b c ≡ true). chosen_below n q s b c a e majority agrees lower one second)
-    (λ (others : (ballot_below c b ≡ true) ⊎ (b ≡ c)). ⊎_elim
-    (λ (higher : ballot_below c b ≡ true). sym (chosen_below n q s c b e a majority agrees higher two first))
-    (λ (same : b ≡ c). same_Some a e (sym first ∙ ap s.choices same ∙ second))
-    others)
-    (ballot_cases b c)
+    by_order b c
+    (λ lower. chosen_below n q s b c a e majority agrees lower one second)
+    (λ higher. sym (chosen_below n q s c b e a majority agrees higher two first))
+    (λ same. same_Some a e (sym first ∙ ap s.proposals same ∙ second))
 
 -- a ballot below one that a quorum promised to is barred, where none of these seats voted under it
 lost_quorum : {A : Type 0} (n q : ℕ) (s : Synod A) (b d : Ballot) (p : ℕ → Bool) (told : ℕ → Option (Ballot × A)) → IsMajority n q
@@ -133,8 +100,8 @@ lost_quorum n q s b d p told majority quorum below unvoted =
     missing None never = refl
     missing (Some e) never = absurd (never e refl)
 
--- What a quorum's promises leave free is safe: a ballot below that of the greatest vote told is so by what that one was proposed with, that ballot has this
--- value, and all others below were voted for by none of the quorum, and are past for it.
+-- What a quorum's promises leave free is safe. A ballot below the greatest vote told has this value or is barred, since the value was safe there; the ballot of
+-- that vote has this value; and each one above it, or each one if no vote is told, is past for all seats of the quorum, and none of them voted under it.
 pub safe_step : {A : Type 0} (n q : ℕ) (s : Synod A) (b : Ballot) (p : ℕ → Bool) (told : ℕ → Option (Ballot × A)) (a : A) → IsMajority n q
     → Agrees n q s → HasQuorum n q s b p told → MayPropose n p told a → IsSafe n q s b a
 safe_step {A = A} n q s b p told a majority agrees quorum may = λ d below. ⊎_elim
@@ -145,19 +112,16 @@ safe_step {A = A} n q s b p told a majority agrees quorum may = λ d below. ⊎_
     (λ (greatest : (c : Ballot) × IsGreatest n p told c a). at_most d below greatest.0 greatest.1)
     may
   where
-    at_most : (d : Ballot) → ballot_below d b ≡ true → (c : Ballot) → IsGreatest n p told c a → (s.choices d ≡ Some a) ⊎ IsBarred n q s d
+    at_most : (d : Ballot) → ballot_below d b ≡ true → (c : Ballot) → IsGreatest n p told c a → (s.proposals d ≡ Some a) ⊎ IsBarred n q s d
     at_most d below c greatest =
         let proposed : IsBelow s b (Some (c, a))
         = subst (λ (o : Option (Ballot × A)). IsBelow s b o) greatest.is (quorum.each greatest.seat greatest.within greatest.member).below in
-        ⊎_elim
-        (λ (lower : ballot_below d c ≡ true). agrees.safe c a proposed.1 d lower)
-        (λ (others : (ballot_below c d ≡ true) ⊎ (d ≡ c)). ⊎_elim
-        (λ (higher : ballot_below c d ≡ true). inr (lost_quorum n q s b d p told majority quorum below
+        by_order d c
+        (λ lower. agrees.safe c a proposed.1 d lower)
+        (λ higher. inr (lost_quorum n q s b d p told majority quorum below
         (λ k e within member voted. false≢true
         (sym (greatest.most k within member d ((quorum.each k within member).covers d e below voted)) ∙ higher))))
-        (λ (same : d ≡ c). inl (ap s.choices same ∙ proposed.1))
-        others)
-        (ballot_cases d c)
+        (λ same. inl (ap s.proposals same ∙ proposed.1))
 
 -- a promise stays one
 pub promised_stays : {A : Type 0} (s next : Synod A) (k : ℕ) (b : Ballot) (told : Option (Ballot × A)) → Grows s next → HasPromised s k b told
@@ -170,24 +134,24 @@ promised_stays {A = A} s next k b told grows promised = record {
   where
     proposed : (o : Option (Ballot × A)) → IsBelow s b o → IsBelow next b o
     proposed None is = is
-    proposed (Some (c, a)) is = (is.0, grows.choices c a is.1)
+    proposed (Some (c, a)) is = (is.0, grows.proposals c a is.1)
 
 -- growth upon growth
 pub grows_on : {A : Type 0} (s next last : Synod A) → Grows s next → Grows next last → Grows s last
 grows_on s next last one two = record {
   votes = λ k b a is. two.votes k b a (one.votes k b a is);
   past = λ k b is. two.past k b (one.past k b is);
-  choices = λ b a is. two.choices b a (one.choices b a is);
+  proposals = λ b a is. two.proposals b a (one.proposals b a is);
   closed = λ k b a past voted. one.closed k b a past (two.closed k b a (one.past k b past) voted);
 }
 
 -- the invariant holds on, where each vote is an old one or for what its ballot was proposed with, and each proposal is an old one or safe
 pub agrees_on : {A : Type 0} (n q : ℕ) (s next : Synod A) → Grows s next → Agrees n q s
-    → ((k : ℕ) (b : Ballot) (a : A) → next.votes k b ≡ Some a → (s.votes k b ≡ Some a) ⊎ (s.choices b ≡ Some a))
-    → ((b : Ballot) (a : A) → next.choices b ≡ Some a → (s.choices b ≡ Some a) ⊎ IsSafe n q s b a) → Agrees n q next
+    → ((k : ℕ) (b : Ballot) (a : A) → next.votes k b ≡ Some a → (s.votes k b ≡ Some a) ⊎ (s.proposals b ≡ Some a))
+    → ((b : Ballot) (a : A) → next.proposals b ≡ Some a → (s.proposals b ≡ Some a) ⊎ IsSafe n q s b a) → Agrees n q next
 agrees_on n q s next grows agrees voted proposed = record {
-  votes = λ k b a is. grows.choices b a
-      (⊎_elim (λ (old : s.votes k b ≡ Some a). agrees.votes k b a old) (λ (new : s.choices b ≡ Some a). new) (voted k b a is));
+  votes = λ k b a is. grows.proposals b a
+      (⊎_elim (λ (old : s.votes k b ≡ Some a). agrees.votes k b a old) (λ (new : s.proposals b ≡ Some a). new) (voted k b a is));
   safe = λ b a is. safe_stays n q s next b a grows
-      (⊎_elim (λ (old : s.choices b ≡ Some a). agrees.safe b a old) (λ (new : IsSafe n q s b a). new) (proposed b a is));
+      (⊎_elim (λ (old : s.proposals b ≡ Some a). agrees.safe b a old) (λ (new : IsSafe n q s b a). new) (proposed b a is));
 }

@@ -1,6 +1,6 @@
--- A run of three seats, two to a quorum, that chooses. Ballot 1 is proposed with the value, and seat 0 alone votes for it. Then seats 0 and 2 promise to ballot 2,
--- which must be proposed with the value that seat 0 tells; both vote for it.
-use Rattle.std.proofs.Common.{◌≡◌, ℕ, zero, suc, Bool, true, false, ◌&&◌, ◌||◌, nat_eq, inl, inr, ⊎_elim, List, [], ◌∷◌, Option, Some, None, refl, sym, subst, arith}
+-- A run of three seats, two to a quorum, that chooses. Ballot 1 is proposed with the value, and seat 0 alone votes for it. Then seats 0 and 2 promise to
+-- ballot 2, which must be proposed with the value that seat 0 tells. Both vote for it.
+use Rattle.std.proofs.Common.{◌≡◌, ℕ, zero, suc, Bool, true, false, ◌&&◌, ◌||◌, nat_eq, inl, inr, ⊎_elim, List, [], ◌∷◌, ◌++◌, Option, Some, None, refl, sym, subst, arith}
 use Rattle.std.proofs.lemmas.Bool.{false≢true, or_left, or_right}
 use Rattle.fab_base.specs.declared.stamps.Ballot.{Ballot}
 use Rattle.fab_base.specs.Stamps.{ballot_below}
@@ -33,32 +33,29 @@ abbrev told : {A : Type 0} → A → ℕ → Option (Ballot × A)
 told a zero = Some (first, a)
 told a (suc k) = None
 
--- up to the first vote, up to the second proposal, and the whole run
-abbrev beginning : {A : Type 0} → A → List (Step A)
-beginning a = Promises 0 first ∷ Promises 1 first ∷ []
+-- up to the first proposal, up to the second, and the whole run
+abbrev beginning : {A : Type 0} → List (Step A)
+beginning = Promises 0 first ∷ Promises 1 first ∷ []
 
 abbrev half_done : {A : Type 0} → A → List (Step A)
-half_done a =
-    Promises 0 first ∷ Promises 1 first ∷ Proposes first a first_seats (λ k. None) ∷ Votes 0 first a ∷ Promises 0 second ∷ Promises 2 second ∷ []
+half_done a = beginning ++ (Proposes first a first_seats (λ k. None) ∷ Votes 0 first a ∷ Promises 0 second ∷ Promises 2 second ∷ [])
 
 abbrev steps : {A : Type 0} → A → List (Step A)
-steps a =
-    Promises 0 first ∷ Promises 1 first ∷ Proposes first a first_seats (λ k. None) ∷ Votes 0 first a ∷ Promises 0 second ∷ Promises 2 second
-    ∷ Proposes second a second_seats (told a) ∷ Votes 0 second a ∷ Votes 2 second a ∷ []
+steps a = half_done a ++ (Proposes second a second_seats (told a) ∷ Votes 0 second a ∷ Votes 2 second a ∷ [])
 
 -- both seats promise to the first ballot, and have no vote to tell
-first_promised : {A : Type 0} (a : A) (k : ℕ) → first_seats k ≡ true → HasPromised (run no_synod (beginning a)) k first None
-first_promised {A = A} a zero member = record {
+first_promised : {A : Type 0} (k : ℕ) → first_seats k ≡ true → HasPromised (run no_synod (beginning {A = A})) k first None
+first_promised {A = A} zero member = record {
   past = λ d below. or_left (ballot_below d first) false below;
   covers = λ d e below voted. none_is_some {A = A} None e refl voted;
   below = tt;
 }
-first_promised {A = A} a (suc zero) member = record {
+first_promised {A = A} (suc zero) member = record {
   past = λ d below. below;
   covers = λ d e below voted. none_is_some {A = A} None e refl voted;
   below = tt;
 }
-first_promised a (suc (suc k)) member = absurd (false≢true member)
+first_promised (suc (suc k)) member = absurd (false≢true member)
 
 -- at the second, seat 0 tells its vote, and seat 2 has none
 second_promised : {A : Type 0} (a : A) (k : ℕ) → second_seats k ≡ true → HasPromised (run no_synod (half_done a)) k second (told a k)
@@ -96,7 +93,7 @@ allowed a = (
   (
     tt,
     (
-      (refl, record { many = omega arith; each = λ k within member. first_promised a k member }, inl (λ k within member. refl)),
+      (refl, record { many = omega arith; each = λ k within member. first_promised k member }, inl (λ k within member. refl)),
       (
         (refl, refl),
         (

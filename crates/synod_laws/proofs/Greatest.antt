@@ -9,10 +9,11 @@ use Rattle.fab_base.specs.declared.stamps.Ballot.{Ballot}
 use Rattle.fab_base.specs.Stamps.{ballot_below}
 use Rattle.fab_base.proofs.StampOrder.{ballot_below_order}
 use Rattle.quorum.proofs.Counts.{seat_in, AreDistinctBelow, count_seat_in, with_seat_same}
-use Rattle.synod_laws.specs.Synods.{IsMajority, Synod, Agrees, Grows, IsAtMost, IsChosen, IsSafe, MayPropose, with_choice, Kept, Keeps, SaysPromise, greater_told, greatest_told, value_or, seats_of}
-use Rattle.synod_laws.proofs.Agreement.{ballot_not_below_trans, safe_step}
-use Rattle.synod_laws.proofs.Steps.{ballot_same_refl, choice_grows, choice_agrees}
-use Rattle.synod_laws.proofs.Acceptors.{said_open, keeps_choice}
+use Rattle.synod_laws.specs.Synods.{IsMajority, Synod, Agrees, Grows, IsAtMost, IsChosen, IsSafe, MayPropose, with_proposal, Kept, Keeps, SaysPromise, greater_told, greatest_told, value_or, seats_of}
+use Rattle.synod_laws.proofs.Ballots.{ballot_not_below_trans, ballot_same_refl}
+use Rattle.synod_laws.proofs.Agreement.{none_is_some, safe_step}
+use Rattle.synod_laws.proofs.Steps.{proposal_grows, proposal_agrees}
+use Rattle.synod_laws.proofs.Acceptors.{said_open, keeps_proposal}
 
 -- what a seat told, by the first of its replies
 abbrev pub told_by : {A : Type 0} → List (ℕ × Option (Ballot × A)) → ℕ → Option (Ballot × A)
@@ -78,10 +79,7 @@ greatest_covers {A = A} (reply ∷ replies) k member d most =
 greatest_is_told : {A : Type 0} (n : ℕ) (replies : List (ℕ × Option (Ballot × A))) (vote : Ballot × A) → AreDistinctBelow n (seats_of replies)
     → greatest_told replies ≡ Some vote
     → (k : ℕ) × (k < n) × (seat_in (seats_of replies) k ≡ true) × (told_by replies k ≡ Some vote)
-greatest_is_told n [] vote distinct is = absurd (never is)
-  where
-    never : {B : Type 0} {b : B} → None ≡ Some b → ⊥
-    never is = cc
+greatest_is_told {A = A} n [] vote distinct is = absurd (none_is_some {A = Ballot × A} None vote refl is)
 greatest_is_told {A = A} n (reply ∷ replies) vote distinct is = ⊎_elim
     (λ (first : greater_told reply.1 (greatest_told replies) ≡ reply.1). (
       reply.0,
@@ -131,7 +129,7 @@ may_propose {A = A} n own replies distinct = by (greatest_told replies) refl
 
 -- it is safe, where replies of a quorum count and the ballot is not proposed yet
 pub safe_replies : {A : Type 0} (n q : ℕ) (s : Synod A) (b : Ballot) (own : A) (replies : List (ℕ × Option (Ballot × A))) → IsMajority n q
-    → s.choices b ≡ None → Agrees n q s → AreDistinctBelow n (seats_of replies) → q ≤ length replies
+    → s.proposals b ≡ None → Agrees n q s → AreDistinctBelow n (seats_of replies) → q ≤ length replies
     → All (λ reply. SaysPromise s reply.0 b reply.1) replies → IsSafe n q s b (value_or own (greatest_told replies))
 safe_replies {A = A} n q s b own replies majority free agrees distinct many says =
     safe_step n q s b (seat_in (seats_of replies)) (told_by replies) (value_or own (greatest_told replies)) majority agrees
@@ -145,22 +143,22 @@ safe_replies {A = A} n q s b own replies majority free agrees distinct many says
 
 -- What a proposal does.
 pub record Proposing {A : Type 0} (n q : ℕ) (s : Synod A) (b : Ballot) (a : A) : Type 0 where
-  pub grows : Grows s (with_choice s b a)
-  pub agrees : Agrees n q (with_choice s b a)
-  pub each : (k : ℕ) (kept : Kept A) → Keeps s k kept → Keeps (with_choice s b a) k kept
-  pub is : (with_choice s b a).choices b ≡ Some a
+  pub grows : Grows s (with_proposal s b a)
+  pub agrees : Agrees n q (with_proposal s b a)
+  pub each : (k : ℕ) (kept : Kept A) → Keeps s k kept → Keeps (with_proposal s b a) k kept
+  pub is : (with_proposal s b a).proposals b ≡ Some a
 
 -- a ballot that was not proposed may be, once replies of a quorum count, with the value of the greatest vote that they tell, or else with the proposer's own
 pub proposing : {A : Type 0} (n q : ℕ) (s : Synod A) (b : Ballot) (own : A) (replies : List (ℕ × Option (Ballot × A))) → IsMajority n q
-    → s.choices b ≡ None → Agrees n q s → AreDistinctBelow n (seats_of replies) → q ≤ length replies
+    → s.proposals b ≡ None → Agrees n q s → AreDistinctBelow n (seats_of replies) → q ≤ length replies
     → All (λ reply. SaysPromise s reply.0 b reply.1) replies → Proposing n q s b (value_or own (greatest_told replies))
 proposing n q s b own replies majority free agrees distinct many says =
     let value = value_or own (greatest_told replies) in
     record {
-      grows = choice_grows s b value free;
-      agrees = choice_agrees n q s b value free (safe_replies n q s b own replies majority free agrees distinct many says) agrees;
-      each = λ k kept keeps. keeps_choice s b value k kept keeps;
-      is = ap (λ t. cond t (Some value) (s.choices b)) (ballot_same_refl b);
+      grows = proposal_grows s b value free;
+      agrees = proposal_agrees n q s b value free (safe_replies n q s b own replies majority free agrees distinct many says) agrees;
+      each = λ k kept keeps. keeps_proposal s b value k kept keeps;
+      is = ap (λ t. cond t (Some value) (s.proposals b)) (ballot_same_refl b);
     }
 
 -- what q distinct seats voted for under one ballot is chosen

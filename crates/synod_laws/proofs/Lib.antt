@@ -1,3 +1,4 @@
+pub mod Ballots
 pub mod Agreement
 pub mod Steps
 pub mod Acceptors
