@@ -7,11 +7,15 @@ use Rattle.fab_base.specs.Stamps.{ballot_below}
 use Rattle.quorum.specs.Quorums.{both}
 use Rattle.quorum.proofs.Counts.{count_both, count_some, count_monotone}
 use Rattle.synod_laws.proofs.Ballots.{by_order}
-use Rattle.synod_laws.specs.Synods.{IsMajority, Synod, is_lost, IsBarred, IsChosen, IsSafe, Agrees, Grows, IsAtMost, IsBelow, HasPromised, HasQuorum, IsGreatest, MayPropose}
+use Rattle.synod_laws.specs.Synods.{IsMajority, QuorumsAreMajorities, Synod, is_lost, IsBarred, IsChosen, IsSafe, Agrees, Grows, IsAtMost, IsBelow, HasPromised, HasQuorum, IsGreatest, MayPropose}
 
 -- nothing is both there and missing
 pub none_is_some : {A : Type 0} (o : Option A) (a : A) → o ≡ None → o ≡ Some a → ⊥
 none_is_some o a none some = cc
+
+-- a quorum of a view is more than half of its seats
+pub quorums_are_majorities : QuorumsAreMajorities
+quorums_are_majorities m n limits = omega (arith, limits.some_block, limits.enough_seats)
 
 -- where nothing is there later, nothing was there before
 missing_before : {A : Type 0} (later before : Option A) → ((a : A) → later ≡ Some a → before ≡ Some a) → not (is_some before) ≡ true

@@ -7,7 +7,7 @@ use Rattle.std.specs.Prelude.{◌≡◌, ℕ, ◌+◌, ◌*◌, ◌<◌, ◌≤�
 use Rattle.fab_base.specs.declared.identities.BrickId.{BrickId}
 use Rattle.fab_base.specs.declared.stamps.Ballot.{Ballot}
 use Rattle.fab_base.specs.Stamps.{ballot_below}
-use Rattle.quorum.specs.Quorums.{count}
+use Rattle.quorum.specs.Quorums.{count, q_of, IsWithinLimits}
 
 -- q are more than half of n seats, so any two quorums share a seat
 abbrev pub IsMajority : ℕ → ℕ → Type 0
@@ -111,6 +111,10 @@ run synod (step ∷ steps) = run (after synod step) steps
 abbrev pub AreAllowed : {A : Type 0} → ℕ → ℕ → Synod A → List (Step A) → Type 0
 AreAllowed n q synod [] = Unit {0}
 AreAllowed n q synod (step ∷ steps) = IsAllowed n q synod step × AreAllowed n q (after synod step) steps
+
+-- The quorums of a view are such majorities, of m data blocks and n seats within the limits.
+abbrev pub QuorumsAreMajorities : Type 0
+QuorumsAreMajorities = (m n : ℕ) → IsWithinLimits m n → IsMajority n (q_of m n)
 
 -- In every run of allowed steps, two values that are chosen are equal, whichever ballots they are chosen under. A value is a list of bricks, as the members of
 -- a view are.
