@@ -1,26 +1,26 @@
 //! A line of a schedule that is run, with what it did.
 
 ghost use Rattle.std.specs.Prelude.{IfOk};
-ghost use Rattle.trace_runs.specs.Taking.{StepsTo, TakesLine};
+ghost use Rattle.trace_runs.specs.LineRuns.{StepsTo, IsLineRun};
 
-use crate::accounts::Account;
 use crate::journals::Journal;
+use crate::line_effects::LineEffects;
 use fab_base::{Bytes, NoMem};
 use std::alloc::Global;
 use world::{StepFault, World};
 
 /// A line that was run.
-pub struct Taken {
+pub struct LineRun {
     /// What it did.
-    pub account: Account,
+    pub effects: LineEffects,
     /// What `replay` prints for it.
     pub printed: Bytes,
 }
 
-impl Drop for Taken {
+impl Drop for LineRun {
     fn drop(self) {
         let Self {
-            account: _,
+            effects: _,
             printed: _,
         } = self;
     }
@@ -48,15 +48,15 @@ pub fn take_line(
     world: &mut World,
     journal: &mut Journal,
     content: &[u8],
-) -> Result<Option<Taken>, NoMem>
-    ensures { IfOk result (TakesLine world.old world.new content.now) }
+) -> Result<Option<LineRun>, NoMem>
+    ensures { IfOk result (IsLineRun world.old world.new content.now) }
 {
     let before = (world.marks().len(), world.sent().len());
     match step(world, content)? {
         Some(printed) => {
             let is_idle = is_idle(&printed);
-            let account = Account::of(alloc, world, journal, before, content, is_idle)?;
-            Ok(Some(Taken { account, printed }))
+            let effects = LineEffects::of(alloc, world, journal, before, content, is_idle)?;
+            Ok(Some(LineRun { effects, printed }))
         }
         None => Ok(None),
     }

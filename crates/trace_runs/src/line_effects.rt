@@ -9,7 +9,7 @@ use world::World;
 
 /// What came of a message that a line was to deliver.
 #[derive(Clone, Copy)]
-pub enum Fate {
+pub enum DeliveryOutcome {
     /// There is no message of its number.
     Absent,
     /// Its receiver was down.
@@ -24,9 +24,9 @@ pub enum Fate {
     Told,
 }
 
-/// What befell a call of a brick's disk.
+/// What came of a fault that was to come at a call of a brick's disk.
 #[derive(Clone, Copy)]
-pub enum Stop {
+pub enum FaultOutcome {
     /// The brick stopped inside that call.
     Inside(u64),
     /// That call failed, and the brick halted.
@@ -37,13 +37,13 @@ pub enum Stop {
 
 /// What a line did.
 #[derive(Drop)]
-pub struct Account {
+pub struct LineEffects {
     /// Whether the line says anything.
     pub is_event: bool,
     /// The messages that were to be delivered, one after another, and what came of each.
-    pub deliveries: Vec<(u64, Fate)>,
-    /// What befell a call of a disk, and of which brick.
-    pub stop: Option<(BrickId, Stop)>,
+    pub deliveries: Vec<(u64, DeliveryOutcome)>,
+    /// What came of a fault of a disk, and at which brick.
+    pub fault: Option<(BrickId, FaultOutcome)>,
     /// The brick that it started.
     pub started: Option<BrickId>,
     /// How many marks there were before.
@@ -62,16 +62,16 @@ pub fn packet_at(sent: &[Packet], number: u64) -> Option<&Packet> {
     sent.get(place_of(number))
 }
 
-/// What befell a call of a brick's disk, where the brick is up or not now that the line was run.
-fn stop_of(fault: Fault, is_up: bool) -> Stop {
+/// What came of a fault of a brick's disk, where the brick is up or not now that the line was run.
+fn fault_outcome(fault: Fault, is_up: bool) -> FaultOutcome {
     match fault {
-        Fault::Cut { call, .. } if !is_up => Stop::Inside(call),
-        Fault::Fail { call } if !is_up => Stop::Failed(call),
-        Fault::Cut { call, .. } | Fault::Fail { call } => Stop::Unreached(call),
+        Fault::Cut { call, .. } if !is_up => FaultOutcome::Inside(call),
+        Fault::Fail { call } if !is_up => FaultOutcome::Failed(call),
+        Fault::Cut { call, .. } | Fault::Fail { call } => FaultOutcome::Unreached(call),
     }
 }
 
-impl Account {
+impl LineEffects {
     /// What a line did that was run, before which there were so many marks, and so many messages had been sent; and whether `replay` prints `idle` for
     /// it. The journal notes it too.
     pub(crate) fn of(
@@ -81,21 +81,21 @@ impl Account {
         (marks, sent): (usize, usize),
         content: &[u8],
         is_idle: bool,
-    ) -> Result<Account, NoMem> {
+    ) -> Result<LineEffects, NoMem> {
         journal.note_line(world.marks(), world.sent(), marks, sent)?;
         let line = parse(alloc, content)?;
-        let mut account = Account {
+        let mut effects = LineEffects {
             is_event: true,
             deliveries: Vec::new(alloc),
-            stop: None,
+            fault: None,
             started: None,
             marks,
             sent,
         };
         if let Some(line) = &line {
-            account.note_line(world, journal, line, is_idle)?;
+            effects.note_line(world, journal, line, is_idle)?;
         }
-        Ok(account)
+        Ok(effects)
     }
 
     /// Notes what a line did that says this.
@@ -125,7 +125,7 @@ impl Account {
         }
     }
 
-    /// Notes a delivery, with what was to befall a call of the receiver's disk. `idle` says that the receiver was down.
+    /// Notes a delivery, with a fault of the receiver's disk. `idle` says that the receiver was down.
     fn note_delivery(
         &mut self,
         world: &World,
@@ -134,24 +134,24 @@ impl Account {
         fault: Option<Fault>,
         is_idle: bool,
     ) -> Result<(), NoMem> {
-        let mut fate = Fate::Absent;
+        let mut outcome = DeliveryOutcome::Absent;
         if let Some(packet) = packet_at(world.sent(), message) {
-            fate = Fate::Down;
+            outcome = DeliveryOutcome::Down;
             if !is_idle {
-                fate = journal.note_delivery(message, packet)?;
+                outcome = journal.note_delivery(message, packet)?;
                 if let Some(fault) = fault {
-                    self.stop = Some((packet.to, stop_of(fault, is_up(world, packet.to))));
+                    self.fault = Some((packet.to, fault_outcome(fault, is_up(world, packet.to))));
                 }
             }
         }
         if world.marks().len() != self.marks || world.sent().len() != self.sent {
-            fate = Fate::Told;
+            outcome = DeliveryOutcome::Told;
         }
-        self.deliveries.push((message, fate))?;
+        self.deliveries.push((message, outcome))?;
         Ok(())
     }
 
-    /// Notes a start, with what was to befall a call of the brick's disk. `idle` says that the brick was up, or that it stays down.
+    /// Notes a start, with a fault of the brick's disk. `idle` says that the brick was up, or that it stays down.
     fn note_start(&mut self, world: &World, brick: u64, fault: Option<Fault>, is_idle: bool) {
         if let Ok(number) = u16::try_from(brick) {
             let brick = BrickId(number);
@@ -160,7 +160,7 @@ impl Account {
                 self.started = Some(brick);
             }
             if let (Some(fault), true) = (fault, is_up != is_idle) {
-                self.stop = Some((brick, stop_of(fault, is_up)));
+                self.fault = Some((brick, fault_outcome(fault, is_up)));
             }
         }
     }

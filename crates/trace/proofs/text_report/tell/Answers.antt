@@ -2,9 +2,9 @@ use Rattle.std.proofs.Common.{Result, Err, inl, inr}
 use Rattle.replay.specs.declared.endings.Verdict.{Verdict}
 use Rattle.replay.specs.declared.endings.Verdict.TheVariants.{Whole, BadLayout, Refuted}
 use Rattle.replay.specs.declared.endings.Halt.{Halt}
-use Rattle.trace.specs.Tales.{Tells}
+use Rattle.trace.specs.TextReport.{Tells}
 use Rattle.trace.proofs.LinesTold.{at_err, writes-stopped, stopped, layout_not_whole, layout_not_refuted, ends_not, run-told, nothing-told, from-start}
-use Rattle.trace.proofs.tales.tell.Goals as goal
+use Rattle.trace.proofs.text_report.tell.Goals as goal
 
 pub returns-in_err-world : goal.returns-in_err-world
 returns-in_err-world g c =

@@ -2,10 +2,10 @@
 use Rattle.std.proofs.Common.{[], Result}
 use Rattle.replay.specs.declared.endings.Verdict.{Verdict}
 use Rattle.replay.specs.declared.endings.Halt.{Halt}
-use Rattle.trace.specs.Tales.{WritesTold}
+use Rattle.trace.specs.TextReport.{WritesTold}
 use Rattle.trace.proofs.WholeTexts.{told-none}
 use Rattle.trace.proofs.LinesTold.{at_err, page-told}
-use Rattle.trace.proofs.tales.refuse.Goals as goal
+use Rattle.trace.proofs.text_report.refuse.Goals as goal
 
 pub returns-in_err-write-clause-writes : goal.returns-in_err-write-clause-writes
 returns-in_err-write-clause-writes g c =

@@ -1,8 +1,8 @@
 use Rattle.std.proofs.Common.{List, ℕ, [], Option, Ok}
 use Rattle.std.specs.Io.KnownBytes.{prepend_known}
 use Rattle.lines.specs.Reading.{ReadsSchedule}
-use Rattle.trace.specs.Tales.{TellsLines}
-use Rattle.trace.proofs.tales.tell_lines.Given as goal
+use Rattle.trace.specs.TextReport.{TellsLines}
+use Rattle.trace.proofs.text_report.tell_lines.Given as goal
 
 abbrev pub invariant-loop-count : goal.invariant-loop-count
 invariant-loop-count g l =

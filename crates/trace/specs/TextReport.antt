@@ -87,19 +87,19 @@ Opens start now (opening.Refused why) = IsSolid (string_bytes why)
 
 -- a turn of what is no line
 abbrev pub IsRefusal : Turn → Type 0
-IsRefusal (turn.Ran line taken) = ⊥
+IsRefusal (turn.Ran line run) = ⊥
 IsRefusal turn.Ended = ⊥
 IsRefusal (turn.Refused verdict why) = (verdict ≢ Whole) × (verdict ≢ Refuted) × IsSolid (string_bytes why)
 
 -- a line was run, or is none
 abbrev pub RunsLine : Run → Run → List ℕ → Turn → Type 0
-RunsLine before after raw (turn.Ran line taken) = (line ≡ raw) × Ran before after (content line) taken.printed
+RunsLine before after raw (turn.Ran line run) = (line ≡ raw) × Ran before after (content line) run.printed
 RunsLine before after raw turn.Ended = ⊥
 RunsLine before after raw (turn.Refused verdict why) = IsRefusal (turn.Refused verdict why)
 
 -- what came next: a line, which was run; or nothing; or what is no line
 abbrev pub Turns : Run → Run → Option (List ℕ) → Option (List ℕ) → Turn → Type 0
-Turns before after start now (turn.Ran line taken) = Passes start now (line ∷ []) × Ran before after (content line) taken.printed
+Turns before after start now (turn.Ran line run) = Passes start now (line ∷ []) × Ran before after (content line) run.printed
 Turns before after start now turn.Ended = IsAtEnd start
 Turns before after start now (turn.Refused verdict why) = IsRefusal (turn.Refused verdict why)
 

@@ -4,10 +4,10 @@ ghost use Rattle.std.specs.Prelude.{◌≡◌, [], List, ℕ, Option, Some, IfOk
 ghost use Rattle.std.specs.Io.KnownBytes.{prepend_known};
 ghost use Rattle.lines.specs.Reading.{ReadsSchedule};
 ghost use Rattle.trace.specs.Told.{IsTold, IsStepText};
-ghost use Rattle.trace.specs.Tales.{EndsAs, IsSolid, Tells, TellsRest, WritesTold};
+ghost use Rattle.trace.specs.TextReport.{EndsAs, IsSolid, Tells, TellsRest, WritesTold};
 
 use crate::closings::stripe_notes;
-use crate::notes::account_notes;
+use crate::notes::effect_notes;
 use crate::pages::Page;
 use crate::schedules::{Opening, Turn, open, take_turn};
 use fab_base::NoMem;
@@ -16,7 +16,7 @@ use lines::{Unread, content_of};
 use messages::Packet;
 use replay::{Halt, Verdict, write};
 use std::alloc::Global;
-use trace_runs::{Course, Journal, Taken, Text, courses_of};
+use trace_runs::{Journal, LineRun, StripeHistory, Text, histories_of};
 use world::World;
 
 /// Adds notes to a page, a note a line.
@@ -48,14 +48,14 @@ fn line_page(
     journal: &Journal,
     number: u64,
     content: &[u8],
-    taken: &Taken,
+    run: &LineRun,
 ) -> Result<Page, NoMem>
-    requires { IsStepText taken.now.printed }
-    ensures { IfOk result (λ page. IsTold page taken.now.printed) }
+    requires { IsStepText run.now.printed }
+    ensures { IfOk result (λ page. IsTold page run.now.printed) }
 {
     let mut page = titled_page(alloc, number, content)?;
-    page.tell(taken.printed.as_slice())?;
-    let notes = account_notes(alloc, sent, journal, &taken.account);
+    page.tell(run.printed.as_slice())?;
+    let notes = effect_notes(alloc, sent, journal, &run.effects);
     add_notes(&mut page, &notes)?;
     Ok(page)
 }
@@ -68,20 +68,25 @@ fn tell_line<K: Sink>(
     sink: &mut K,
     number: u64,
     content: &[u8],
-    taken: &Taken,
+    run: &LineRun,
 ) -> Result<(), Halt>
-    requires { IsStepText taken.now.printed }
-    ensures { WritesTold result (K.told sink.old) (K.told sink.new) taken.now.printed }
+    requires { IsStepText run.now.printed }
+    ensures { WritesTold result (K.told sink.old) (K.told sink.new) run.now.printed }
 {
-    let page = line_page(alloc, sent, journal, number, content, taken)?;
+    let page = line_page(alloc, sent, journal, number, content, run)?;
     write(sink, page.as_slice())
 }
 
 /// Adds these notes of a stripe, behind its title.
-fn add_stripe(alloc: Global, page: &mut Page, course: &Course, notes: &Text) -> Result<(), NoMem>
+fn add_stripe(
+    alloc: Global,
+    page: &mut Page,
+    history: &StripeHistory,
+    notes: &Text,
+) -> Result<(), NoMem>
     ensures { OnOk result ((told : List ℕ) → IsTold page.old told → IsTold page.new told) }
 {
-    let (group, stripe) = (course.group.0, course.stripe.0);
+    let (group, stripe) = (history.group.0, history.stripe.0);
     let title = format!(in alloc; "stripe {group} {stripe}")?;
     page.head(title.as_bytes())?;
     add_notes(page, notes)
@@ -91,11 +96,11 @@ fn add_stripe(alloc: Global, page: &mut Page, course: &Course, notes: &Text) -> 
 fn closing_page(alloc: Global, world: &World, journal: &Journal) -> Result<Page, NoMem>
     ensures { IfOk result (λ page. IsTold page []) }
 {
-    let courses = courses_of(alloc, world, journal)?;
+    let histories = histories_of(alloc, world, journal)?;
     let mut page = Page::new(alloc);
-    for course in courses.as_slice() {
-        let notes = stripe_notes(alloc, world, journal, course);
-        add_stripe(alloc, &mut page, course, &notes)?;
+    for history in histories.as_slice() {
+        let notes = stripe_notes(alloc, world, journal, history);
+        add_stripe(alloc, &mut page, history, &notes)?;
     }
     Ok(page)
 }
@@ -146,10 +151,10 @@ fn tell_lines<S: Source, K: Sink>(
     let mut journal = Journal::new(alloc);
     for count in 0..u64::MAX {
         match take_turn(alloc, world, &mut journal, source, unread, count)? {
-            Turn::Ran(line, taken) => {
+            Turn::Ran(line, run) => {
                 let content = content_of(line.as_slice());
                 let sent = world.sent();
-                tell_line(alloc, sent, &journal, sink, count + 1, content, &taken)?;
+                tell_line(alloc, sent, &journal, sink, count + 1, content, &run)?;
             }
             Turn::Ended => return finish(alloc, world, &journal, sink),
             Turn::Refused(verdict, why) => return refuse(alloc, sink, verdict, why.as_str()),

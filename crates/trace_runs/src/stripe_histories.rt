@@ -7,7 +7,7 @@ use std::alloc::Global;
 use world::World;
 
 /// What happened to a stripe.
-pub struct Course {
+pub struct StripeHistory {
     /// The stripe's group.
     pub group: GroupId,
     /// Its number in that group.
@@ -16,7 +16,7 @@ pub struct Course {
     pub happenings: Vec<Happening>,
 }
 
-impl Drop for Course {
+impl Drop for StripeHistory {
     fn drop(self) {
         let Self {
             group: _,
@@ -27,16 +27,20 @@ impl Drop for Course {
 }
 
 /// What happened to each stripe that an operation named, by group and number.
-pub fn courses_of(alloc: Global, world: &World, journal: &Journal) -> Result<Vec<Course>, NoMem> {
+pub fn histories_of(
+    alloc: Global,
+    world: &World,
+    journal: &Journal,
+) -> Result<Vec<StripeHistory>, NoMem> {
     let entries = world.stripe_entries()?;
-    let mut courses = Vec::new(alloc);
+    let mut histories = Vec::new(alloc);
     for (group, stripe) in journal.stripes() {
         let (group, stripe) = (GroupId(*group), StripeNo(*stripe));
-        courses.push(Course {
+        histories.push(StripeHistory {
             group,
             stripe,
             happenings: world.happenings_among(&entries, group, stripe)?,
         })?;
     }
-    Ok(courses)
+    Ok(histories)
 }

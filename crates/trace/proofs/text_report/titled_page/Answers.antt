@@ -2,7 +2,7 @@ use Rattle.std.proofs.Common.{[], codes, ◌∙◌}
 use Rattle.trace.proofs.WholeTexts.{told-none}
 use Rattle.trace.proofs.PrintedTexts.{number-solid}
 use Rattle.trace.proofs.LinesTold.{page-told}
-use Rattle.trace.proofs.tales.titled_page.Goals as goal
+use Rattle.trace.proofs.text_report.titled_page.Goals as goal
 
 pub head-requires : goal.head-requires
 head-requires c =

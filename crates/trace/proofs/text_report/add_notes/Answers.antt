@@ -1,5 +1,5 @@
 use Rattle.std.proofs.Common.{rules}
-use Rattle.trace.proofs.tales.add_notes.Goals as goal
+use Rattle.trace.proofs.text_report.add_notes.Goals as goal
 
 pub loop-note-init : goal.loop-note-init
 loop-note-init c = search rules
