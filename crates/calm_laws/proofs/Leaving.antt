@@ -34,7 +34,7 @@ use Rattle.calm_laws.proofs.Finishing.{runs_once, runs_to}
 use Rattle.calm_laws.proofs.Known.{Known}
 use Rattle.calm_laws.proofs.Once.{IsOnce, always_once, only_newest}
 use Rattle.calm_laws.proofs.Plays.{Finishes, HasEnded}
-use Rattle.calm_laws.proofs.Schedules.{run-append}
+use Rattle.protocol.proofs.Events.{run-append}
 use Rattle.calm_laws.proofs.Scenes.{Each, EndsAt, IsNewest, Part, Stage}
 use Rattle.calm_laws.proofs.Shows.{IsMember, call_same_but}
 use Rattle.calm_laws.proofs.Storing.{held_newest}

@@ -1,1 +1,2 @@
 pub mod CountsAt
+pub mod Events

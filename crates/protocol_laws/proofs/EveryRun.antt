@@ -1,5 +1,5 @@
 -- The laws hold in every world that a run reaches.
-use Rattle.std.proofs.Common.{List, [], refl, sym}
+use Rattle.std.proofs.Common.{List, [], sym}
 use Rattle.std.proofs.lemmas.List.{append-nil}
 use Rattle.protocol.specs.Settings.{Setting, IsSound}
 use Rattle.protocol.specs.Views.{Views, layout_views}
@@ -9,7 +9,7 @@ use Rattle.protocol_laws.proofs.Books.{Books}
 use Rattle.protocol_laws.proofs.BooksEvents.{books}
 use Rattle.protocol_laws.proofs.Chains.{neighbours_follow, lowest_follows}
 use Rattle.protocol_laws.proofs.Moments.{refusals_true}
-use Rattle.protocol_laws.proofs.Numbers.{IsNumbered, numbered_run}
+use Rattle.protocol_laws.proofs.Numbers.{IsNumbered, always_numbered}
 use Rattle.protocol_laws.proofs.QuorumFacts.{QuorumFacts, facts}
 use Rattle.protocol_laws.proofs.Said.{Stamping, Said}
 use Rattle.protocol_laws.proofs.SaidAlways.{always_said}
@@ -53,8 +53,8 @@ every_run setting views events sound follows =
     let said = always_said setting events sound in
     laws setting views w said.0 (books setting events) said.1 (follows events [] (sym (append-nil events)))
     (facts setting sound w said.0 (books setting events) said.1)
-    (tallied setting events sound (λ more. books setting more))
-    (numbered_run setting events (first_world setting.layout) (record { count = refl; each = λ k n is. let never : ⊥ = cc in absurd never }))
+    (tallied setting events sound)
+    (always_numbered setting events)
     (refusals_true setting events (λ moment. always_first setting moment sound))
 
 -- for the layout's members

@@ -1,7 +1,6 @@
 -- No event lowers what a brick has promised or stored, or drops a version that it holds.
 use Rattle.protocol_laws.proofs.Logs.{LogAscends}
-use Rattle.std.proofs.Common.{◌≡◌, ℕ, List, [], ◌∷◌, Option, Some, None, refl, ⊎_elim, sym, subst, false, ap, true}
-use Rattle.std.proofs.lemmas.Bool.{cond_both}
+use Rattle.std.proofs.Common.{◌≡◌, ℕ, List, [], ◌∷◌, Option, Some, None, refl, ⊎_elim, sym, subst, false, ap}
 use Rattle.fab_base.specs.declared.identities.BrickId.{BrickId}
 use Rattle.fab_base.specs.declared.asks.Ask.{Ask}
 use Rattle.messages.specs.declared.calls.Call.{Call}
@@ -13,16 +12,17 @@ use Rattle.fab_base.specs.Layouts.{Group}
 use Rattle.protocol.specs.Settings.{Setting}
 use Rattle.protocol.specs.Replicas.{handle}
 use Rattle.protocol.specs.Coordinators.{Coordinator, Next, Ignores, Waits, Sends, Makes, Ends, on_reply}
-use Rattle.protocol.specs.Nodes.{Node, NodeStep, fresh_stamp, put, began, invoked, replica_at, full_at, requested, absorbed, stopped, restarted, known_after, carried_out, group_at, replied_at, replied, received}
-use Rattle.protocol.specs.Worlds.{World, Found, Before, After, Event, Invokes, Delivers, Sets, Ticks, Stops, Starts, replies_with, is_brick, is_up, may_start, world_ticked, world_stopped, world_found, world_started, may_begin, world_began, world_stepped, delivered, packet_of, happens, first_world, run}
+use Rattle.protocol.specs.Nodes.{Node, fresh_stamp, put, began, invoked, replica_at, full_at, requested, absorbed, stopped, restarted, known_after, carried_out, group_at, replied_at, replied, received}
+use Rattle.protocol.specs.Worlds.{World, Found, Before, After, Event, world_ticked, world_stopped, world_found, world_started, happens, first_world, run}
 use Rattle.protocol_laws.specs.Laws.{WasSent}
 use Rattle.protocol_laws.proofs.Reactions.{handle_after}
 use Rattle.protocol_laws.proofs.Requests.{parts_keep}
 use Rattle.protocol_laws.proofs.Served.{request_each}
 use Rattle.protocol_laws.proofs.BooksEvents.{start_fits}
-use Rattle.protocol_laws.proofs.Left.{IsLeft, Leaves, always_leaves, leaves_happens}
+use Rattle.protocol_laws.proofs.Left.{IsLeft, Leaves, always_leaves}
 use Rattle.protocol_laws.proofs.Blocking.{LogsFit, PartsStay, parts_then, first_fits}
 use Rattle.protocol_laws.proofs.Steps.{KeepsParts, keeps_same, parts_by, parts_kept, parts_same}
+use Rattle.protocol.proofs.Events.{EventCases, step_on, world_handled, happens_each}
 
 -- a coordinator's decision changes no part of a stripe
 decision_keeps : (setting : Setting) (me : BrickId) (node : Node) (known : ℕ) (c : Coordinator) (decision : Next)
@@ -81,17 +81,6 @@ restarted_replicas : (openings : ℕ) (node : Node) → (restarted openings node
 unfolding restarted
 restarted_replicas openings node = refl
 
-delivery_stays : (setting : Setting) (w : World) (number : ℕ) (z : Option Packet) → LogsFit w → PartsStay w (delivered setting w number z)
-delivery_stays setting w number None logged = parts_same w w refl refl logged
-delivery_stays setting w number (Some packet) logged =
-    let step : NodeStep = received setting packet.to (w.clocks packet.to.0) (w.nodes packet.to.0) packet in
-    let counted : World = record w { replies = replies_with setting w packet; reached = put w.reached number true } in
-    cond_both (is_up setting.layout w packet.to) (world_stepped setting counted packet.to step) w (λ (next : World). PartsStay w next)
-    (λ is. parts_by w (world_stepped setting counted packet.to step) packet.to.0 step.node refl refl logged
-    (message_keeps setting packet.to packet.from packet.to (w.clocks packet.to.0) (w.nodes packet.to.0) packet.message
-    (λ g e s. logged.ascends g e s packet.to.0)))
-    (λ isnt. parts_same w w refl refl logged)
-
 -- what the store of a stopped brick may hold
 pub left_keeps : (setting : Setting) (w : World) (i : ℕ) (node : Node) → LogsRise (w.nodes i) → IsLeft setting w i node → KeepsParts (w.nodes i) node
 left_keeps setting w i node rises = ⊎_elim
@@ -118,49 +107,39 @@ invoked_replicas setting me now node ask = in_group (group_at setting.layout nod
     in_group None = refl
     in_group (Some group) = refl
 
--- through any event
-pub parts_stay : (setting : Setting) (w : World) (event : Event) → Leaves setting w → LogsFit w
-    → PartsStay w (happens setting w event)
-unfolding happens
-parts_stay setting w (Invokes brick ask) leaves logged =
-    let step : NodeStep = invoked setting brick (w.clocks brick.0) (w.nodes brick.0) ask in
-    cond_both (may_begin setting w brick ask) (world_began w brick ask step) w (λ (next : World). PartsStay w next)
-    (λ may. parts_kept w (world_began w brick ask step) brick.0 step.node refl refl logged (invoked_replicas setting brick (w.clocks brick.0) (w.nodes brick.0) ask))
-    (λ isnt. parts_same w w refl refl logged)
-parts_stay setting w (Delivers number) leaves logged = delivery_stays setting w number (packet_of w.packets number) logged
-parts_stay setting w (Sets brick time) leaves logged =
-    cond_both (is_brick setting.layout brick) (record w { clocks = put w.clocks brick.0 time }) w (λ (next : World). PartsStay w next)
-    (λ is. parts_same w (record w { clocks = put w.clocks brick.0 time }) refl refl logged)
-    (λ isnt. parts_same w w refl refl logged)
-parts_stay setting w (Ticks brick) leaves logged =
-    cond_both (is_up setting.layout w brick) (world_ticked setting w brick) w (λ (next : World). PartsStay w next)
-    (λ up. parts_same w (world_ticked setting w brick) refl refl logged)
-    (λ down. parts_same w w refl refl logged)
-parts_stay setting w (Stops brick during) leaves logged =
-    cond_both (is_up setting.layout w brick) (world_stopped setting w brick during) w (λ (next : World). PartsStay w next)
-    (λ up. parts_kept w (world_stopped setting w brick during) brick.0 (stopped (w.nodes brick.0)) refl refl logged (stopped_replicas (w.nodes brick.0)))
-    (λ down. parts_same w w refl refl logged)
-parts_stay setting w (Starts brick openings found) leaves logged =
-    let with_found : World = world_found w brick found in
-    cond_both (may_start setting.layout w brick openings) (world_started with_found brick openings) w (λ (next : World). PartsStay w next)
-    (λ may.
-    let stays : LogsFit w → PartsStay w with_found
-    = found_stays setting w brick found (start_fits setting w brick openings may).0 leaves in
-    parts_then w with_found (world_started with_found brick openings)
-    (stays logged)
-    (parts_kept with_found (world_started with_found brick openings) brick.0 (restarted openings (with_found.nodes brick.0)) refl refl
-    (stays logged).logged (restarted_replicas openings (with_found.nodes brick.0))))
-    (λ cannot. parts_same w w refl refl logged)
+-- every event leaves the parts as they may become
+stay_cases : (setting : Setting) (w : World) → Leaves setting w → LogsFit w → EventCases setting w (PartsStay w)
+stay_cases setting w leaves logged = record {
+  begins = λ brick ask may.
+      parts_kept w _ brick.0 (invoked setting brick (w.clocks brick.0) (w.nodes brick.0) ask).node refl refl logged
+      (invoked_replicas setting brick (w.clocks brick.0) (w.nodes brick.0) ask);
+  handles = λ number packet at up.
+      parts_by w (world_handled setting w number packet) packet.to.0 (step_on setting w packet).node refl refl logged
+      (message_keeps setting packet.to packet.from packet.to (w.clocks packet.to.0) (w.nodes packet.to.0) packet.message
+      (λ g e s. logged.ascends g e s packet.to.0));
+  sets = λ brick time is. parts_same w (record w { clocks = put w.clocks brick.0 time }) refl refl logged;
+  ticks = λ brick up. parts_same w (world_ticked setting w brick) refl refl logged;
+  stops = λ brick during up.
+      parts_kept w (world_stopped setting w brick during) brick.0 (stopped (w.nodes brick.0)) refl refl logged (stopped_replicas (w.nodes brick.0));
+  starts = λ brick openings found may.
+      (let with_found : World = world_found w brick found in
+      let stays : PartsStay w with_found = found_stays setting w brick found (start_fits setting w brick openings may).0 leaves logged in
+      parts_then w with_found (world_started with_found brick openings) stays
+      (parts_kept with_found (world_started with_found brick openings) brick.0 (restarted openings (with_found.nodes brick.0)) refl refl stays.logged
+      (restarted_replicas openings (with_found.nodes brick.0))));
+}
 
--- and through any schedule
-pub parts_stay_on : (setting : Setting) (more : List Event) (w : World) → Leaves setting w → LogsFit w → PartsStay w (run setting more w)
+-- and so does any schedule
+pub parts_stay_on : (setting : Setting) (more : List Event) (w : World) → ((more : List Event) → Leaves setting (run setting more w)) → LogsFit w
+    → PartsStay w (run setting more w)
 parts_stay_on setting [] w leaves logged = parts_same w w refl refl logged
 parts_stay_on setting (event ∷ more) w leaves logged =
-    let first : PartsStay w (happens setting w event) = parts_stay setting w event leaves logged in
+    let first : PartsStay w (happens setting w event)
+    = happens_each (PartsStay w) setting w (stay_cases setting w (leaves []) logged) (parts_same w w refl refl logged) event in
     parts_then w (happens setting w event) (run setting more (happens setting w event)) first
-    (parts_stay_on setting more (happens setting w event) (leaves_happens setting w event leaves) first.logged)
+    (parts_stay_on setting more (happens setting w event) (λ more. leaves (event ∷ more)) first.logged)
 
 -- logs fit what bricks have held, in every run
 pub always_logged : (setting : Setting) (events : List Event) → LogsFit (run setting events (first_world setting.layout))
 always_logged setting events =
-    (parts_stay_on setting events (first_world setting.layout) (always_leaves setting []) (first_fits setting)).logged
+    (parts_stay_on setting events (first_world setting.layout) (always_leaves setting) (first_fits setting)).logged

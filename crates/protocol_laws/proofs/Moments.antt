@@ -19,12 +19,13 @@ use Rattle.protocol_laws.proofs.Reactions.{modified_each}
 use Rattle.protocol.specs.Replicas.{Replica, Reaction, top_of, is_held, is_wanted, told_version, stays, unless_full, promised, stored, looked_up, handle, ignored}
 use Rattle.protocol.specs.declared.phases.Counted.{Counted}
 use Rattle.protocol.specs.Coordinators.{Coordinator, Next, Ignores, Waits, Sends, Makes, Ends, has_seat, request_of, on_reply}
-use Rattle.protocol.specs.Nodes.{view_at, Node, NodeStep, replica_at, full_at, reply_packets, to_members, collect_packets, resent_to, resent, resent_up_to, ticked, began, invoked, requested, known_after, fresh_stamp, carried_out, group_at, replied_at, replied, received, put}
-use Rattle.protocol.specs.Worlds.{World, Found, Before, After, Event, Invokes, Delivers, Sets, Ticks, Stops, Starts, first_world, is_brick, is_up, may_begin, may_start, world_began, world_stepped, world_ticked, world_stopped, world_found, world_started, replies_with, delivered, packet_of, happens, run}
+use Rattle.protocol.specs.Nodes.{view_at, Node, replica_at, full_at, reply_packets, to_members, collect_packets, resent_to, resent, resent_up_to, ticked, began, invoked, requested, known_after, fresh_stamp, carried_out, group_at, replied_at, replied, received}
+use Rattle.protocol.specs.Worlds.{World, Event, first_world, world_stopped, happens, run}
 use Rattle.protocol_laws.specs.Laws.{RefusalIsTrue, Sending, RefusalsWereTrue}
 use Rattle.protocol_laws.proofs.FirstViews.{AreInFirst, view_first, top_told}
 use Rattle.protocol_laws.proofs.Served.{request_each}
 use Rattle.protocol_laws.proofs.Tables.{get_grown, sent_to_member}
+use Rattle.protocol.proofs.Events.{EventCases, step_on, happens_each, started_each, run-append}
 
 -- what a packet refuses is true of its sender in a world
 abbrev IsTrue : World → Packet → Type 0
@@ -195,51 +196,32 @@ adds_none : (w next : World) → next.packets ≡ w.packets → AddsTrue w next
 adds_none w next same =
     record { more = []; packets = same ∙ sym (append-nil w.packets); are_true = none_true w }
 
-stepped_adds : (setting : Setting) (w before : World) (me : BrickId) (step : NodeStep) → before.packets ≡ w.packets → AreTrue w step.packets
-    → AddsTrue w (world_stepped setting before me step)
-stepped_adds setting w before me step same says =
-    record { more = step.packets; packets = ap (λ (l : List Packet). l ++ step.packets) same; are_true = says }
-
-delivered_adds : (setting : Setting) (w : World) (number : ℕ) (packet : Option Packet) → AreInFirst setting.layout w
-    → AddsTrue w (delivered setting w number packet)
-delivered_adds setting w number None first = adds_none w w refl
-delivered_adds setting w number (Some packet) first =
-    let step : NodeStep = received setting packet.to (w.clocks packet.to.0) (w.nodes packet.to.0) packet in
-    let counted : World = record w { replies = replies_with setting w packet; reached = put w.reached number true } in
-    cond_both (is_up setting.layout w packet.to) (world_stepped setting counted packet.to step) w (λ (next : World). AddsTrue w next)
-    (λ up. stepped_adds setting w counted packet.to step refl
-    (received_true setting w (w.clocks packet.to.0) packet.from packet.to packet.message first))
-    (λ down. adds_none w w refl)
-
-found_adds : (w : World) (brick : BrickId) (openings : ℕ) (found : Found) → AddsTrue w (world_started (world_found w brick found) brick openings)
-found_adds w brick openings Before = adds_none w _ refl
-found_adds w brick openings After = adds_none w _ refl
-
--- through any event
-happens_adds : (setting : Setting) (w : World) (event : Event) → AreInFirst setting.layout w → AddsTrue w (happens setting w event)
-unfolding happens ticked
-happens_adds setting w (Invokes brick ask) first =
-    let step : NodeStep = invoked setting brick (w.clocks brick.0) (w.nodes brick.0) ask in
-    cond_both (may_begin setting w brick ask) (world_began w brick ask step) w (λ (next : World). AddsTrue w next)
-    (λ may. record { more = step.packets; packets = refl; are_true = invoked_true setting w brick (w.clocks brick.0) ask })
-    (λ isnt. adds_none w w refl)
-happens_adds setting w (Delivers number) first = delivered_adds setting w number (packet_of w.packets number) first
-happens_adds setting w (Sets brick time) first =
-    cond_both (is_brick setting.layout brick) _ w (λ (next : World). AddsTrue w next) (λ is. adds_none w _ refl) (λ isnt. adds_none w w refl)
-happens_adds setting w (Ticks brick) first =
-    cond_both (is_up setting.layout w brick) (world_ticked setting w brick) w (λ (next : World). AddsTrue w next)
-    (λ up. record {
-      more = ticked setting brick (w.nodes brick.0);
-      packets = refl;
-      are_true = ticked_true setting w brick (w.nodes brick.0).calls (w.nodes brick.0).seq;
-    })
-    (λ down. adds_none w w refl)
-happens_adds setting w (Stops brick during) first =
-    cond_both (is_up setting.layout w brick) (world_stopped setting w brick during) w (λ (next : World). AddsTrue w next)
-    (λ up. adds_none w (world_stopped setting w brick during) refl) (λ down. adds_none w w refl)
-happens_adds setting w (Starts brick openings found) first =
-    cond_both (may_start setting.layout w brick openings) (world_started (world_found w brick found) brick openings) w
-    (λ (next : World). AddsTrue w next) (λ may. found_adds w brick openings found) (λ cannot. adds_none w w refl)
+-- every event adds packets that refuse truly
+adds_cases : (setting : Setting) (w : World) → AreInFirst setting.layout w → EventCases setting w (AddsTrue w)
+unfolding ticked
+adds_cases setting w first = record {
+  begins = λ brick ask may.
+      record {
+        more = (invoked setting brick (w.clocks brick.0) (w.nodes brick.0) ask).packets;
+        packets = refl;
+        are_true = invoked_true setting w brick (w.clocks brick.0) ask;
+      };
+  handles = λ number packet at up.
+      record {
+        more = (step_on setting w packet).packets;
+        packets = refl;
+        are_true = received_true setting w (w.clocks packet.to.0) packet.from packet.to packet.message first;
+      };
+  sets = λ brick time is. adds_none w _ refl;
+  ticks = λ brick up.
+      record {
+        more = ticked setting brick (w.nodes brick.0);
+        packets = refl;
+        are_true = ticked_true setting w brick (w.nodes brick.0).calls (w.nodes brick.0).seq;
+      };
+  stops = λ brick during up. adds_none w (world_stopped setting w brick during) refl;
+  starts = λ brick openings found may. started_each (AddsTrue w) w brick openings (adds_none w _ refl) (adds_none w _ refl) found;
+}
 
 -- an element of a list that grew is an old one, or one of those added, behind the old ones
 get_behind : (xs ys : List Packet) (k : ℕ) (x : Packet) → slice_get (xs ++ ys) k ≡ Some x
@@ -250,12 +232,6 @@ get_behind (y ∷ xs) ys (suc k) x is = ⊎_elim
     (λ (old : slice_get xs k ≡ Some x). inl old)
     (λ (new : (length xs ≤ k) × ((j : ℕ) × (slice_get ys j ≡ Some x))). inr (omega (arith, new.0), new.1))
     (get_behind xs ys k x is)
-
--- a run of one event more
-run_more : (setting : Setting) (events : List Event) (event : Event) (w : World)
-    → run setting (events ++ (event ∷ [])) w ≡ happens setting (run setting events w) event
-run_more setting [] event w = refl
-run_more setting (first ∷ events) event w = run_more setting events event (happens setting w first)
 
 -- a packet of a place was sent at a moment when it was true
 abbrev WasTrue : Setting → World → ℕ → Packet → Type 0
@@ -269,7 +245,8 @@ true_on : (setting : Setting) (earlier events : List Event) (w : World)
 true_on setting earlier [] w first is k packet at = inl at
 true_on setting earlier (event ∷ events) w first is k packet at =
     let next : World = happens setting w event in
-    let adds : AddsTrue w next = happens_adds setting w event (subst (λ (x : World). AreInFirst setting.layout x) (sym is) (first earlier)) in
+    let adds : AddsTrue w next = happens_each (AddsTrue w) setting w
+    (adds_cases setting w (subst (λ (x : World). AreInFirst setting.layout x) (sym is) (first earlier))) (adds_none w w refl) event in
     ⊎_elim
     (λ (was : slice_get next.packets k ≡ Some packet). ⊎_elim
     (λ (old : slice_get w.packets k ≡ Some packet). inl old)
@@ -289,7 +266,7 @@ true_on setting earlier (event ∷ events) w first is k packet at =
     (get_behind w.packets adds.more k packet (ap (λ (l : List Packet). slice_get l k) (sym adds.packets) ∙ was)))
     (λ (sent : WasTrue setting (run setting events next) k packet). inr sent)
     (true_on setting (earlier ++ (event ∷ [])) events next first
-    (ap (λ (x : World). happens setting x event) is ∙ sym (run_more setting earlier event (first_world setting.layout))) k packet at)
+    (ap (λ (x : World). happens setting x event) is ∙ sym (run-append setting (first_world setting.layout) earlier (event ∷ []))) k packet at)
 
 -- each refusal of a run was true when it was sent
 pub refusals_true : (setting : Setting) (events : List Event)

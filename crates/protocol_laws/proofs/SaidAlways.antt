@@ -3,7 +3,7 @@ use Rattle.protocol_laws.proofs.Blocking.{first_fits}
 use Rattle.std.proofs.Common.{◌≡◌, ℕ, ◌<◌, ◌≤◌, ◌+◌, inl, true, false, List, [], ◌∷◌, ◌++◌, length, replicate, Option, Some, None, refl, sym, ap, ◌∙◌, subst, ⊎_elim, arith}
 use Rattle.std.specs.Prelude.{slice_get}
 use Rattle.std.proofs.lemmas.List.{append-nil, length-append}
-use Rattle.std.proofs.lemmas.Bool.{cond_both, cond-false, false≢true, or_left, or_cases}
+use Rattle.std.proofs.lemmas.Bool.{cond-false, false≢true, or_left, or_cases}
 use Rattle.fab_base.specs.declared.identities.BrickId.{BrickId}
 use Rattle.fab_base.specs.declared.identities.ViewNo.{ViewNo}
 use Rattle.fab_base.specs.declared.stamps.Stamp.{Stamp}
@@ -23,13 +23,13 @@ use Rattle.protocol.specs.Settings.{Setting, IsSound}
 use Rattle.protocol.specs.Replicas.{Reaction, first_replica, top_of, handle, is_held, fresh_replica}
 use Rattle.protocol.specs.Coordinators.{Coordinator}
 use Rattle.protocol.specs.Nodes.{Node, NodeStep, put, with_known, with_replica, replica_at, reacted, full_at, reply_packets, absorbed, ticked, stopped, restarted, new_stamp, fresh_stamp, no_step, began, invoked, requested, known_after, replied_at, replied, received, group_at, view_at, seat_served}
-use Rattle.protocol.specs.Worlds.{World, Found, Before, After, Event, Invokes, Delivers, Sets, Ticks, Stops, Starts, replies_with, first_world, zero_content, is_brick, is_up, may_start, world_ticked, left_after, packet_during, world_stopped, world_found, world_started, may_begin, world_began, world_stepped, delivered, packet_of, happens, run, with_held, reached_during}
+use Rattle.protocol.specs.Worlds.{World, Found, Before, After, Event, replies_with, first_world, zero_content, world_ticked, left_after, packet_during, world_stopped, world_found, world_started, may_begin, world_began, world_stepped, run, with_held, reached_during}
 use Rattle.protocol_laws.specs.Laws.{WasSent}
 use Rattle.protocol_laws.proofs.FirstViews.{group_first, view_first}
 use Rattle.protocol_laws.proofs.Books.{Books, IsCall}
-use Rattle.protocol_laws.proofs.Left.{IsLeft, Leaves, always_leaves, leaves_happens, packet_was_sent}
+use Rattle.protocol_laws.proofs.Left.{IsLeft, Leaves, always_leaves, packet_was_sent}
 use Rattle.protocol_laws.proofs.Said.{Stamping, Said, IsSaid, IsStampOf, VersionSays}
-use Rattle.protocol_laws.proofs.BooksEvents.{known_grows, fresh_is, BeginFits, begin_fits, start_fits, books_found, books_run, books, books_beside}
+use Rattle.protocol_laws.proofs.BooksEvents.{known_grows, fresh_is, BeginFits, begin_fits, start_fits, books_found, books, books_beside}
 use Rattle.protocol_laws.proofs.Tables.{get_one, get_kept, get_grown}
 use Rattle.protocol_laws.proofs.Lives.{last_grows}
 use Rattle.protocol_laws.proofs.Stampings.{ages_within}
@@ -40,6 +40,7 @@ use Rattle.protocol_laws.proofs.Served.{request_each, served_seat}
 use Rattle.protocol_laws.proofs.Sends.{ticked_was_sent}
 use Rattle.protocol_laws.proofs.Replies.{said_known, said_after_reply}
 use Rattle.protocol_laws.proofs.Begins.{said_began}
+use Rattle.protocol.proofs.Events.{EventCases, world_handled, world_counting, always_where}
 
 -- the world after a brick's step
 abbrev stepped : Setting → World → BrickId → NodeStep → World
@@ -177,19 +178,13 @@ absorbed_said setting w stamps me from to (Message.Request call request) books s
     request_kept setting w stamps me from call request books said sent
 absorbed_said setting w stamps me from to message books said sent = nothing_said setting w stamps me books said
 
-delivered_said : (setting : Setting) (w : World) (stamps : Stamping) (number : ℕ) (z : Option Packet) → IsSound setting → Books setting w → Said setting w stamps
-    → ((packet : Packet) → z ≡ Some packet → WasSent w packet) → IsSaid setting (delivered setting w number z)
-delivered_said setting w stamps number None sound books said sent = (stamps, said)
-delivered_said setting w stamps number (Some packet) sound books said sent =
-    let counted : World = record w { replies = replies_with setting w packet; reached = put w.reached number true } in
-    cond_both (is_up setting.layout w packet.to)
-    (stepped setting counted packet.to (received setting packet.to (w.clocks packet.to.0) (w.nodes packet.to.0) packet)) w
-    (λ (next : World). IsSaid setting next)
-    (λ is. message_said setting counted stamps packet.to packet.from (w.clocks packet.to.0) packet.message sound
+delivery_said : (setting : Setting) (w : World) (stamps : Stamping) (number : ℕ) (packet : Packet) → IsSound setting → Books setting w
+    → Said setting w stamps → WasSent w packet → IsSaid setting (world_handled setting w number packet)
+delivery_said setting w stamps number packet sound books said sent =
+    message_said setting (world_counting setting w number packet) stamps packet.to packet.from (w.clocks packet.to.0) packet.message sound
     (books_beside setting w (replies_with setting w packet) (put w.reached number true) books)
     (said_beside setting w stamps w.clocks (replies_with setting w packet) (put w.reached number true) books said)
-    (sent packet refl))
-    (λ isnt. (stamps, said))
+    sent
 
 -- what the store of a stopped brick may hold says what it should
 left_said : (setting : Setting) (w : World) (stamps : Stamping) (me : BrickId) (node : Node) → IsLeft setting w me.0 node → Books setting w
@@ -267,38 +262,23 @@ invoked_said setting w stamps me ask books said may =
     (said_began setting w stamps me ask fits.group books said fits.group_is)
 
 -- every event keeps the invariant
-pub said_happens : (setting : Setting) (w : World) (event : Event) → IsSound setting → Leaves setting w → Books setting w → IsSaid setting w
-    → IsSaid setting (happens setting w event)
-unfolding happens
-said_happens setting w (Invokes brick ask) sound leaves books said =
-    cond_both (may_begin setting w brick ask) (world_began w brick ask (invoked setting brick (w.clocks brick.0) (w.nodes brick.0) ask)) w
-    (λ (next : World). IsSaid setting next)
-    (λ may. invoked_said setting w said.0 brick ask books said.1 may)
-    (λ isnt. said)
-said_happens setting w (Delivers number) sound leaves books said =
-    delivered_said setting w said.0 number (packet_of w.packets number) sound books said.1 (packet_was_sent w number)
-said_happens setting w (Sets brick time) sound leaves books said =
-    cond_both (is_brick setting.layout brick) (record w { clocks = put w.clocks brick.0 time }) w (λ (next : World). IsSaid setting next)
-    (λ is. (said.0, said_beside setting w said.0 (put w.clocks brick.0 time) w.replies w.reached books said.1))
-    (λ isnt. said)
-said_happens setting w (Ticks brick) sound leaves books said =
-    cond_both (is_up setting.layout w brick) (world_ticked setting w brick) w (λ (next : World). IsSaid setting next)
-    (λ up. (said.0, ticked_said setting w said.0 brick books said.1))
-    (λ down. said)
-said_happens setting w (Stops brick during) sound leaves books said =
-    cond_both (is_up setting.layout w brick) (world_stopped setting w brick during) w (λ (next : World). IsSaid setting next)
-    (λ up. (said.0, stopped_said setting w said.0 brick during books said.1))
-    (λ down. said)
-said_happens setting w (Starts brick openings found) sound leaves books said =
-    cond_both (may_start setting.layout w brick openings) (world_started (world_found w brick found) brick openings) w
-    (λ (next : World). IsSaid setting next)
-    (λ may.
-    let fits = start_fits setting w brick openings may in (
-      said.0,
-      started_said setting (world_found w brick found) said.0 brick openings (books_found setting w brick found fits.0 leaves books)
-          (found_said setting w said.0 brick found fits.0 leaves books said.1) fits.1,
-    ))
-    (λ cannot. said)
+said_cases : (setting : Setting) → IsSound setting → (w : World) → Leaves setting w × Books setting w → IsSaid setting w
+    → EventCases setting w (IsSaid setting)
+said_cases setting sound w known said =
+    let books : Books setting w = known.1 in
+    record {
+      begins = λ brick ask may. invoked_said setting w said.0 brick ask books said.1 may;
+      handles = λ number packet at up. delivery_said setting w said.0 number packet sound books said.1 (packet_was_sent w number packet at);
+      sets = λ brick time is. (said.0, said_beside setting w said.0 (put w.clocks brick.0 time) w.replies w.reached books said.1);
+      ticks = λ brick up. (said.0, ticked_said setting w said.0 brick books said.1);
+      stops = λ brick during up. (said.0, stopped_said setting w said.0 brick during books said.1);
+      starts = λ brick openings found may.
+          (let fits = start_fits setting w brick openings may in (
+            said.0,
+            started_said setting (world_found w brick found) said.0 brick openings (books_found setting w brick found fits.0 known.0 books)
+                (found_said setting w said.0 brick found fits.0 known.0 books said.1) fits.1,
+          ));
+    }
 
 -- the first world
 first_top : (block : ℕ) → top_of (first_replica block) ≡ first_stamp
@@ -306,7 +286,7 @@ first_top block =
     top_is (first_replica block) (record { stamp = first_stamp; block = replicate block 0 }) refl
     ∙ cond-false (stamp_below first_stamp first_stamp) first_stamp first_stamp (stamp_below_irrefl first_stamp)
 
-pub said_first : (setting : Setting) → IsSound setting → IsSaid setting (first_world setting.layout)
+said_first : (setting : Setting) → IsSound setting → IsSaid setting (first_world setting.layout)
 said_first setting sound = (
   (λ i b k p. None),
   record {
@@ -340,21 +320,8 @@ said_first setting sound = (
   },
 )
 
--- every run keeps the invariant
-pub said_run : (setting : Setting) (events : List Event) (w : World) → IsSound setting → Leaves setting w
-    → ((more : List Event) → Books setting (run setting more w)) → IsSaid setting w → IsSaid setting (run setting events w)
-said_run setting [] w sound leaves books said = said
-said_run setting (event ∷ events) w sound leaves books said =
-    said_run setting events (happens setting w event) sound (leaves_happens setting w event leaves) (λ more. books (event ∷ more))
-    (said_happens setting w event sound leaves (books []) said)
-
--- the invariant holds in every world that a run reaches, from any that one has reached
-pub said_on : (setting : Setting) (events more : List Event) → IsSound setting
-    → IsSaid setting (run setting more (run setting events (first_world setting.layout)))
-said_on setting events more sound =
-    let w : World = run setting events (first_world setting.layout) in
-    said_run setting more w sound (always_leaves setting events) (λ then'. books_run setting then' w (always_leaves setting events) (books setting events))
-    (said_run setting events (first_world setting.layout) sound (always_leaves setting []) (λ then'. books setting then') (said_first setting sound))
-
+-- the invariant holds in every world that a run reaches
 pub always_said : (setting : Setting) (events : List Event) → IsSound setting → IsSaid setting (run setting events (first_world setting.layout))
-always_said setting events sound = said_on setting [] events sound
+always_said setting events sound =
+    always_where (IsSaid setting) (λ w. Leaves setting w × Books setting w) setting (λ more. (always_leaves setting more, books setting more))
+    (said_first setting sound) (said_cases setting sound) events

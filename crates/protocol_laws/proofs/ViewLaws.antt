@@ -29,7 +29,7 @@ use Rattle.protocol_laws.specs.Laws.{part_in, top_in, Follows, EveryRunFollowsTh
 use Rattle.protocol_laws.proofs.Parts.{part_of, PartsGuard, PartsBlock}
 use Rattle.protocol_laws.proofs.FirstViews.{AreInFirst, own_members, view_first, view_below, top_first, others_empty}
 use Rattle.protocol_laws.proofs.Books.{Books}
-use Rattle.protocol_laws.proofs.BooksEvents.{books_run, books}
+use Rattle.protocol_laws.proofs.BooksEvents.{books}
 use Rattle.protocol_laws.proofs.Logs.{below_above, held_stands, IsUnder, nothing_kept, IsKept, place_held}
 use Rattle.protocol_laws.proofs.Reactions.{max_left, max_right, max_most, under_top}
 use Rattle.protocol_laws.proofs.Blocking.{PartsStay, was_kept, passes_by, passes, blocked_by, blocked_stays, blocked_never_stands, count_split}
@@ -37,9 +37,10 @@ use Rattle.protocol_laws.proofs.Said.{Stamping, Said, IsSaid, IsMadeOrFirst, IsB
 use Rattle.protocol_laws.proofs.Stampings.{known_first, known_view}
 use Rattle.protocol_laws.proofs.OwnStamps.{made_view, made_first}
 use Rattle.protocol_laws.proofs.Decisions.{quorum_enough}
-use Rattle.protocol_laws.proofs.SaidAlways.{said_on, always_said}
-use Rattle.protocol_laws.proofs.Left.{always_leaves}
+use Rattle.protocol_laws.proofs.SaidAlways.{always_said}
+use Rattle.protocol_laws.proofs.Left.{always_leaves, Leaves}
 use Rattle.protocol_laws.proofs.Falls.{parts_stay_on, always_logged}
+use Rattle.protocol.proofs.Events.{onward}
 
 -- the bricks of a world are in view 1, and so are its stamps
 pub in_first : (setting : Setting) (w : World) (stamps : Stamping) → Books setting w → Said setting w stamps → AreInFirst setting.layout w
@@ -304,16 +305,16 @@ never_lowers setting events more sound = (falls, adds)
     next = run setting more w
 
     stay : PartsStay w next
-    stay = parts_stay_on setting more w (always_leaves setting events) (always_logged setting events)
+    stay = parts_stay_on setting more w (onward (Leaves setting) setting (always_leaves setting) events) (always_logged setting events)
 
     said : IsSaid setting w
     said = always_said setting events sound
 
     booked : Books setting next
-    booked = books_run setting more w (always_leaves setting events) (books setting events)
+    booked = onward (Books setting) setting (books setting) events more
 
     later : IsSaid setting next
-    later = said_on setting events more sound
+    later = onward (IsSaid setting) setting (λ all. always_said setting all sound) events more
 
     before : AreInFirst setting.layout w
     before = in_first setting w said.0 (books setting events) said.1
@@ -396,7 +397,7 @@ pub never_surfaces : NeverSurfaces
 never_surfaces setting views events more g s group v sound follows found lost held = ⊎_elim
     (λ (over : stamp_below (floor_of 1) v ≡ true).
     blocked_never_stands next g s group v
-    (blocked_stays w next (parts_stay_on setting more w (always_leaves setting events) (always_logged setting events)) g s group v
+    (blocked_stays w next (parts_stay_on setting more w (onward (Leaves setting) setting (always_leaves setting) events) (always_logged setting events)) g s group v
     (lost_blocked setting w said.0 (in_first setting w said.0 (books setting events) said.1) said.1 g s group v limits over lost)) held)
     (λ (not_over : stamp_below (floor_of 1) v ≡ false).
     let none = count_empty (length group.members) (λ seat. next.held (brick_at group seat) g s v) (λ k below. ⊎_elim
@@ -416,10 +417,10 @@ never_surfaces setting views events more g s group v sound follows found lost he
     said = always_said setting events sound
 
     later : IsSaid setting next
-    later = said_on setting events more sound
+    later = onward (IsSaid setting) setting (λ all. always_said setting all sound) events more
 
     booked : Books setting next
-    booked = books_run setting more w (always_leaves setting events) (books setting events)
+    booked = onward (Books setting) setting (books setting) events more
 
     limits : IsWithinLimits group.m (length group.members)
     limits = (follows [] (events ++ more) refl).limits g (view_of v) group found

@@ -7,7 +7,7 @@ use Rattle.protocol.specs.Views.{layout_views, view_of}
 use Rattle.protocol.specs.Worlds.{World, Event, first_world, run}
 use Rattle.protocol_laws.proofs.ViewLaws.{never_lowers, never_surfaces, follows_layout, layout_group}
 use Rattle.world.specs.Runs.{Step, all_events}
-use Rattle.calm_laws.proofs.Schedules.{run-append}
+use Rattle.protocol.proofs.Events.{run-append}
 use Rattle.replay.specs.Histories.{Succeeds}
 use Rattle.printed.specs.Outputs.{left_by}
 
