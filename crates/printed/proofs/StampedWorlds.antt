@@ -18,9 +18,10 @@ use Rattle.protocol_laws.proofs.Puts.{put_other}
 use Rattle.protocol_laws.proofs.Tables.{put_each, put_same, get_one}
 use Rattle.printed.proofs.Clocks.{EventFits, EventsFit}
 use Rattle.printed.proofs.MarkLines.{IsSmall, StampReads}
-use Rattle.printed.proofs.StampedMessages.{PartFits, NodeFits, PacketFits, AreFit, no_packets, packets_both, ticked_fit}
+use Rattle.printed.proofs.StampedMessages.{PartFits, NodeFits, PacketFits, AreFit, ticked_fit}
 use Rattle.printed.proofs.StampedSteps.{StepFits, received_fits, absorbed_fits, up_brick, begins_time, invoked_fits, stopped_fits, restarted_fits, stopped_boot, restarted_boot}
 use Rattle.protocol.proofs.Events.{EachEvent, event_each}
+use Rattle.protocol.proofs.Packets.{each_none, each_both}
 
 -- a world
 pub record WorldFits (setting : Setting) (w : World) : Type 0 where
@@ -66,7 +67,7 @@ node_changes setting w next me node more fits clocks after nodes packets new sam
       (put_each (λ j n. (w.after j).boot ≤ n.boot) w.nodes me.0 node (let old = fits.boots me.0 in omega (arith, old, same))
       (λ j other. fits.boots j)));
   packets = subst (λ (l : List Packet). AreFit setting.layout.bricks l) (sym packets)
-      (packets_both setting.layout.bricks w.packets more fits.packets sent);
+      (each_both (PacketFits setting.layout.bricks) w.packets more fits.packets sent);
 }
 
 -- a brick's step on a message that was sent
@@ -226,7 +227,7 @@ fits_each setting w few fits = record {
         nodes = fits.nodes;
         after = fits.after;
         boots = fits.boots;
-        packets = packets_both setting.layout.bricks w.packets (resent_up_to setting brick (w.nodes brick.0).calls (w.nodes brick.0).seq) fits.packets
+        packets = each_both (PacketFits setting.layout.bricks) w.packets (resent_up_to setting brick (w.nodes brick.0).calls (w.nodes brick.0).seq) fits.packets
             (ticked_fit setting brick (w.nodes brick.0).calls (w.nodes brick.0).seq (up_brick setting.layout w brick up) (fits.nodes brick.0).calls);
       };
   stops = λ brick during up timely. halted_fits setting w brick during fits (up_brick setting.layout w brick up);
@@ -271,5 +272,5 @@ first_world_fits setting = record {
   nodes = λ i. first_fits setting.layout;
   after = λ i. first_fits setting.layout;
   boots = λ i. omega arith;
-  packets = no_packets setting.layout.bricks;
+  packets = each_none (PacketFits setting.layout.bricks);
 }

@@ -1,2 +1,3 @@
 pub mod CountsAt
 pub mod Events
+pub mod Packets

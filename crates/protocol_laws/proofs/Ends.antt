@@ -139,7 +139,7 @@ module _ (setting : Setting) (w : World) (stamps : Stamping) (me : BrickId) (c :
 
     keeps : OperatedKeeps w me node marks n o ended w.contents
     keeps = record {
-      replicas = refl;
+      places = (refl, refl, refl);
       boot = refl;
       is = its.operation_is;
       continues = on;

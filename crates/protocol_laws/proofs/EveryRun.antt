@@ -13,7 +13,7 @@ use Rattle.protocol_laws.proofs.Numbers.{IsNumbered, always_numbered}
 use Rattle.protocol_laws.proofs.QuorumFacts.{QuorumFacts, facts}
 use Rattle.protocol_laws.proofs.Said.{Stamping, Said}
 use Rattle.protocol_laws.proofs.SaidAlways.{always_said}
-use Rattle.protocol_laws.proofs.ViewLaws.{follows_layout, always_first, one_content, writes_guarded, bases_newest, collects_stand, drops_older}
+use Rattle.protocol_laws.proofs.ViewLaws.{follows_layout, one_content, writes_guarded, bases_newest, collects_stand, drops_older}
 use Rattle.protocol_laws.proofs.Tallies.{Tallied}
 use Rattle.protocol_laws.proofs.TalliesEvents.{tallied}
 use Rattle.protocol_laws.proofs.StripeLives.{well_formed_stripe, numbers_from_one}
@@ -55,7 +55,7 @@ every_run setting views events sound follows =
     (facts setting sound w said.0 (books setting events) said.1)
     (tallied setting events sound)
     (always_numbered setting events)
-    (refusals_true setting events (λ moment. always_first setting moment sound))
+    (refusals_true setting events)
 
 -- for the layout's members
 pub every_layout_run : (setting : Setting) (events : List Event) → IsSound setting

@@ -115,7 +115,7 @@ after_told : (setting : Setting) (brick : BrickId) (w : World) (told : Told) →
 after_told setting brick w (Made seq t base) = refl
 after_told setting brick w (Seen seq v) = refl
 
-after_stepped : (setting : Setting) (w : World) (me : BrickId) (step : NodeStep) → (world_stepped setting w me step).after ≡ w.after
+pub after_stepped : (setting : Setting) (w : World) (me : BrickId) (step : NodeStep) → (world_stepped setting w me step).after ≡ w.after
 after_stepped setting w me step =
     answered_same (λ x. x.after) me (λ x answered. refl) step.answers (world_tells setting w me step.told)
     ∙ told_same setting (λ x. x.after) me (after_told setting me) step.told w
@@ -136,7 +136,7 @@ packet_was_sent w zero packet is = cc
 packet_was_sent w (suc k) packet is = (k, is)
 
 -- so was one during whose handling a brick stopped
-during_was_sent : (w : World) (during : Option ℕ) (packet : Packet) → packet_during w.packets during ≡ Some packet → WasSent w packet
+pub during_was_sent : (w : World) (during : Option ℕ) (packet : Packet) → packet_during w.packets during ≡ Some packet → WasSent w packet
 during_was_sent w None packet is = cc
 during_was_sent w (Some number) packet is = packet_was_sent w number packet is
 

@@ -41,6 +41,7 @@ pub mod SaidAlways
 pub mod Sends
 pub mod Served
 pub mod Sorting
+pub mod StampViews
 pub mod Stampings
 pub mod Steps
 pub mod Stores
@@ -50,6 +51,7 @@ pub mod Tallies
 pub mod TalliesCounts
 pub mod TalliesEvents
 pub mod TalliesKept
+pub mod Tops
 pub mod ViewLaws
 pub mod Walks
 pub mod Words

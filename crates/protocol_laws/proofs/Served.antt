@@ -1,7 +1,7 @@
 -- What a brick does with a request: it ignores it, or changes its part of the call's stripe in the view that it has learnt.
-use Rattle.std.proofs.Common.{◌≡◌, ℕ, ◌⊎◌, inl, inr, not, ◌&&◌, nat_lt, Option, Some, None, refl, arith}
+use Rattle.std.proofs.Common.{◌≡◌, ℕ, ◌⊎◌, inl, inr, not, ◌&&◌, nat_lt, Option, Some, None, refl, arith, false}
 use Rattle.std.specs.Prelude.{nat_eq}
-use Rattle.std.proofs.lemmas.Bool.{cond_both, eqb-true, and_parts}
+use Rattle.std.proofs.lemmas.Bool.{cond_both, eqb-true, and_parts, not-true}
 use Rattle.fab_base.specs.declared.identities.BrickId.{BrickId}
 use Rattle.messages.specs.declared.calls.Call.{Call}
 use Rattle.messages.specs.declared.requests.Request.{Request}
@@ -56,6 +56,18 @@ served_seat setting me node call request group seat at =
         cond_both (fits_block setting.layout.block group.m k request) (Some k) None (λ (z : Option ℕ). z ≡ Some seat → Some k ≡ Some seat)
         (λ fits is. is) (λ isnt none. absurd (let never : None ≡ Some seat = none in cc))
         at
+
+-- and the brick has accepted no list to follow the view
+pub served_open : (setting : Setting) (me : BrickId) (node : Node) (call : Call) (request : Request) (group : Group) (seat : ℕ)
+    → seat_served setting.layout me node call request group ≡ Some seat → node.accepted call.group.0 ≡ false
+served_open setting me node call request group seat at =
+    cond_both (is_served group node call) (fitting_seat setting.layout.block group.m request (seat_in group.members me.0)) None
+    (λ (z : Option ℕ). z ≡ Some seat → node.accepted call.group.0 ≡ false)
+    (λ served fits.
+    let view = and_parts (nat_lt call.stripe.0 group.stripes) (nat_eq call.view.0 (view_at node call.group.0) && not (node.accepted call.group.0)) served in
+    not-true (node.accepted call.group.0) (and_parts (nat_eq call.view.0 (view_at node call.group.0)) (not (node.accepted call.group.0)) view.1).1)
+    (λ isnt none. absurd (let never : None ≡ Some seat = none in cc))
+    at
 
 -- what holds of the changed part, and of each part as it was
 pub parts_each : (Q : ℕ → ℕ → ℕ → Replica → Type 0) (node : Node) (call : Call) (reaction : Reaction)
