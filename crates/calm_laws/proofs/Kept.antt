@@ -16,7 +16,7 @@ use Rattle.protocol_laws.proofs.Books.{Books}
 use Rattle.protocol_laws.proofs.BooksEvents.{books, start_fits}
 use Rattle.protocol_laws.proofs.FirstViews.{IsInFirst}
 use Rattle.protocol_laws.proofs.Left.{IsLeft, Leaves, always_leaves}
-use Rattle.protocol_laws.proofs.Tables.{put_each}
+use Rattle.protocol.proofs.Tables.{put_each}
 use Rattle.protocol.proofs.Events.{EventCases, step_on, always_where}
 use Rattle.fab_base.specs.declared.asks.Ask.{Ask}
 

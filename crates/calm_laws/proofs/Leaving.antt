@@ -25,7 +25,7 @@ use Rattle.protocol_laws.proofs.BooksEvents.{books, brick_of}
 use Rattle.protocol_laws.proofs.Falls.{always_logged}
 use Rattle.protocol_laws.proofs.Logs.{LogAscends}
 use Rattle.protocol_laws.proofs.Outcomes.{IsLook}
-use Rattle.protocol_laws.proofs.Tables.{get_added}
+use Rattle.protocol.proofs.Tables.{get_added}
 use Rattle.calm_laws.proofs.Calmness.{each_counts, finishes}
 use Rattle.calm_laws.proofs.Casting.{chosen, seat_some}
 use Rattle.calm_laws.proofs.Collecting.{all_leave}

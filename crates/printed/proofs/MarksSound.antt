@@ -29,7 +29,7 @@ use Rattle.protocol_laws.specs.Laws.{Laws, Evidence}
 use Rattle.protocol_laws.specs.Marked as law
 use Rattle.protocol_laws.proofs.BooksEvents as books
 use Rattle.protocol_laws.proofs.EveryRun.{every_layout_run}
-use Rattle.protocol_laws.proofs.Lives.{life_of-append, life_onward}
+use Rattle.reg_model.proofs.GrowingLives.{life_of-append, life_onward}
 use Rattle.protocol_laws.proofs.Said.{Stamping, Said, IsMadeOrFirst}
 use Rattle.protocol_laws.proofs.SaidAlways.{always_said}
 use Rattle.audit.specs.Checks.{GroupFits, BeginFits, WordFits, AnswerFits, MarksHold}

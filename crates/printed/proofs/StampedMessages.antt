@@ -19,7 +19,7 @@ use Rattle.protocol.specs.declared.phases.Phase.TheVariants.{Looks, LooksAt, Ord
 use Rattle.protocol.specs.Coordinators.{Coordinator, has_seat, request_of}
 use Rattle.protocol.specs.Nodes.{Node, view_at, to_members, phase_packets, collect_packets, resent_to, resent, resent_up_to}
 use Rattle.protocol_laws.specs.Laws.{stamp_asked}
-use Rattle.protocol_laws.proofs.Tables.{get_grown, sent_to_member}
+use Rattle.protocol.proofs.Tables.{get_grown, sent_to_member}
 use Rattle.printed.proofs.MarkLines.{IsSmall, StampReads}
 use Rattle.protocol.proofs.Packets.{OfEach, OfRequests, each_member, each_collect, each_ticked}
 use Rattle.protocol_laws.proofs.StampViews.{asked_own}

@@ -22,12 +22,12 @@ use Rattle.protocol.specs.Coordinators.{Coordinator, Next, Ignores, Waits, Sends
 use Rattle.protocol.specs.Nodes.{Node, NodeStep, no_step, has_later_time, is_spent, refusal_in, refusal_of, next_time, new_stamp, fresh_stamp, new_coordinator, opened, began, group_at, invoked, replica_at, full_at, reply_packets, reacted, requested, known_after, with_call, carried_out, replied_at, replied, received, absorbed, stopped, restarted}
 use Rattle.protocol.specs.Worlds.{World, is_brick, is_up, may_begin}
 use Rattle.protocol_laws.proofs.Logs.{newest_stands}
-use Rattle.protocol_laws.proofs.MarkLists.{slice_get_push}
+use Rattle.reg_model.proofs.AddedMarks.{slice_get_push}
 use Rattle.protocol_laws.proofs.Outcomes.{NextFits, ReordersFits, RecoversFits, RebuildsFits, once_full_fits}
 use Rattle.protocol_laws.proofs.Reactions.{modified_each}
-use Rattle.protocol_laws.proofs.Served.{request_each, parts_each}
-use Rattle.protocol_laws.proofs.StripeLives.{filter_place}
-use Rattle.protocol_laws.proofs.Tables.{put_each}
+use Rattle.protocol.proofs.Served.{request_each, parts_each}
+use Rattle.reg_model.proofs.StripeLives.{filter_place}
+use Rattle.protocol.proofs.Tables.{put_each}
 use Rattle.printed.proofs.MarkLines.{IsSmall, StampReads}
 use Rattle.printed.proofs.StampedMessages.{PartFits, CallFits, NodeFits, RequestFits, ReplyFits, MessageFits, AreFit, phase_fits, collects_fit, PacketFits}
 use Rattle.protocol.proofs.Packets.{each_none, each_one}

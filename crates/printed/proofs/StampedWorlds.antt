@@ -14,8 +14,8 @@ use Rattle.protocol.specs.declared.tellings.Told.{Told}
 use Rattle.protocol.specs.declared.tellings.Told.TheVariants.{Made, Seen}
 use Rattle.protocol.specs.declared.tellings.Answered.{Answered}
 use Rattle.protocol.specs.Worlds.{World, Event, Found, Invokes, Delivers, Sets, Ticks, Stops, Starts, Before, After, first_world, is_brick, is_up, may_begin, may_start, world_began, world_told, world_tells, world_answered, world_answers, world_stepped, world_ticked, world_stopped, world_found, world_started, left_after, packet_during, replies_with, delivered, packet_of, happens, run}
-use Rattle.protocol_laws.proofs.Puts.{put_other}
-use Rattle.protocol_laws.proofs.Tables.{put_each, put_same, get_one}
+use Rattle.protocol.proofs.Puts.{put_other}
+use Rattle.protocol.proofs.Tables.{put_each, put_same, get_one}
 use Rattle.printed.proofs.Clocks.{EventFits, EventsFit}
 use Rattle.printed.proofs.MarkLines.{IsSmall, StampReads}
 use Rattle.printed.proofs.StampedMessages.{PartFits, NodeFits, PacketFits, AreFit, ticked_fit}

@@ -13,7 +13,7 @@ use Rattle.protocol.specs.declared.tellings.Answered.{Answered}
 use Rattle.protocol.specs.Nodes.{NodeStep, refusal_of, invoked, received, put}
 use Rattle.protocol.specs.Worlds.{World, Found, Before, After, Event, Invokes, Delivers, Sets, Ticks, Stops, Starts, is_brick, is_up, may_begin, may_start, world_began, world_told, world_tells, world_answered, world_answers, world_stepped, world_ticked, world_stopped, world_found, world_started, replies_with, delivered, packet_of, happens, run, first_world}
 use Rattle.protocol_laws.proofs.BooksEvents.{BeginFits, begin_fits}
-use Rattle.protocol_laws.proofs.MarkLists.{slice_get_push}
+use Rattle.reg_model.proofs.AddedMarks.{slice_get_push}
 use Rattle.printed.proofs.StampedSteps.{up_brick}
 use Rattle.protocol.proofs.Events.{EventCases, step_on, world_counting, stepped_each, started_each, always}
 

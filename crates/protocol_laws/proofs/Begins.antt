@@ -24,8 +24,8 @@ use Rattle.protocol.specs.Worlds.{World, Operation, world_began}
 use Rattle.protocol_laws.proofs.FirstViews.{view_first}
 use Rattle.protocol_laws.proofs.Books.{Books, IsOperation}
 use Rattle.protocol_laws.proofs.Said.{Begun, Stamping, Said, IsSaid, IsBegun, IsStamped, IsKnown, IsStampOf, IsCalled, FitsPhase, FloorsAtLeast, RequestSays, PacketSays, OperationSays, CallSays, IsInOrder, DescendsFrom, base_in}
-use Rattle.protocol_laws.proofs.Tables.{put_each, put_same, get_grown, get_one, sent_to_member}
-use Rattle.protocol_laws.proofs.Lives.{last_grows}
+use Rattle.protocol.proofs.Tables.{put_each, put_same, get_grown, get_one, sent_to_member}
+use Rattle.reg_model.proofs.GrowingLives.{last_grows}
 use Rattle.protocol_laws.proofs.Growth.{Grows, continues_same}
 use Rattle.protocol_laws.proofs.Steps.{KeepsStamps, parts_kept, sent_by, ages_by, calls_by, phase_asked, said_after, new_none, part_same}
 use Rattle.protocol_laws.proofs.Stampings.{ComesFrom, ages_within, stays_known, later_unknown, with_stamp, stamp_now, stamps_other, stamp_last, stamps_grow, stamps_say}

@@ -36,11 +36,12 @@ use Rattle.fab_base.specs.Layouts.{brick_at}
 use Rattle.protocol_laws.specs.Laws.{AtQuorum, stamp_stored, IsGuarded, IsBlocked, top_in}
 use Rattle.protocol_laws.proofs.Books.{Books, CallBooks, IsOperation, IsCall, IsMade, MadeInPhase}
 use Rattle.protocol_laws.proofs.Logs.{IsWithin}
-use Rattle.protocol_laws.proofs.Said.{Stamping, Said, IsBegun, IsContent, IsMadeOrFirst, FloorsAtMost, IsCalled, OrderedSays, OrderedReadSays, FoundSays, ReplySays, CountedSays, EachCounted, AreOnce, IsBlockOf, RequestSays, look_of, want_of, is_looked, IsPassedOver, CollectSays, Stands, IsStamped, WritesWhole, ReadsBack}
+use Rattle.protocol_laws.proofs.Said.{Stamping, Said, IsBegun, IsMadeOrFirst, FloorsAtMost, IsCalled, OrderedSays, OrderedReadSays, FoundSays, ReplySays, CountedSays, EachCounted, AreOnce, IsBlockOf, RequestSays, look_of, want_of, is_looked, IsPassedOver, CollectSays, Stands, IsStamped, WritesWhole, ReadsBack}
 use Rattle.fab_base.proofs.Seats.{seat_within, brick_at_seat}
 use Rattle.protocol_laws.proofs.Reactions.{max_right, max_most}
 use Rattle.protocol_laws.proofs.Stampings.{begun_once}
 use Rattle.protocol_laws.proofs.Counting.{each_then, each_both, at_quorum, TellsVersion, fast_each, none_refuses, none_full, IsPieceOf, are_pieces, pieces_length, none_behind, bytes_reply}
+use Rattle.protocol.proofs.Blocks.{IsContent}
 
 -- zeros are bytes
 zero_bytes : (n : ℕ) → are_bytes (replicate n 0) ≡ true

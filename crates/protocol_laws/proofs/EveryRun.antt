@@ -16,7 +16,7 @@ use Rattle.protocol_laws.proofs.SaidAlways.{always_said}
 use Rattle.protocol_laws.proofs.ViewLaws.{follows_layout, one_content, writes_guarded, bases_newest, collects_stand, drops_older}
 use Rattle.protocol_laws.proofs.Tallies.{Tallied}
 use Rattle.protocol_laws.proofs.TalliesEvents.{tallied}
-use Rattle.protocol_laws.proofs.StripeLives.{well_formed_stripe, numbers_from_one}
+use Rattle.reg_model.proofs.StripeLives.{well_formed_stripe, numbers_from_one}
 use Rattle.protocol_laws.proofs.Walks.{happenings_strict}
 
 -- the laws, from the books, from what quorums show, and from the history of replies

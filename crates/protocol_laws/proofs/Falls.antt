@@ -17,7 +17,7 @@ use Rattle.protocol.specs.Worlds.{World, Found, Before, After, Event, world_tick
 use Rattle.protocol_laws.specs.Laws.{WasSent}
 use Rattle.protocol_laws.proofs.Reactions.{handle_after}
 use Rattle.protocol_laws.proofs.Requests.{parts_keep}
-use Rattle.protocol_laws.proofs.Served.{request_each, served_open}
+use Rattle.protocol.proofs.Served.{request_each, served_open}
 use Rattle.protocol_laws.proofs.BooksEvents.{start_fits}
 use Rattle.protocol_laws.proofs.Left.{IsLeft, Leaves, always_leaves, packet_was_sent}
 use Rattle.protocol_laws.proofs.Blocking.{LogsFit, PartsStay, parts_then, first_fits}

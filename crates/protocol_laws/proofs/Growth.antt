@@ -33,9 +33,10 @@ use Rattle.fab_base.specs.Layouts.{brick_at}
 use Rattle.protocol_laws.specs.Laws.{WasSent, AskedAt, IsModified, IsGuarded, NeverFalls, top_in}
 use Rattle.protocol_laws.proofs.Books.{Books, OperationBooks, IsOperation}
 use Rattle.protocol_laws.proofs.Blocking.{PartsStay, blocked_stays, stands_stays, NewIsLogged}
-use Rattle.protocol_laws.proofs.Said.{Stamping, IsBegun, IsStamped, Stands, AreBlocked, IsContent, IsMadeOrFirst, IsKnown, IsCalled, IsBlockOf, VersionSays, WriteSays, RequestSays, OrderedSays, OrderedReadSays, FoundSays, ReplySays, MessageSays, PacketSays, HasVersion, WritesWhole, ReadsBack, OperationSays, CountedSays, CallSays, DataShown, EndShows, FitsPhase, DescendsFrom, ToldSays, MakerSays, ChangesBlock, ModifySays, OrderSays, OrderReadSays, MadeOn, WasCollected, IsPassedOver}
+use Rattle.protocol_laws.proofs.Said.{Stamping, IsBegun, IsStamped, Stands, AreBlocked, IsMadeOrFirst, IsKnown, IsCalled, IsBlockOf, VersionSays, WriteSays, RequestSays, OrderedSays, OrderedReadSays, FoundSays, ReplySays, MessageSays, PacketSays, HasVersion, WritesWhole, ReadsBack, OperationSays, CountedSays, CallSays, DataShown, EndShows, FitsPhase, DescendsFrom, ToldSays, MakerSays, ChangesBlock, ModifySays, OrderSays, OrderReadSays, MadeOn, WasCollected, IsPassedOver}
 use Rattle.protocol_laws.proofs.Stampings.{StampsGrow, stays_begun, stays_stamped, stays_known}
 use Rattle.protocol_laws.proofs.Counting.{each_then}
+use Rattle.protocol.proofs.Blocks.{IsContent}
 
 -- an operation goes on: it keeps what it is, and a version that it has
 pub record Continues (o p : Operation) : Type 0 where

@@ -17,8 +17,8 @@ use Rattle.protocol.specs.declared.tellings.Answered.{Answered}
 use Rattle.protocol.specs.Nodes.{Node, NodeStep, group_at, put, refusal_of, requested_at, seat_served, requested_in, requested, absorbed, stopped, restarted, invoked}
 use Rattle.protocol.specs.Worlds.{World, Found, Before, After, Event, first_world, is_brick, is_up, world_began, world_told, world_tells, world_answered, world_answers, world_stepped, world_ticked, left_after, packet_during, world_stopped, world_found, world_started, replies_with, packet_of, run}
 use Rattle.protocol_laws.specs.Laws.{WasSent}
-use Rattle.protocol_laws.proofs.Puts.{put_other}
-use Rattle.protocol_laws.proofs.Tables.{put_same, get_kept}
+use Rattle.protocol.proofs.Puts.{put_other}
+use Rattle.protocol.proofs.Tables.{put_same, get_kept}
 use Rattle.protocol.proofs.Events.{EventCases, step_on, started_each, always}
 
 -- a stopped brick that handles a message keeps what it would have kept by handling it before it stopped

@@ -21,7 +21,7 @@ use Rattle.protocol.specs.Coordinators.{Coordinator, Next, Ignores, Waits, Sends
 use Rattle.protocol.specs.Nodes.{view_at, Node, replica_at, full_at, reply_packets, ticked, began, invoked, requested, known_after, fresh_stamp, carried_out, group_at, replied_at, replied, received, phase_packets, new_coordinator, view_floor}
 use Rattle.protocol.specs.Worlds.{World, Event, first_world, world_stopped, happens, run}
 use Rattle.protocol_laws.specs.Laws.{RefusalIsTrue, Sending, RefusalsWereTrue, stamp_asked}
-use Rattle.protocol_laws.proofs.Served.{request_each, served_open}
+use Rattle.protocol.proofs.Served.{request_each, served_open}
 use Rattle.protocol.proofs.Events.{EventCases, step_on, happens_each, started_each, run-append}
 use Rattle.protocol.proofs.Packets.{OfEach, each_none, each_member, each_collect, each_reply, each_ticked}
 use Rattle.protocol_laws.proofs.Tops.{top_is_part}

@@ -7,7 +7,7 @@ use Rattle.reg_model.specs.declared.marks.Mark.TheVariants.{Begin, End, Crash}
 use Rattle.reg_model.specs.Marks.{begun_numbers}
 use Rattle.protocol.specs.Settings.{Setting}
 use Rattle.protocol.specs.Worlds.{World, Event, run, first_world}
-use Rattle.protocol_laws.proofs.MarkLists.{begun_numbers-append, slice_get_push}
+use Rattle.reg_model.proofs.AddedMarks.{begun_numbers-append, slice_get_push}
 use Rattle.protocol.proofs.Events.{EventCases, step_on, world_counting, stepped_each, started_each, always}
 
 -- the numbers that have begun are 1, 2, 3 and so on, as many as there are operations

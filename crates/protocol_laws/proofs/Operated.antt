@@ -18,7 +18,7 @@ use Rattle.protocol.specs.Worlds.{World, Operation, with_held}
 use Rattle.protocol_laws.proofs.Books.{Books, IsOperation}
 use Rattle.protocol_laws.proofs.Said.{Stamping, Said, StampsSay, IsMadeOrFirst, PacketSays, OperationSays, CallSays, EndShows, IsInOrder, FloorsAtLeast}
 use Rattle.protocol_laws.proofs.Blocking.{LogsFit}
-use Rattle.protocol_laws.proofs.Tables.{put_each, get_grown}
+use Rattle.protocol.proofs.Tables.{put_each, get_grown}
 use Rattle.protocol_laws.proofs.Stampings.{StampsGrow}
 use Rattle.protocol_laws.proofs.Growth.{Grows, Continues, continues_same}
 use Rattle.protocol_laws.proofs.Steps.{KeepsStamps, keeps_same, parts_by, sent_by, calls_by, said_after, new_by, part_same}

@@ -28,7 +28,7 @@ use Rattle.protocol_laws.proofs.Words.{words_fit}
 use Rattle.protocol_laws.proofs.Said.{Stamping, Said, IsStamped, IsMadeOrFirst, Stands, WritesWhole, ReadsBack, FloorsAtLeast, HasVersion, DataShown}
 use Rattle.protocol_laws.proofs.BasesFound.{bases_found}
 use Rattle.protocol_laws.proofs.Blocking.{blocked_never_stands}
-use Rattle.protocol_laws.proofs.Lives.{answered_has_end}
+use Rattle.reg_model.proofs.GrowingLives.{answered_has_end}
 use Rattle.protocol_laws.proofs.Stampings.{above_first}
 use Rattle.protocol_laws.proofs.OwnStamps.{maker_stamp, made_later, operation_unique}
 

@@ -16,7 +16,7 @@ use Rattle.protocol.specs.Settings.{Code}
 use Rattle.protocol.specs.Replicas.{Replica, Reaction, newest_of, is_held, stamp_max, top_of, is_wanted, told_version, stays, unless_full, promised, stored, ordered, written, looked_up, order_read, modified_block, modified_on, modified, handle, collected, ignored}
 use Rattle.protocol_laws.specs.Laws.{stamp_stored, stamp_asked}
 use Rattle.protocol_laws.proofs.Logs.{among_held, LogAscends, IsWithin, newest_greatest, ascends_more, held_more, among, IsKept, lowest_from, among_ascends, among_stands, at_least, kept_from, newest_kept, IsUnder, below_above}
-use Rattle.protocol_laws.proofs.Tables.{get_grown, get_one}
+use Rattle.protocol.proofs.Tables.{get_grown, get_one}
 
 -- neither of two stamps is above the greater
 pub max_left : (a b : Stamp) → stamp_below (stamp_max a b) a ≡ false

@@ -32,10 +32,11 @@ use Rattle.protocol_laws.proofs.FirstViews.{view_below}
 use Rattle.protocol_laws.proofs.Books.{Books, CallBooks, IsCall}
 use Rattle.protocol_laws.proofs.Logs.{IsWithin, below_above}
 use Rattle.protocol_laws.proofs.Blocking.{twice_quorum, passes_by, passes, blocked_by, blocked_never_stands}
-use Rattle.protocol_laws.proofs.Said.{Stamping, Said, IsContent, IsMadeOrFirst, IsStampOf, CallSays, CountedSays, EachCounted, AreOnce, look_of, want_of, is_looked, MadeOn, base_in}
+use Rattle.protocol_laws.proofs.Said.{Stamping, Said, IsMadeOrFirst, IsStampOf, CallSays, CountedSays, EachCounted, AreOnce, look_of, want_of, is_looked, MadeOn, base_in}
 use Rattle.protocol_laws.proofs.Counting.{each_then, each_both, each_filter, once_filter, at_seats, TellsAtMost, found_most, found_one, finds_told, told_finds, IsPieceOf, are_pieces, pieces_length}
 use Rattle.protocol_laws.proofs.Stampings.{not_first, above_first}
 use Rattle.protocol_laws.proofs.Decisions.{quorum_enough, ReadsAt, told_version_is, content_formed, all_read, bound_cases}
+use Rattle.protocol.proofs.Blocks.{IsContent}
 
 -- nothing is told where nothing is found
 none_told : (found : Option Version) → option_map (λ (z : Version). z.stamp) found ≡ None → found ≡ None

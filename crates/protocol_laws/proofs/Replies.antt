@@ -33,11 +33,11 @@ use Rattle.protocol.specs.Happenings.{writes}
 use Rattle.fab_base.specs.Layouts.{brick_at}
 use Rattle.protocol_laws.specs.Laws.{WasSent, AtQuorum, IsGuarded, IsBlocked}
 use Rattle.protocol_laws.proofs.Books.{Books, OperationBooks, CallBooks, IsUnmade, IsMade, MadeInPhase, IsCall}
-use Rattle.protocol_laws.proofs.Said.{Stamping, Said, IsSaid, AreBlocked, IsContent, IsMadeOrFirst, IsStampOf, EachCounted, AreOnce, FitsPhase, FloorsAtMost, HasVersion, CountedSays, CallSays, DescendsFrom, MadeOn, look_of, want_of, base_in}
-use Rattle.protocol_laws.proofs.Tables.{put_each, put_same}
+use Rattle.protocol_laws.proofs.Said.{Stamping, Said, IsSaid, AreBlocked, IsMadeOrFirst, IsStampOf, EachCounted, AreOnce, FitsPhase, FloorsAtMost, HasVersion, CountedSays, CallSays, DescendsFrom, MadeOn, look_of, want_of, base_in}
+use Rattle.protocol.proofs.Tables.{put_each, put_same}
 use Rattle.protocol.proofs.CountsAt.{CountsAt, counts_facts}
 use Rattle.protocol_laws.proofs.Counting.{each_then, each_more, once_more, fast_at, common_at, common_each, common_greatest}
-use Rattle.protocol_laws.proofs.Blocks.{formed_after}
+use Rattle.protocol.proofs.Blocks.{formed_after, IsContent}
 use Rattle.protocol_laws.proofs.Stampings.{ComesFrom, ages_within, stamp_stays, stamps_same, later_unknown, not_first, above_first}
 use Rattle.protocol_laws.proofs.Growth.{Grows, stays_call}
 use Rattle.protocol_laws.proofs.Steps.{KeepsStamps, keeps_same, quiet, quiet_grows, said_quiet, stamps_stay_by}

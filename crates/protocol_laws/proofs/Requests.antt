@@ -24,13 +24,13 @@ use Rattle.protocol.specs.Nodes.{Node, put, with_replica, replica_at, full_at, r
 use Rattle.protocol.specs.Worlds.{World, Operation}
 use Rattle.protocol_laws.specs.Laws.{WasSent, AskedAt, stamp_asked, stamp_stored, top_in, part_in}
 use Rattle.protocol_laws.proofs.Parts.{part_of}
-use Rattle.protocol_laws.proofs.Served.{parts_each}
+use Rattle.protocol.proofs.Served.{parts_each}
 use Rattle.protocol_laws.proofs.FirstViews.{view_is, view_below, view_first}
 use Rattle.protocol_laws.proofs.Books.{Books}
 use Rattle.protocol_laws.proofs.OwnStamps.{made_view}
 use Rattle.protocol_laws.proofs.Blocking.{held_in, was_kept}
 use Rattle.protocol_laws.proofs.Said.{Stamping, Said, IsStamped, IsMadeOrFirst, IsKnown, IsCalled, VersionSays, ToldSays, MakerSays, WriteSays, ChangesBlock, ModifySays, OrderSays, OrderReadSays, RequestSays, is_looked, OrderedSays, OrderedReadSays, FoundSays, ReplySays, PacketSays, IsPassedOver, WasCollected}
-use Rattle.protocol_laws.proofs.Tables.{put_same, get_one}
+use Rattle.protocol.proofs.Tables.{put_same, get_one}
 use Rattle.protocol_laws.proofs.Logs.{LogAscends, IsWithin, among, place_held, newest_stands, newest_held, newest_among, newest_stands_among, IsKept, IsUnder}
 use Rattle.protocol_laws.proofs.Reactions.{IsAfter, StoresBlock, IsTold, ReactionSays, SaysIf, with_order, top_promised, after_top, after_kept, after_lowest, after_newer, after_ascends, after_asked, after_log, top_is, held_top, after_order, top_order}
 use Rattle.protocol_laws.proofs.Stampings.{ages_within, stamps_same}

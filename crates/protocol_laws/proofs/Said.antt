@@ -40,6 +40,7 @@ use Rattle.protocol_laws.proofs.Parts.{part_of}
 use Rattle.protocol_laws.proofs.Books.{IsOperation, IsCall}
 use Rattle.protocol_laws.proofs.Blocking.{LogsFit}
 use Rattle.protocol_laws.proofs.Logs.{IsWithin}
+use Rattle.protocol.proofs.Blocks.{IsContent}
 
 -- a phase that was begun: its stamp, and what it does
 pub record Begun : Type 0 where
@@ -85,10 +86,6 @@ Stands setting w g s v =
 -- no quorum holds a stamp of these, or ever will
 abbrev pub AreBlocked : Setting → World → ℕ → ℕ → (Stamp → Type 0) → Type 0
 AreBlocked setting w g s Q = (group : Group) → group_of setting.layout g ≡ Some group → (d : Stamp) → Q d → IsBlocked w g s group d
-
--- a stripe's content: the bytes of m blocks
-abbrev pub IsContent : ℕ → ℕ → List ℕ → Type 0
-IsContent m block content = (length content ≡ m * block) × (are_bytes content ≡ true)
 
 -- the version is the first one, or an operation of this stripe made it
 abbrev pub IsMadeOrFirst : World → ℕ → ℕ → Stamp → Type 0

@@ -30,13 +30,13 @@ use Rattle.protocol_laws.proofs.Books.{Books, IsCall}
 use Rattle.protocol_laws.proofs.Left.{IsLeft, Leaves, always_leaves, packet_was_sent}
 use Rattle.protocol_laws.proofs.Said.{Stamping, Said, IsSaid, IsStampOf, VersionSays}
 use Rattle.protocol_laws.proofs.BooksEvents.{known_grows, fresh_is, BeginFits, begin_fits, start_fits, books_found, books, books_beside}
-use Rattle.protocol_laws.proofs.Tables.{get_one, get_kept, get_grown}
-use Rattle.protocol_laws.proofs.Lives.{last_grows}
+use Rattle.protocol.proofs.Tables.{get_one, get_kept, get_grown}
+use Rattle.reg_model.proofs.GrowingLives.{last_grows}
 use Rattle.protocol_laws.proofs.Stampings.{ages_within}
 use Rattle.protocol_laws.proofs.Reactions.{top_is, handle_after, handle_says, top_is_order}
 use Rattle.protocol_laws.proofs.Steps.{quiet, said_beside, said_added, said_idle}
 use Rattle.protocol_laws.proofs.Requests.{in_first, said_after_request, reply_packets_say}
-use Rattle.protocol_laws.proofs.Served.{request_each, served_seat}
+use Rattle.protocol.proofs.Served.{request_each, served_seat}
 use Rattle.protocol_laws.proofs.Sends.{ticked_was_sent}
 use Rattle.protocol_laws.proofs.Replies.{said_known, said_after_reply}
 use Rattle.protocol_laws.proofs.Begins.{said_began}

@@ -27,7 +27,7 @@ use Rattle.protocol_laws.specs.Laws.{WasSent, IsGuarded}
 use Rattle.protocol_laws.proofs.Books.{Books, CallBooks, IsOperation, IsCall}
 use Rattle.protocol_laws.proofs.Said.{Begun, Stamping, Said, IsSaid, IsBegun, AreBlocked, IsStampOf, IsCalled, FitsPhase, RequestSays, PacketSays, CallSays, OrderReadSays, DescendsFrom, base_in, look_of, want_of, is_looked, IsMadeOrFirst, MadeOn, WriteSays}
 use Rattle.protocol_laws.proofs.Logs.{below_above}
-use Rattle.protocol_laws.proofs.Tables.{put_each, put_same, get_grown, sent_to_member}
+use Rattle.protocol.proofs.Tables.{put_each, put_same, get_grown, sent_to_member}
 use Rattle.protocol_laws.proofs.Stampings.{ComesFrom, StampsGrow, Ages, ages_within, with_stamp, stamp_now, stamps_other, stamp_last, stamps_grow, stamps_say}
 use Rattle.protocol_laws.proofs.Growth.{Grows, stays_guarded, stays_made, stays_made_on, stay_blocked}
 use Rattle.protocol_laws.proofs.Steps.{KeepsStamps, keeps_same, ages_by, phase_asked, quiet, quiet_grows, said_quiet}

@@ -31,8 +31,8 @@ use Rattle.protocol_laws.specs.Laws.{stamp_asked}
 use Rattle.protocol_laws.proofs.Left.{after_stepped, packet_was_sent, during_was_sent}
 use Rattle.protocol_laws.proofs.Outcomes.{ReordersFits, RecoversFits, RebuildsFits, NextFits, once_full_fits}
 use Rattle.protocol_laws.proofs.Reactions.{IsAfter, StoresBlock, handle_after, after_log, after_order, store_asked}
-use Rattle.protocol_laws.proofs.Served.{request_each, parts_each}
-use Rattle.protocol_laws.proofs.Tables.{put_each, get_one}
+use Rattle.protocol.proofs.Served.{request_each, parts_each}
+use Rattle.protocol.proofs.Tables.{put_each, get_one}
 use Rattle.protocol_laws.proofs.Tops.{view_above}
 
 -- a part of a view: its order stamp is the first or of the view, and its versions are of the view

@@ -9,7 +9,7 @@ use Rattle.protocol.specs.Nodes.{Node, put}
 use Rattle.protocol.specs.Worlds.{World}
 use Rattle.protocol.specs.declared.phases.Phase.{Phase}
 use Rattle.protocol_laws.proofs.Said.{Begun, Stamping, IsBegun, IsStamped, IsKnown, IsStampOf, StampsSay}
-use Rattle.protocol_laws.proofs.Tables.{put_each, put_same}
+use Rattle.protocol.proofs.Tables.{put_each, put_same}
 
 -- a stamp for call k of brick i's boot b: one that a phase of this call has, or one of some time that nobody knows
 abbrev pub ComesFrom : Stamping → ℕ → ℕ → ℕ → Stamp → Type 0

@@ -30,10 +30,10 @@ use Rattle.protocol_laws.proofs.Books.{Books, IsOperation, IsCall}
 use Rattle.protocol_laws.proofs.Logs.{LogAscends, IsKept, held_stands}
 use Rattle.protocol_laws.proofs.Blocking.{PartsStay, LogsFit, LogsStay, NewIsLogged, parts_from}
 use Rattle.protocol_laws.proofs.Said.{Stamping, Said, StampsSay, IsKnown, VersionSays, PacketSays, OperationSays, CallSays, EndShows, IsInOrder, FloorsAtLeast, WasCollected, IsMadeOrFirst}
-use Rattle.protocol_laws.proofs.Tables.{put_each, get_kept, get_grown, get_added, put_same}
+use Rattle.protocol.proofs.Tables.{put_each, get_kept, get_grown, get_added, put_same}
 use Rattle.protocol_laws.proofs.Stampings.{StampsGrow, Ages, ages_within, stamps_same, stays_known, stamps_stay}
 use Rattle.protocol_laws.proofs.Growth.{Grows, continues_same, stays_version, stays_packet, stays_operation, stays_call, stays_end, stays_collected, stays_made}
-use Rattle.protocol_laws.proofs.Puts.{put_other}
+use Rattle.protocol.proofs.Puts.{put_other}
 use Rattle.protocol_laws.proofs.Tops.{KeepsPlaces, top_same}
 
 -- call k of brick i's boot b has the stamps that it had

@@ -25,12 +25,12 @@ use Rattle.protocol.specs.declared.tellings.Told.TheVariants.{Made}
 use Rattle.protocol.specs.Nodes.{Node, put, has_block, has_length, with_call, phase_packets}
 use Rattle.protocol.specs.Worlds.{World, Operation, number_of, world_stepped, with_made, with_content, with_held, content_on, content_by}
 use Rattle.protocol_laws.proofs.Books.{Books, OperationBooks, CallBooks, IsOperation, IsCall}
-use Rattle.protocol_laws.proofs.Said.{Begun, Stamping, Said, IsSaid, StampsSay, IsStampOf, IsBegun, IsStamped, AreBlocked, Stands, IsContent, IsMadeOrFirst, FloorsAtMost, FitsPhase, MakerSays, WriteSays, ChangesBlock, ModifySays, MadeOn, RequestSays, base_in, PacketSays, HasVersion, WritesWhole, ReadsBack, OperationSays, CallSays}
+use Rattle.protocol_laws.proofs.Said.{Begun, Stamping, Said, IsSaid, StampsSay, IsStampOf, IsBegun, IsStamped, AreBlocked, Stands, IsMadeOrFirst, FloorsAtMost, FitsPhase, MakerSays, WriteSays, ChangesBlock, ModifySays, MadeOn, RequestSays, base_in, PacketSays, HasVersion, WritesWhole, ReadsBack, OperationSays, CallSays}
 use Rattle.protocol_laws.specs.Laws.{IsModified, IsGuarded}
 use Rattle.fab_base.proofs.Seats.{seat_of_member, seat_within}
-use Rattle.protocol_laws.proofs.Blocks.{block_room, block_same, block_other}
-use Rattle.protocol_laws.proofs.Tables.{put_each, put_same, sent_to_member}
-use Rattle.protocol_laws.proofs.Lives.{open_last}
+use Rattle.protocol.proofs.Blocks.{block_room, block_same, block_other, IsContent}
+use Rattle.protocol.proofs.Tables.{put_each, put_same, sent_to_member}
+use Rattle.reg_model.proofs.GrowingLives.{open_last}
 use Rattle.protocol_laws.proofs.Stampings.{ComesFrom, StampsGrow, Ages, ages_within, stamp_stays, stays_stamped, with_stamp, stamp_now, stamps_other, stamp_last, stamps_grow, stamps_say}
 use Rattle.protocol_laws.proofs.Steps.{KeepsStamps, ages_by, phase_asked}
 use Rattle.protocol_laws.proofs.Growth.{Grows, stays_guarded, stays_made, stays_standing, stay_blocked, stays_operation}

@@ -20,11 +20,11 @@ use Rattle.protocol.specs.Coordinators.{Coordinator, with_reply, once_full, coun
 use Rattle.protocol.specs.Nodes.{Node, NodeStep, ticked, new_coordinator, put, no_step, fresh_stamp, began_in, began, invoked, with_replica, replica_at, full_at, reply_packets, requested, known_after, with_known, carried_out, sending, replied_at, replied, received}
 use Rattle.protocol.specs.Worlds.{World, Found, Before, After, Event, first_world, may_begin, number_of, world_stopped, world_found, world_started, world_began, counted_after, replies_at, replies_with, run, with_held}
 use Rattle.protocol_laws.specs.Laws.{WasSent}
-use Rattle.protocol_laws.proofs.Served.{request_each, keeps_replica}
+use Rattle.protocol.proofs.Served.{request_each}
 use Rattle.protocol_laws.proofs.FirstViews.{group_first}
 use Rattle.protocol_laws.proofs.Books.{Books, IsCall}
 use Rattle.protocol_laws.proofs.Left.{Leaves, always_leaves, found_down, packet_was_sent}
-use Rattle.protocol_laws.proofs.BooksKept.{KeepsNumbers, cases_call, keeps_all, keeps_known}
+use Rattle.protocol_laws.proofs.BooksKept.{KeepsNumbers, cases_call, keeps_all, keeps_known, keeps_replica}
 use Rattle.protocol_laws.proofs.BooksQuiet.{quiet_world, started_calls, unstarted, started_known}
 use Rattle.protocol_laws.proofs.BooksEnds.{stopped_keeps, stopped_calls, unstopped_calls}
 use Rattle.protocol_laws.proofs.BooksBegins.{call_is, other_calls, same_boots, call_number, other_number, other_operations, knows}
@@ -35,7 +35,7 @@ use Rattle.protocol_laws.proofs.SaidAlways.{always_said}
 use Rattle.protocol_laws.proofs.OwnStamps.{orders_alone, in_round}
 use Rattle.protocol_laws.proofs.Counting.{each_then}
 use Rattle.protocol.proofs.CountsAt.{CountsAt, counts_facts}
-use Rattle.protocol_laws.proofs.Tables.{put_each, get_kept, get_grown, get_one}
+use Rattle.protocol.proofs.Tables.{put_each, get_kept, get_grown, get_one}
 use Rattle.protocol_laws.proofs.Tallies.{CallTallied, Tallied, MessagesShow}
 use Rattle.protocol_laws.proofs.TalliesKept.{call_tallied_on, known_kept, tallied_on}
 use Rattle.protocol_laws.proofs.TalliesCounts.{tallied_counted}

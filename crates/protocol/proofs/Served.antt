@@ -9,8 +9,7 @@ use Rattle.fab_base.specs.Layouts.{Group, seat_in}
 use Rattle.protocol.specs.Settings.{Setting}
 use Rattle.protocol.specs.Replicas.{Replica, Reaction, handle}
 use Rattle.protocol.specs.Nodes.{Node, NodeStep, view_at, group_at, put, no_step, with_replica, replica_at, full_at, reacted, requested_at, is_served, fits_block, fitting_seat, seat_served, requested_in, requested}
-use Rattle.protocol_laws.proofs.BooksKept.{KeepsNumbers}
-use Rattle.protocol_laws.proofs.Tables.{put_each}
+use Rattle.protocol.proofs.Tables.{put_each}
 
 -- a brick ignores a request, or handles it at its seat
 pub request_each : (P : NodeStep → Type 0) (setting : Setting) (me from : BrickId) (node : Node) (call : Call) (request : Request)
@@ -82,15 +81,3 @@ parts_each Q node call reaction new old g e s =
     (λ r other. old call.group.0 call.view.0 r))
     (λ v other r. old call.group.0 v r))
     (λ h other v r. old h v r) g e s
-
--- a part that changes is of the view that its brick has learnt
-pub keeps_replica : (node : Node) (call : Call) (reaction : Reaction) → call.view.0 ≡ view_at node call.group.0
-    → KeepsNumbers node (with_replica node call reaction)
-keeps_replica node call reaction view = record {
-  boot = refl;
-  seq = refl;
-  learnt = refl;
-  accepted = refl;
-  parts = parts_each (λ g e s r. (r ≡ node.replicas g e s) ⊎ (e ≡ view_at node g)) node call reaction (inr view) (λ g e s. inl refl);
-  known = omega arith;
-}
