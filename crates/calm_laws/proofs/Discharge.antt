@@ -167,7 +167,7 @@ module _ (setting : Setting) (sound : IsSound setting) (encodes : EncodesBlocks 
         (was_kept w said.logged c.call.group.0 c.call.stripe.0 i t (held_view i t held) held);
     top_view = λ i.
         subst (λ (r : Replica). (top_of r).view.0 ≤ 1) (sym (part i))
-        (known_most (top_of (part_of w c.call.group.0 c.call.stripe.0 i)) (said.tops c.call.group.0 c.call.stripe.0 i));
+        (known_most (top_of (part_of w c.call.group.0 c.call.stripe.0 i)) (said.tops c.call.group.0 1 c.call.stripe.0 i));
     unheld = λ i. ⊎_elim
         (λ (held : is_held c.stamp (replica_at (w.nodes i) c.call).log ≡ true). absurd (not_yet i (subst (λ (r : Replica). is_held c.stamp r.log ≡ true) (part i) held)))
         (λ (isnt : is_held c.stamp (replica_at (w.nodes i) c.call).log ≡ false). isnt)

@@ -9,9 +9,9 @@ use Rattle.fab_base.specs.declared.asks.Ask.{Ask}
 use Rattle.reg_model.specs.declared.marks.Mark.{Mark}
 use Rattle.reg_model.specs.declared.marks.Mark.TheVariants.{Begin, End, Crash}
 use Rattle.reg_model.specs.Marks.{Ending, Answered, Interrupted, ending_of, Life, life_of, IsUnended, IsOpen, IsWellFormed, begun_numbers, is_of_stripe, concerns, stripe_marks}
-use Rattle.protocol_laws.proofs.Lives.{EndingStays, EndingStays-open, LifeStays, with_ending, onward, life_onward, life_of-append}
-use Rattle.protocol_laws.proofs.RisingMarks.{RisesFrom-filter, increasing_positions, NumbersRise, NumbersRise-filter, NumbersRise-none, NumbersRise-increasing, RisesFrom-increasing, increasing_numbers, begin_cases}
-use Rattle.protocol_laws.proofs.MarkLists.{begun_lives}
+use Rattle.reg_model.proofs.GrowingLives.{EndingStays, EndingStays-open, LifeStays, with_ending, onward, life_onward, life_of-append}
+use Rattle.reg_model.proofs.RisingMarks.{RisesFrom-filter, increasing_positions, NumbersRise, NumbersRise-filter, NumbersRise-none, NumbersRise-increasing, RisesFrom-increasing, increasing_numbers, begin_cases}
+use Rattle.reg_model.proofs.AddedMarks.{begun_lives}
 
 -- a function of a choice
 cond_ap : {A B : Type 0} (f : A → B) (t : Bool) (x y : A) → f (cond t x y) ≡ cond t (f x) (f y)

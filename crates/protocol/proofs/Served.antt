@@ -1,7 +1,7 @@
 -- What a brick does with a request: it ignores it, or changes its part of the call's stripe in the view that it has learnt.
-use Rattle.std.proofs.Common.{◌≡◌, ℕ, ◌⊎◌, inl, inr, not, ◌&&◌, nat_lt, Option, Some, None, refl, arith}
+use Rattle.std.proofs.Common.{◌≡◌, ℕ, ◌⊎◌, inl, inr, not, ◌&&◌, nat_lt, Option, Some, None, refl, arith, false}
 use Rattle.std.specs.Prelude.{nat_eq}
-use Rattle.std.proofs.lemmas.Bool.{cond_both, eqb-true, and_parts}
+use Rattle.std.proofs.lemmas.Bool.{cond_both, eqb-true, and_parts, not-true}
 use Rattle.fab_base.specs.declared.identities.BrickId.{BrickId}
 use Rattle.messages.specs.declared.calls.Call.{Call}
 use Rattle.messages.specs.declared.requests.Request.{Request}
@@ -9,8 +9,7 @@ use Rattle.fab_base.specs.Layouts.{Group, seat_in}
 use Rattle.protocol.specs.Settings.{Setting}
 use Rattle.protocol.specs.Replicas.{Replica, Reaction, handle}
 use Rattle.protocol.specs.Nodes.{Node, NodeStep, view_at, group_at, put, no_step, with_replica, replica_at, full_at, reacted, requested_at, is_served, fits_block, fitting_seat, seat_served, requested_in, requested}
-use Rattle.protocol_laws.proofs.BooksKept.{KeepsNumbers}
-use Rattle.protocol_laws.proofs.Tables.{put_each}
+use Rattle.protocol.proofs.Tables.{put_each}
 
 -- a brick ignores a request, or handles it at its seat
 pub request_each : (P : NodeStep → Type 0) (setting : Setting) (me from : BrickId) (node : Node) (call : Call) (request : Request)
@@ -57,6 +56,18 @@ served_seat setting me node call request group seat at =
         (λ fits is. is) (λ isnt none. absurd (let never : None ≡ Some seat = none in cc))
         at
 
+-- and the brick has accepted no list to follow the view
+pub served_open : (setting : Setting) (me : BrickId) (node : Node) (call : Call) (request : Request) (group : Group) (seat : ℕ)
+    → seat_served setting.layout me node call request group ≡ Some seat → node.accepted call.group.0 ≡ false
+served_open setting me node call request group seat at =
+    cond_both (is_served group node call) (fitting_seat setting.layout.block group.m request (seat_in group.members me.0)) None
+    (λ (z : Option ℕ). z ≡ Some seat → node.accepted call.group.0 ≡ false)
+    (λ served fits.
+    let view = and_parts (nat_lt call.stripe.0 group.stripes) (nat_eq call.view.0 (view_at node call.group.0) && not (node.accepted call.group.0)) served in
+    not-true (node.accepted call.group.0) (and_parts (nat_eq call.view.0 (view_at node call.group.0)) (not (node.accepted call.group.0)) view.1).1)
+    (λ isnt none. absurd (let never : None ≡ Some seat = none in cc))
+    at
+
 -- what holds of the changed part, and of each part as it was
 pub parts_each : (Q : ℕ → ℕ → ℕ → Replica → Type 0) (node : Node) (call : Call) (reaction : Reaction)
     → Q call.group.0 call.view.0 call.stripe.0 reaction.replica
@@ -70,15 +81,3 @@ parts_each Q node call reaction new old g e s =
     (λ r other. old call.group.0 call.view.0 r))
     (λ v other r. old call.group.0 v r))
     (λ h other v r. old h v r) g e s
-
--- a part that changes is of the view that its brick has learnt
-pub keeps_replica : (node : Node) (call : Call) (reaction : Reaction) → call.view.0 ≡ view_at node call.group.0
-    → KeepsNumbers node (with_replica node call reaction)
-keeps_replica node call reaction view = record {
-  boot = refl;
-  seq = refl;
-  learnt = refl;
-  accepted = refl;
-  parts = parts_each (λ g e s r. (r ≡ node.replicas g e s) ⊎ (e ≡ view_at node g)) node call reaction (inr view) (λ g e s. inl refl);
-  known = omega arith;
-}

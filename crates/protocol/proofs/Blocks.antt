@@ -11,7 +11,10 @@ use Rattle.fab_base.specs.declared.asks.Op.TheVariants.{ReadBlock, WriteBlock, R
 use Rattle.reg_model.specs.Registers.{block_of, with_block, after_op}
 use Rattle.protocol.specs.Settings.{are_bytes}
 use Rattle.protocol.specs.Nodes.{has_block, has_length}
-use Rattle.protocol_laws.proofs.Said.{IsContent}
+
+-- a stripe's content: the bytes of m blocks
+abbrev pub IsContent : ℕ → ℕ → List ℕ → Type 0
+IsContent m block content = (length content ≡ m * block) × (are_bytes content ≡ true)
 
 -- block j of m blocks ends within them
 pub block_room : (j m block : ℕ) → j < m → j * block + block ≤ m * block
