@@ -6,7 +6,8 @@
 Without FILE: README.md, docs/*.md and bench/gate/README.md. It prints, and counts:
 - each sentence of more than 40 words. Tables, code blocks and headings are left out; a piece of code within a sentence is one word;
 - each word of the list below, which the pages don't use, with what they say in its place;
-- each link to a file of this repository that is not there.
+- each link to a file of this repository, and each file in code with its folder, that is not there. Such a file may be given from the top, from `crates/`, or from
+  the folder of any crate.
 """
 
 import glob
@@ -22,6 +23,7 @@ UNUSED = {
     "so-manieth": "number n",
     "mean ill": "hostile",
 }
+FILE = re.compile(r"`(?:\.\./)*([\w.-]+(?:/[\w.-]+)*/[\w.-]+\.(?:rt|antt|md|py|sh|svg|rs|c))(?::\d+)?`")
 TOP = os.path.dirname(os.path.dirname(os.path.abspath(__file__)))
 
 
@@ -53,6 +55,11 @@ def sentences(block):
     return re.split(r"(?<=[.!?])[)\"*]*\s+(?=[\"(*]*[A-Z0-9])", plain)
 
 
+def is_there(file):
+    """Whether a file is there, from the top, from `crates/` or from the folder of some crate."""
+    return any(glob.glob(f"{TOP}/{folder}{file}") for folder in ("", "crates/", "crates/*/"))
+
+
 def faults_of(path):
     """What is amiss in a page: lines to print."""
     with open(path) as it:
@@ -70,6 +77,9 @@ def faults_of(path):
         for link in re.findall(r"\]\(([^)#\s]+)[^)]*\)", line):
             if "://" not in link and not os.path.exists(os.path.join(os.path.dirname(path), link)):
                 yield f"{name}:{number}: no such file: {link}"
+        for file in FILE.findall(line):
+            if not is_there(file):
+                yield f"{name}:{number}: no such file: {file}"
 
 
 def main(words):
