@@ -4,7 +4,8 @@
     bench/headline.py [--mend]
 
 A row of a table there is a definition: its file and line, its name, how many lines it has, and what its own comment says. The tool looks for the
-name in that file, or in the only other file that defines it. It then compares the line, the count and the text, and with --mend writes them.
+name in that file, or in the only other one of its kind that defines it: look whether what moved so is what was meant. It then compares the line, the count
+and the text, and with --mend writes them.
 So a row is added by its file and name alone, as `| `FILE:0` | `NAME` | 0 | |`. A row with files in its second column and a number in its third
 has the count of all lines of these files or folders; `this page` stands for all definitions that are listed.
 
@@ -49,10 +50,11 @@ def places(path, name):
 
 
 def find(path, name):
-    """The file and line of a definition: in this file, or else in the only one that has it, of this crate or of any."""
+    """The file and line of a definition: in this file, or else in the only one of its kind that has it, of this crate or of any."""
     at = places(path, name)
+    kind = "src/**/*.rt" if path.endswith(".rt") else "specs/**/*.antt"
     for root in () if at else (path.split("/")[0], "*"):
-        files = sorted(glob.glob(f"{TOP}/crates/{root}/specs/**/*.antt", recursive=True) + glob.glob(f"{TOP}/crates/{root}/src/**/*.rt", recursive=True))
+        files = sorted(glob.glob(f"{TOP}/crates/{root}/{kind}", recursive=True))
         found = [(other, places(other, name)) for other in (os.path.relpath(file, f"{TOP}/crates") for file in files)]
         found = [(other, at) for other, at in found if at]
         if len(found) == 1:
@@ -108,6 +110,8 @@ def mended(page):
             if found is None:
                 faults.append(f"{PAGE}:{number + 1}: no one definition of {name}")
                 continue
+            if found[0] != path:
+                print(f"{name} is no longer in {path}: taken from {found[0]}")
             here, lines = f"{found[0]}:{found[1] + 1}", size(*found)
             total += lines
             own = says(*found)
