@@ -142,7 +142,7 @@ module _ (setting : Setting) (sound : IsSound setting) (encodes : EncodesBlocks 
       by (x ∷ log) some = ⊎_elim
           (λ (first : x.stamp ≡ first_stamp). inl first)
           (λ (was : WasCollected w c.call.group.0 c.call.stripe.0 x.stamp). inr (collected_stands x.stamp was))
-          (said.lowest c.call.group.0 c.call.stripe.0 i x log some)
+          (said.lowest c.call.group.0 1 c.call.stripe.0 i x log some)
 
   -- a version that was held is of view 1
   held_view : (i : ℕ) (t : Stamp) → w.held i c.call.group.0 c.call.stripe.0 t ≡ true → view_of t ≡ 1
@@ -174,7 +174,7 @@ module _ (setting : Setting) (sound : IsSound setting) (encodes : EncodesBlocks 
         (cases_Bool (is_held c.stamp (replica_at (w.nodes i) c.call).log));
     blocks = λ i seat k version seat_is at_k.
         ap (λ (l : List ℕ). length l)
-        ((said.logs c.call.group.0 c.call.stripe.0 i k version (ap (λ (r : Replica). slice_get r.log k) (sym (part i)) ∙ at_k)).block c.group seat call_group seat_is)
+        ((said.logs c.call.group.0 1 c.call.stripe.0 i k version (ap (λ (r : Replica). slice_get r.log k) (sym (part i)) ∙ at_k)).block c.group seat call_group seat_is)
         ∙ encodes c.group.m (w.contents c.call.group.0 c.call.stripe.0 version.stamp) seat;
     short = λ i.
         let inside : length (part_of w c.call.group.0 c.call.stripe.0 i).log ≤ (w.nodes i).live + 1
@@ -205,7 +205,7 @@ module _ (setting : Setting) (sound : IsSound setting) (encodes : EncodesBlocks 
           let place = held_stands c.stamp (part_of w c.call.group.0 c.call.stripe.0 i).log held in
           let made : IsMadeOrFirst w c.call.group.0 c.call.stripe.0 c.stamp
           = subst (λ (t : Stamp). IsMadeOrFirst w c.call.group.0 c.call.stripe.0 t) place.3
-          (said.logs c.call.group.0 c.call.stripe.0 i place.0 place.1 place.2).made in
+          (said.logs c.call.group.0 1 c.call.stripe.0 i place.0 place.1 place.2).made in
           not_made_yet setting w stamps books said n o c.call.phase c.stamp is unmade stamped c.call.group.0 c.call.stripe.0 made
         where
           -- the operation has made nothing in its first phase

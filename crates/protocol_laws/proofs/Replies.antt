@@ -58,8 +58,8 @@ said_known setting w stamps me known books said more =
           (ages_within (w.nodes me.0) (with_known (w.nodes me.0) known) refl more (omega arith));
       stamps_other = λ i b k other p. refl;
       tops = λ g e s. inl refl;
-      logs = λ g s k version is. inl (k, is);
-      lowest = λ g s x log is. inl (log, is);
+      logs = λ g e s k version is. inl (k, is);
+      lowest = λ g e s x log is. inl (log, is);
       calls = λ k c is. inl (is, λ p. refl);
       packets = λ k packet is. cc;
     })
@@ -154,8 +154,8 @@ module _ (setting : Setting) (sound : IsSound setting) (w : World) (stamps : Sta
               (ages_within (w.nodes me.0) node refl more_known (omega arith));
           stamps_other = λ i b k other p. refl;
           tops = λ g e s. inl refl;
-          logs = λ g s k version at. inl (k, at);
-          lowest = λ g s x log at. inl (log, at);
+          logs = λ g e s k version at. inl (k, at);
+          lowest = λ g e s x log at. inl (log, at);
           calls = λ k e.
               put_each (λ j x. x ≡ Some e
               → (((w.nodes me.0).calls j ≡ Some e) × KeepsStamps stamps stamps me.0 (w.nodes me.0).boot j)

@@ -233,7 +233,7 @@ module _ (setting : Setting) (w : World) (stamps : Stamping) (me from : BrickId)
         = asks_as (Request.Modify version.stamp old.stamp j delta) is in
         let stands = newest_stands before.log old newest in
         let kept : VersionSays setting w call.group.0 call.stripe.0 me.0 old
-        = said.logs call.group.0 call.stripe.0 me.0 stands.0 old stands.1 in
+        = said.logs call.group.0 1 call.stripe.0 me.0 stands.0 old stands.1 in
         let change : ChangesBlock setting w call.group.0 call.stripe.0 version.stamp old.stamp j delta group seat = says.changes group seat group_is seat_is in
         let block : version.block ≡ setting.code.encode group.m (w.contents call.group.0 call.stripe.0 version.stamp) seat
         = block_is ∙ ap (λ (z : List ℕ). modified_block setting.code group.m j seat delta z) (kept.block group seat group_is seat_is) ∙ change.makes in
@@ -242,9 +242,9 @@ module _ (setting : Setting) (w : World) (stamps : Stamping) (me from : BrickId)
           block = at_hand (λ z k. version.block ≡ setting.code.encode z.m (w.contents call.group.0 call.stripe.0 version.stamp) k) block;
         }
 
-    logs : (g s k : ℕ) (version : Version) → slice_get ((with_replica (w.nodes me.0) call reaction).replicas g 1 s).log k ≡ Some version
-        → ((j : ℕ) × (slice_get ((w.nodes me.0).replicas g 1 s).log j ≡ Some version)) ⊎ VersionSays setting next g s me.0 version
-    logs g s k version = parts_each
+    logs : (g e s k : ℕ) (version : Version) → slice_get ((with_replica (w.nodes me.0) call reaction).replicas g e s).log k ≡ Some version
+        → ((j : ℕ) × (slice_get ((w.nodes me.0).replicas g e s).log j ≡ Some version)) ⊎ VersionSays setting next g s me.0 version
+    logs g e s k version = parts_each
         (λ h e r x. slice_get x.log k ≡ Some version
         → ((j : ℕ) × (slice_get ((w.nodes me.0).replicas h e r).log j ≡ Some version)) ⊎ VersionSays setting next h r me.0 version)
         (w.nodes me.0) call reaction
@@ -253,12 +253,12 @@ module _ (setting : Setting) (w : World) (stamps : Stamping) (me from : BrickId)
         (λ (new : StoresBlock setting.code group.m seat before request version.stamp version.block).
         inr (stays_version setting w next stamps stamps books grows call.group.0 call.stripe.0 me.0 version (stored_version version new)))
         (after_log setting.code group.m seat before request part k version after is))
-        (λ h e r is. inl (k, is)) g 1 s
+        (λ h v r is. inl (k, is)) g e s
 
     -- the lowest version is as before, or one that was collected
-    lowest : (g s : ℕ) (x : Version) (log : List Version) → ((with_replica (w.nodes me.0) call reaction).replicas g 1 s).log ≡ x ∷ log
-        → ((rest : List Version) × (((w.nodes me.0).replicas g 1 s).log ≡ x ∷ rest)) ⊎ WasCollected next g s x.stamp
-    lowest g s x log = parts_each
+    lowest : (g e s : ℕ) (x : Version) (log : List Version) → ((with_replica (w.nodes me.0) call reaction).replicas g e s).log ≡ x ∷ log
+        → ((rest : List Version) × (((w.nodes me.0).replicas g e s).log ≡ x ∷ rest)) ⊎ WasCollected next g s x.stamp
+    lowest g e s x log = parts_each
         (λ h e r y. y.log ≡ x ∷ log → ((rest : List Version) × (((w.nodes me.0).replicas h e r).log ≡ x ∷ rest)) ⊎ WasCollected next h r x.stamp)
         (w.nodes me.0) call reaction
         (λ is. ⊎_elim
@@ -273,7 +273,7 @@ module _ (setting : Setting) (w : World) (stamps : Stamping) (me from : BrickId)
           stripe = refl;
         }))
         (after_lowest setting.code group.m seat before request part lowest_is.0 x lowest_is.1 log rises after lowest_is.2 is))
-        (λ h e r is. inl (log, is)) g 1 s
+        (λ h v r is. inl (log, is)) g e s
 
     -- the member's part after the request
     now : part_of next call.group.0 call.stripe.0 me.0 ≡ part
@@ -309,7 +309,7 @@ module _ (setting : Setting) (w : World) (stamps : Stamping) (me from : BrickId)
     told_says version kept told place =
         let old : Version = told.0 in
         let at = place old told.1 in
-        let says : VersionSays setting w call.group.0 call.stripe.0 me.0 old = said.logs call.group.0 call.stripe.0 me.0 at.0 old at.1 in
+        let says : VersionSays setting w call.group.0 call.stripe.0 me.0 old = said.logs call.group.0 1 call.stripe.0 me.0 at.0 old at.1 in
         record {
           made = subst (λ (t : Stamp). IsMadeOrFirst w call.group.0 call.stripe.0 t) (sym told.2) says.made;
           block = ⊎_elim
@@ -343,7 +343,7 @@ module _ (setting : Setting) (w : World) (stamps : Stamping) (me from : BrickId)
               (stamp_below_irrefl (top_of before)));
           held = subst (λ (t : Stamp). w.held me.0 call.group.0 call.stripe.0 t ≡ true) (sym stamp)
               (held_in w said.logged call.group.0 call.stripe.0 me.0 old.stamp (made_view setting w stamps books said
-              call.group.0 call.stripe.0 old.stamp (said.logs call.group.0 call.stripe.0 me.0 stands.0 old stands.1).made)
+              call.group.0 call.stripe.0 old.stamp (said.logs call.group.0 1 call.stripe.0 me.0 stands.0 old stands.1).made)
               (newest_held before.log old newest));
           says = told_says version (newest_of before.log) told.2 (λ kept is. newest_stands before.log kept is);
         }
@@ -404,7 +404,7 @@ module _ (setting : Setting) (w : World) (stamps : Stamping) (me from : BrickId)
           most = stamp_not_below_trans x.stamp (top_of before) t (held_top before x.stamp rises here) above;
           collected = stays_collected w next grows.sent call.group.0 call.stripe.0 x.stamp collected;
         }))
-        (said.lowest call.group.0 call.stripe.0 me.0 x lowest_is.1 lowest_is.2))
+        (said.lowest call.group.0 1 call.stripe.0 me.0 x lowest_is.1 lowest_is.2))
         (cases_Bool (is_looked look x.stamp))
 
     found_told : (found : Option Version) (kept : Option Version) (version : Version) → IsTold found kept → found ≡ Some version
@@ -448,7 +448,7 @@ module _ (setting : Setting) (w : World) (stamps : Stamping) (me from : BrickId)
               grows.parts.held call.group.0 call.stripe.0 me.0 version.stamp
               (subst (λ (t : Stamp). w.held me.0 call.group.0 call.stripe.0 t ≡ true) (sym tells.2)
               (held_in w said.logged call.group.0 call.stripe.0 me.0 tells.0.stamp (made_view setting w stamps books said
-              call.group.0 call.stripe.0 tells.0.stamp (said.logs call.group.0 call.stripe.0 me.0 at.0 tells.0 at.1).made)
+              call.group.0 call.stripe.0 tells.0.stamp (said.logs call.group.0 1 call.stripe.0 me.0 at.0 tells.0 at.1).made)
               (place_held before.log at.0 tells.0 at.1)));
           says = λ version is.
               stays_told setting w next stamps stamps books grows call.group.0 call.stripe.0 me.0 version

@@ -419,9 +419,9 @@ pub record Said (setting : Setting) (w : World) (stamps : Stamping) : Type 0 whe
   pub stamps_say : StampsSay w stamps
   pub tops : (g e s i : ℕ) → IsKnown stamps (top_of (part_in w g e s i))
   pub first_held : (g s i : ℕ) → w.held i g s first_stamp ≡ true
-  pub logs : (g s i k : ℕ) (version : Version) → slice_get (part_of w g s i).log k ≡ Some version → VersionSays setting w g s i version
-  pub lowest : (g s i : ℕ) (x : Version) (log : List Version) → (part_of w g s i).log ≡ x ∷ log → (x.stamp ≡ first_stamp) ⊎ WasCollected w g s x.stamp
-  pub held_made : (g s i : ℕ) (t : Stamp) → view_of t ≡ 1 → w.held i g s t ≡ true → IsMadeOrFirst w g s t
+  pub logs : (g e s i k : ℕ) (version : Version) → slice_get (part_in w g e s i).log k ≡ Some version → VersionSays setting w g s i version
+  pub lowest : (g e s i : ℕ) (x : Version) (log : List Version) → (part_in w g e s i).log ≡ x ∷ log → (x.stamp ≡ first_stamp) ⊎ WasCollected w g s x.stamp
+  pub held_made : (g s i : ℕ) (t : Stamp) → w.held i g s t ≡ true → IsMadeOrFirst w g s t
   pub packets : (k : ℕ) (packet : Packet) → slice_get w.packets k ≡ Some packet → PacketSays setting w stamps packet
   pub operations : (n : ℕ) (o : Operation) → IsOperation w n o → OperationSays setting w stamps n o
   pub calls : (i k : ℕ) (c : Coordinator) → IsCall w i k c → CallSays setting w stamps i k c

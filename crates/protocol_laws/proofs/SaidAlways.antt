@@ -1,6 +1,6 @@
 -- What is said is so in every world that a run reaches.
 use Rattle.protocol_laws.proofs.Blocking.{first_fits}
-use Rattle.std.proofs.Common.{◌≡◌, ℕ, ◌<◌, ◌≤◌, ◌+◌, inl, true, false, List, [], ◌∷◌, ◌++◌, length, replicate, Option, Some, None, refl, sym, ap, ◌∙◌, subst, ⊎_elim, arith}
+use Rattle.std.proofs.Common.{◌≡◌, ℕ, ◌<◌, ◌≤◌, ◌+◌, inl, true, false, List, [], ◌∷◌, ◌++◌, length, replicate, Option, Some, None, refl, sym, ap, ◌∙◌, subst, ⊎_elim, arith, ◌⊎◌}
 use Rattle.std.specs.Prelude.{slice_get, nat_eq}
 use Rattle.std.proofs.lemmas.List.{append-nil, length-append}
 use Rattle.std.proofs.lemmas.Bool.{cond-false, false≢true, or_left, or_cases, cond_both}
@@ -28,7 +28,7 @@ use Rattle.protocol_laws.specs.Laws.{WasSent}
 use Rattle.protocol_laws.proofs.FirstViews.{group_first, view_first}
 use Rattle.protocol_laws.proofs.Books.{Books, IsCall}
 use Rattle.protocol_laws.proofs.Left.{IsLeft, Leaves, always_leaves, packet_was_sent}
-use Rattle.protocol_laws.proofs.Said.{Stamping, Said, IsSaid, IsStampOf, VersionSays}
+use Rattle.protocol_laws.proofs.Said.{Stamping, Said, IsSaid, IsStampOf, VersionSays, WasCollected, IsMadeOrFirst}
 use Rattle.protocol_laws.proofs.BooksEvents.{known_grows, fresh_is, BeginFits, begin_fits, start_fits, books_found, books, books_beside}
 use Rattle.protocol.proofs.Tables.{get_one, get_kept, get_grown}
 use Rattle.reg_model.proofs.GrowingLives.{last_grows}
@@ -42,6 +42,7 @@ use Rattle.protocol_laws.proofs.Replies.{said_known, said_after_reply}
 use Rattle.protocol_laws.proofs.Begins.{said_began}
 use Rattle.protocol.proofs.Events.{EventCases, world_handled, world_counting, always_where}
 use Rattle.protocol_laws.proofs.StampViews.{StampViews, always_views}
+use Rattle.protocol.specs.Views.{view_of}
 
 -- the world after a brick's step
 abbrev stepped : Setting → World → BrickId → NodeStep → World
@@ -297,7 +298,10 @@ said_first setting sound = (
     tops = λ g e s i. inl (cond_both (nat_eq e 1) (first_replica setting.layout.block) _ (λ (r : Replica). top_of r ≡ first_stamp)
         (λ one. first_top setting.layout.block) (λ other. top_is_order _ refl));
     first_held = λ g s i. or_left (stamp_same first_stamp first_stamp) false (stamp_same_refl first_stamp);
-    logs = λ g s i k version is.
+    logs = λ g e s i k version.
+        cond_both (nat_eq e 1) (first_replica setting.layout.block) _
+        (λ (r : Replica). slice_get r.log k ≡ Some version → VersionSays setting (first_world setting.layout) g s i version)
+        (λ one is.
         let same : record { stamp = first_stamp; block = replicate setting.layout.block 0 } ≡ version
         = get_one (record { stamp = first_stamp; block = replicate setting.layout.block 0 }) version k is in
         subst (λ (z : Version). VersionSays setting (first_world setting.layout) g s i z) same (record {
@@ -305,21 +309,28 @@ said_first setting sound = (
           block = λ group seat group_is at.
               sym (sound.zero_blocks group.m (length group.members) seat (sound.limits g group group_is))
               ∙ ap (λ (z : Option Group). setting.code.encode group.m (zero_content setting.layout.block z) seat) (sym group_is);
-        });
+        }))
+        (λ other is. absurd (let never : None ≡ Some version = is in cc));
     packets = λ k packet is. cc;
     operations = λ n o is. cc;
     calls = λ i k c is. cc;
     ends = λ k p n answer is. cc;
     order = λ a b earlier late u earlier_is late_is groups stripes version. cc;
     first = λ g s. refl;
-    lowest = λ g s i x log is.
-        let same : record { stamp = first_stamp; block = replicate setting.layout.block 0 } ≡ x = cc in inl (ap (λ (z : Version). z.stamp) (sym same));
-    held_made = λ g s i t view held.
-        let there = subst (λ (e : ℕ). is_held t (fresh_replica setting.layout.block e).log ≡ true) view held in
-        ⊎_elim
+    lowest = λ g e s i x log.
+        cond_both (nat_eq e 1) (first_replica setting.layout.block) _
+        (λ (r : Replica). r.log ≡ x ∷ log → (x.stamp ≡ first_stamp) ⊎ WasCollected (first_world setting.layout) g s x.stamp)
+        (λ one is.
+        let same : record { stamp = first_stamp; block = replicate setting.layout.block 0 } ≡ x = cc in inl (ap (λ (z : Version). z.stamp) (sym same)))
+        (λ other is. absurd (let never : [] ≡ x ∷ log = is in cc));
+    held_made = λ g s i t.
+        cond_both (nat_eq (view_of t) 1) (first_replica setting.layout.block) _
+        (λ (r : Replica). is_held t r.log ≡ true → IsMadeOrFirst (first_world setting.layout) g s t)
+        (λ one there. ⊎_elim
         (λ (first : stamp_same first_stamp t ≡ true). inl (sym (stamp_same_true first_stamp t first)))
         (λ (none : false ≡ true). absurd (false≢true none))
-        (or_cases (stamp_same first_stamp t) false there);
+        (or_cases (stamp_same first_stamp t) false there))
+        (λ other there. absurd (false≢true there));
     logged = first_fits setting;
   },
 )

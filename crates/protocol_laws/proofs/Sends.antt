@@ -285,8 +285,8 @@ module _ (setting : Setting) (sound : IsSound setting) (w : World) (stamps : Sta
               omega arith);
           stamps_other = λ i b k other. stamps_other stamps me.0 boot c.call.seq (c.call.phase + 1) begun i b k (λ brick same. other brick);
           tops = λ g e s. inl refl;
-          logs = λ g s k version at. inl (k, at);
-          lowest = λ g s x log at. inl (log, at);
+          logs = λ g e s k version at. inl (k, at);
+          lowest = λ g e s x log at. inl (log, at);
           calls = calls;
           packets = packets;
         }),

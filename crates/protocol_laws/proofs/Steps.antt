@@ -48,10 +48,10 @@ StaysOpen w stamps later i k c boot = IsCall w i k c × (boot ≡ (w.nodes i).bo
 pub record Owes (setting : Setting) (w next : World) (stamps later : Stamping) : Type 0 where
   pub stamps_say : StampsSay next later
   pub tops : (g e s i : ℕ) → (top_of (part_in next g e s i) ≡ top_of (part_in w g e s i)) ⊎ IsKnown later (top_of (part_in next g e s i))
-  pub logs : (g s i k : ℕ) (version : Version) → slice_get (part_of next g s i).log k ≡ Some version
-      → ((j : ℕ) × (slice_get (part_of w g s i).log j ≡ Some version)) ⊎ VersionSays setting next g s i version
-  pub lowest : (g s i : ℕ) (x : Version) (log : List Version) → (part_of next g s i).log ≡ x ∷ log
-      → ((more : List Version) × ((part_of w g s i).log ≡ x ∷ more)) ⊎ WasCollected next g s x.stamp
+  pub logs : (g e s i k : ℕ) (version : Version) → slice_get (part_in next g e s i).log k ≡ Some version
+      → ((j : ℕ) × (slice_get (part_in w g e s i).log j ≡ Some version)) ⊎ VersionSays setting next g s i version
+  pub lowest : (g e s i : ℕ) (x : Version) (log : List Version) → (part_in next g e s i).log ≡ x ∷ log
+      → ((more : List Version) × ((part_in w g e s i).log ≡ x ∷ more)) ⊎ WasCollected next g s x.stamp
   pub packets : (k : ℕ) (packet : Packet) → slice_get next.packets k ≡ Some packet
       → (slice_get w.packets k ≡ Some packet) ⊎ PacketSays setting next later packet
   pub operations : (n : ℕ) (o : Operation) → IsOperation next n o → IsOperation w n o ⊎ OperationSays setting next later n o
@@ -73,18 +73,18 @@ said_after setting w next stamps later books said grows owes = record {
       (λ (new : IsKnown later (top_of (part_in next g e s i))). new)
       (owes.tops g e s i);
   logs = logs;
-  lowest = λ g s i x log is. ⊎_elim
-      (λ (old : (more : List Version) × ((part_of w g s i).log ≡ x ∷ more)). ⊎_elim
+  lowest = λ g e s i x log is. ⊎_elim
+      (λ (old : (more : List Version) × ((part_in w g e s i).log ≡ x ∷ more)). ⊎_elim
       (λ (first : x.stamp ≡ first_stamp). inl first)
       (λ (was : WasCollected w g s x.stamp). inr (stays_collected w next grows.sent g s x.stamp was))
-      (said.lowest g s i x old.0 old.1))
+      (said.lowest g e s i x old.0 old.1))
       (λ (new : WasCollected next g s x.stamp). inr new)
-      (owes.lowest g s i x log is);
-  held_made = λ g s i t view held. ⊎_elim
-      (λ (was : w.held i g s t ≡ true). stays_made setting w next stamps later books grows g s t (said.held_made g s i t view was))
+      (owes.lowest g e s i x log is);
+  held_made = λ g s i t held. ⊎_elim
+      (λ (was : w.held i g s t ≡ true). stays_made setting w next stamps later books grows g s t (said.held_made g s i t was))
       (λ (new : is_held t (part_in next g (view_of t) s i).log ≡ true).
-      let at = held_stands t (part_of next g s i).log (ap (λ (e : ℕ). is_held t (part_in next g e s i).log) (sym view) ∙ new) in
-      subst (λ (z : Stamp). IsMadeOrFirst next g s z) at.3 (logs g s i at.0 at.1 at.2).made)
+      let at = held_stands t (part_in next g (view_of t) s i).log new in
+      subst (λ (z : Stamp). IsMadeOrFirst next g s z) at.3 (logs g (view_of t) s i at.0 at.1 at.2).made)
       (grows.fresh i g s t held);
   packets = λ k packet is. ⊎_elim
       (λ (old : slice_get w.packets k ≡ Some packet). stays_packet setting w next stamps later books grows packet (said.packets k packet old))
@@ -109,12 +109,12 @@ said_after setting w next stamps later books said grows owes = record {
   logged = grows.parts.logged;
 }
   where
-    logs : (g s i k : ℕ) (version : Version) → slice_get (part_of next g s i).log k ≡ Some version → VersionSays setting next g s i version
-    logs g s i k version is = ⊎_elim
-        (λ (old : (j : ℕ) × (slice_get (part_of w g s i).log j ≡ Some version)).
-        stays_version setting w next stamps later books grows g s i version (said.logs g s i old.0 version old.1))
+    logs : (g e s i k : ℕ) (version : Version) → slice_get (part_in next g e s i).log k ≡ Some version → VersionSays setting next g s i version
+    logs g e s i k version is = ⊎_elim
+        (λ (old : (j : ℕ) × (slice_get (part_in w g e s i).log j ≡ Some version)).
+        stays_version setting w next stamps later books grows g s i version (said.logs g e s i old.0 version old.1))
         (λ (new : VersionSays setting next g s i version). new)
-        (owes.logs g s i k version is)
+        (owes.logs g e s i k version is)
 
 -- one brick comes no less far than before, keeps what it kept, takes nothing new below what it had come to, and its logs go on ascending
 pub record KeepsParts (node next : Node) : Type 0 where
@@ -304,10 +304,10 @@ pub record QuietOwes (setting : Setting) (w : World) (stamps later : Stamping) (
   pub stamps_say : StampsSay (quiet w me node more) later
   pub stamps_other : (i b k : ℕ) → i ≢ me.0 → KeepsStamps stamps later i b k
   pub tops : (g e s : ℕ) → (top_of (node.replicas g e s) ≡ top_of ((w.nodes me.0).replicas g e s)) ⊎ IsKnown later (top_of (node.replicas g e s))
-  pub logs : (g s k : ℕ) (version : Version) → slice_get (node.replicas g 1 s).log k ≡ Some version
-      → ((j : ℕ) × (slice_get ((w.nodes me.0).replicas g 1 s).log j ≡ Some version)) ⊎ VersionSays setting (quiet w me node more) g s me.0 version
-  pub lowest : (g s : ℕ) (x : Version) (log : List Version) → (node.replicas g 1 s).log ≡ x ∷ log
-      → ((rest : List Version) × (((w.nodes me.0).replicas g 1 s).log ≡ x ∷ rest)) ⊎ WasCollected (quiet w me node more) g s x.stamp
+  pub logs : (g e s k : ℕ) (version : Version) → slice_get (node.replicas g e s).log k ≡ Some version
+      → ((j : ℕ) × (slice_get ((w.nodes me.0).replicas g e s).log j ≡ Some version)) ⊎ VersionSays setting (quiet w me node more) g s me.0 version
+  pub lowest : (g e s : ℕ) (x : Version) (log : List Version) → (node.replicas g e s).log ≡ x ∷ log
+      → ((rest : List Version) × (((w.nodes me.0).replicas g e s).log ≡ x ∷ rest)) ⊎ WasCollected (quiet w me node more) g s x.stamp
   pub calls : (k : ℕ) (c : Coordinator) → node.calls k ≡ Some c
       → (((w.nodes me.0).calls k ≡ Some c) × KeepsStamps stamps later me.0 (w.nodes me.0).boot k)
       ⊎ CallSays setting (quiet w me node more) later me.0 k c
@@ -322,14 +322,14 @@ said_quiet setting w stamps later me node more books said grow owes =
       tops = λ g e s i.
           put_each (λ j x. (top_of (x.replicas g e s) ≡ top_of ((w.nodes j).replicas g e s)) ⊎ IsKnown later (top_of (x.replicas g e s)))
           w.nodes me.0 node (owes.tops g e s) (λ j other. inl refl) i;
-      logs = λ g s i k version.
-          put_each (λ j x. slice_get (x.replicas g 1 s).log k ≡ Some version
-          → ((l : ℕ) × (slice_get ((w.nodes j).replicas g 1 s).log l ≡ Some version)) ⊎ VersionSays setting (quiet w me node more) g s j version)
-          w.nodes me.0 node (owes.logs g s k version) (λ j other is. inl (k, is)) i;
-      lowest = λ g s i x log.
-          put_each (λ j y. (y.replicas g 1 s).log ≡ x ∷ log
-          → ((rest : List Version) × (((w.nodes j).replicas g 1 s).log ≡ x ∷ rest)) ⊎ WasCollected (quiet w me node more) g s x.stamp)
-          w.nodes me.0 node (owes.lowest g s x log) (λ j other is. inl (log, is)) i;
+      logs = λ g e s i k version.
+          put_each (λ j x. slice_get (x.replicas g e s).log k ≡ Some version
+          → ((l : ℕ) × (slice_get ((w.nodes j).replicas g e s).log l ≡ Some version)) ⊎ VersionSays setting (quiet w me node more) g s j version)
+          w.nodes me.0 node (owes.logs g e s k version) (λ j other is. inl (k, is)) i;
+      lowest = λ g e s i x log.
+          put_each (λ j y. (y.replicas g e s).log ≡ x ∷ log
+          → ((rest : List Version) × (((w.nodes j).replicas g e s).log ≡ x ∷ rest)) ⊎ WasCollected (quiet w me node more) g s x.stamp)
+          w.nodes me.0 node (owes.lowest g e s x log) (λ j other is. inl (log, is)) i;
       packets = λ k packet is. ⊎_elim
           (λ (old : slice_get w.packets k ≡ Some packet). inl old)
           (λ (new : (j : ℕ) × (slice_get more j ≡ Some packet)). inr (owes.packets new.0 packet new.1))
@@ -397,8 +397,8 @@ said_added setting w stamps clocks replies reached packets books said kept old =
     said_after setting w next stamps stamps books said grows (record {
       stamps_say = stamps_stay w next stamps said.stamps_say (λ i. ages_within (w.nodes i) (w.nodes i) refl (omega arith) (omega arith));
       tops = λ g e s i. inl refl;
-      logs = λ g s i k version is. inl (k, is);
-      lowest = λ g s i x log is. inl (log, is);
+      logs = λ g e s i k version is. inl (k, is);
+      lowest = λ g e s i x log is. inl (log, is);
       packets = λ k packet is.
           let was = old packet (k, is) in
           inr (stays_packet setting w next stamps stamps books grows packet (said.packets was.0 packet was.1));
@@ -438,8 +438,8 @@ said_idle setting w stamps me node after up past marks reached books said same n
     (record {
       stamps_say = stamps_stay_by setting w next stamps me node said refl ages;
       tops = λ g e s i. inl (ap (λ (r : Replica). top_of r) (part_same w next me node refl same.2 g e s i));
-      logs = λ g s i k version is. inl (k, ap (λ (r : Replica). slice_get r.log k) (sym (part_same w next me node refl same.2 g 1 s i)) ∙ is);
-      lowest = λ g s i x log is. inl (log, ap (λ (r : Replica). r.log) (sym (part_same w next me node refl same.2 g 1 s i)) ∙ is);
+      logs = λ g e s i k version is. inl (k, ap (λ (r : Replica). slice_get r.log k) (sym (part_same w next me node refl same.2 g e s i)) ∙ is);
+      lowest = λ g e s i x log is. inl (log, ap (λ (r : Replica). r.log) (sym (part_same w next me node refl same.2 g e s i)) ∙ is);
       packets = λ k packet is. inl is;
       operations = λ n o is. inl is;
       calls = λ i k c.

@@ -107,7 +107,7 @@ module _ (setting : Setting) (views : Views) (w : World) (stamps : Stamping) (bo
         says.0.block;
     kept = λ g e s i seat k version group found seat_is at. ⊎_elim
         (λ (one : e ≡ 1).
-        (said.logs g s i k version (ap (λ (x : ℕ). slice_get (part_in w g x s i).log k) (sym one) ∙ at)).block group seat
+        (said.logs g e s i k version at).block group seat
         (group_first setting w first views follows g e group one found) seat_is)
         (λ (other : e ≢ 1).
         absurd (let never : slice_get [] k ≡ Some version
@@ -202,7 +202,7 @@ module _ (setting : Setting) (views : Views) (w : World) (stamps : Stamping) (bo
             less,
             (λ group found. stands_in g s x.stamp group was found),
           ))
-          (said.lowest g s i x rest is)
+          (said.lowest g 1 s i x rest is)
 
   -- an operation's base is the one that it read back
   pub bases_newest : BasesAreNewest setting views w
