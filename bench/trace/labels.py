@@ -43,7 +43,8 @@ def main():
     files = [pathlib.Path(word) for word in words[1:]]
     inputs = [(file.name, file.read_bytes()) for file in files]
     if not files:
-        inputs = [(file.name, file.read_bytes()) for file in sorted((ROOT / "crates/examples/data").glob("*.in"))]
+        data = ROOT / "crates/examples/data"
+        inputs = [(str(file.relative_to(data)), file.read_bytes()) for file in sorted(data.rglob("*.in"))]
     bad = drawn = labels = 0
     for name, data in inputs:
         run = subprocess.run([program, "svg"], input=data, capture_output=True)

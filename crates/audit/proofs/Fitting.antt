@@ -10,7 +10,7 @@ use Rattle.reg_model.specs.declared.marks.Mark.TheVariants.{Begin, End, Crash}
 use Rattle.reg_model.specs.Marks.{Life, life_of, concerns, stripe_marks}
 use Rattle.reg_model.specs.Strict.{OpFits, MarkFits}
 use Rattle.reg_model.proofs.Fits.{life_of-fits, LifeFits as FitsLife}
-use Rattle.protocol_laws.proofs.StripeLives.{filter_place}
+use Rattle.reg_model.proofs.StripeLives.{filter_place}
 use Rattle.audit.specs.Checks.{GroupFits, BeginFits, MarksHold}
 use Rattle.audit.specs.Walks.{LifeFits}
 

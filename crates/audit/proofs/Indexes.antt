@@ -11,7 +11,7 @@ use Rattle.fab_base.specs.declared.answers.Answer.{Answer}
 use Rattle.reg_model.specs.declared.marks.Mark.{Mark}
 use Rattle.reg_model.specs.declared.marks.Mark.TheVariants.{Begin, End, Crash}
 use Rattle.reg_model.specs.Marks.{Ending, Answered, Interrupted, Unended, Life, life_of, begun_numbers}
-use Rattle.protocol_laws.proofs.Lives.{onward, life_onward, life_of-append, with_ending}
+use Rattle.reg_model.proofs.GrowingLives.{onward, life_onward, life_of-append, with_ending}
 use Rattle.transcript.specs.declared.claims.Claim.{Claim}
 use Rattle.transcript.specs.declared.claims.Outcome.{Outcome}
 use Rattle.transcript.specs.Marks.{mark_of, answer_of, op_of}

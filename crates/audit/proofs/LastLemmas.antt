@@ -8,7 +8,7 @@ use Rattle.fab_base.specs.Layouts.{Layout}
 use Rattle.reg_model.specs.declared.marks.Mark.{Mark}
 use Rattle.reg_model.specs.declared.marks.Mark.TheVariants.{Begin, End, Crash}
 use Rattle.reg_model.specs.Marks.{Life, life_of, IsOpen, is_of_stripe, concerns, stripe_marks, position_of}
-use Rattle.protocol_laws.proofs.Lives.{life_onward, life_of-append}
+use Rattle.reg_model.proofs.GrowingLives.{life_onward, life_of-append}
 use Rattle.transcript.specs.declared.claims.Claim.{Claim}
 use Rattle.transcript.specs.Marks.{mark_of}
 use Rattle.audit.specs.declared.operations.Operation.{Operation}

@@ -7,9 +7,9 @@ use Rattle.fab_base.specs.declared.answers.Answer.{Answer}
 use Rattle.reg_model.specs.declared.marks.Mark.{Mark}
 use Rattle.reg_model.specs.declared.marks.Mark.TheVariants.{Begin, End, Crash}
 use Rattle.reg_model.specs.Marks.{Ending, Answered, Interrupted, Unended, ending_of, Life, life_of, is_of_stripe, concerns, stripe_marks}
-use Rattle.protocol_laws.proofs.Lives.{EndingStays}
-use Rattle.protocol_laws.proofs.RisingMarks.{NumbersRise-increasing}
-use Rattle.protocol_laws.proofs.StripeLives.{life_filtered, none_filtered, others_filtered, numbers_from_one}
+use Rattle.reg_model.proofs.GrowingLives.{EndingStays}
+use Rattle.reg_model.proofs.RisingMarks.{NumbersRise-increasing}
+use Rattle.reg_model.proofs.StripeLives.{life_filtered, none_filtered, others_filtered, numbers_from_one}
 use Rattle.fab_base.specs.Layouts.{Layout}
 use Rattle.transcript.specs.declared.claims.Claim.{Claim}
 use Rattle.audit.specs.declared.operations.Operation.{Operation}

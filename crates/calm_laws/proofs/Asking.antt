@@ -9,7 +9,7 @@ use Rattle.messages.specs.declared.packets.Packet.{Packet}
 use Rattle.messages.specs.declared.replies.Reply.{Reply}
 use Rattle.protocol.specs.Coordinators.{Coordinator}
 use Rattle.protocol.specs.Nodes.{put, reply_packets}
-use Rattle.protocol_laws.proofs.Tables.{put_same}
+use Rattle.protocol.proofs.Tables.{put_same}
 use Rattle.quorum.specs.Tallies.{fits}
 
 -- the parts after these members were asked, in order

@@ -18,9 +18,9 @@ use Rattle.protocol.specs.Replicas.{Reaction, Replica, handle, ignored, is_held,
 use Rattle.protocol.specs.Settings.{Code}
 use Rattle.protocol.specs.Worlds.{Delivers, World, delivered, happens, is_up, packet_of, replies_with, run, world_stepped}
 use Rattle.protocol_laws.proofs.BooksEvents.{brick_of}
-use Rattle.protocol_laws.proofs.Puts.{put_other}
-use Rattle.protocol_laws.proofs.Served.{request_each}
-use Rattle.protocol_laws.proofs.Tables.{put_same}
+use Rattle.protocol.proofs.Puts.{put_other}
+use Rattle.protocol.proofs.Served.{request_each}
+use Rattle.protocol.proofs.Tables.{put_same}
 use Rattle.calm_laws.proofs.Fresh.{packet_kept}
 use Rattle.calm_laws.proofs.Plays.{member_step, part_put}
 use Rattle.calm_laws.proofs.Scenes.{Stage}

@@ -142,7 +142,7 @@ module _ (setting : Setting) (sound : IsSound setting) (encodes : EncodesBlocks 
       by (x ∷ log) some = ⊎_elim
           (λ (first : x.stamp ≡ first_stamp). inl first)
           (λ (was : WasCollected w c.call.group.0 c.call.stripe.0 x.stamp). inr (collected_stands x.stamp was))
-          (said.lowest c.call.group.0 c.call.stripe.0 i x log some)
+          (said.lowest c.call.group.0 1 c.call.stripe.0 i x log some)
 
   -- a version that was held is of view 1
   held_view : (i : ℕ) (t : Stamp) → w.held i c.call.group.0 c.call.stripe.0 t ≡ true → view_of t ≡ 1
@@ -167,14 +167,14 @@ module _ (setting : Setting) (sound : IsSound setting) (encodes : EncodesBlocks 
         (was_kept w said.logged c.call.group.0 c.call.stripe.0 i t (held_view i t held) held);
     top_view = λ i.
         subst (λ (r : Replica). (top_of r).view.0 ≤ 1) (sym (part i))
-        (known_most (top_of (part_of w c.call.group.0 c.call.stripe.0 i)) (said.tops c.call.group.0 c.call.stripe.0 i));
+        (known_most (top_of (part_of w c.call.group.0 c.call.stripe.0 i)) (said.tops c.call.group.0 1 c.call.stripe.0 i));
     unheld = λ i. ⊎_elim
         (λ (held : is_held c.stamp (replica_at (w.nodes i) c.call).log ≡ true). absurd (not_yet i (subst (λ (r : Replica). is_held c.stamp r.log ≡ true) (part i) held)))
         (λ (isnt : is_held c.stamp (replica_at (w.nodes i) c.call).log ≡ false). isnt)
         (cases_Bool (is_held c.stamp (replica_at (w.nodes i) c.call).log));
     blocks = λ i seat k version seat_is at_k.
         ap (λ (l : List ℕ). length l)
-        ((said.logs c.call.group.0 c.call.stripe.0 i k version (ap (λ (r : Replica). slice_get r.log k) (sym (part i)) ∙ at_k)).block c.group seat call_group seat_is)
+        ((said.logs c.call.group.0 1 c.call.stripe.0 i k version (ap (λ (r : Replica). slice_get r.log k) (sym (part i)) ∙ at_k)).block c.group seat call_group seat_is)
         ∙ encodes c.group.m (w.contents c.call.group.0 c.call.stripe.0 version.stamp) seat;
     short = λ i.
         let inside : length (part_of w c.call.group.0 c.call.stripe.0 i).log ≤ (w.nodes i).live + 1
@@ -205,7 +205,7 @@ module _ (setting : Setting) (sound : IsSound setting) (encodes : EncodesBlocks 
           let place = held_stands c.stamp (part_of w c.call.group.0 c.call.stripe.0 i).log held in
           let made : IsMadeOrFirst w c.call.group.0 c.call.stripe.0 c.stamp
           = subst (λ (t : Stamp). IsMadeOrFirst w c.call.group.0 c.call.stripe.0 t) place.3
-          (said.logs c.call.group.0 c.call.stripe.0 i place.0 place.1 place.2).made in
+          (said.logs c.call.group.0 1 c.call.stripe.0 i place.0 place.1 place.2).made in
           not_made_yet setting w stamps books said n o c.call.phase c.stamp is unmade stamped c.call.group.0 c.call.stripe.0 made
         where
           -- the operation has made nothing in its first phase

@@ -13,7 +13,7 @@ use Rattle.protocol.specs.Nodes.{put, first_phase, given_content, phase_packets}
 use Rattle.protocol.specs.Worlds.{World, Operation, number_of, is_brick, packet_of}
 use Rattle.protocol.specs.Calms.{operation_of, open_at, open_call, IsUntouched}
 use Rattle.protocol_laws.proofs.Books.{Books, IsOperation}
-use Rattle.protocol_laws.proofs.Tables.{put_each, get_kept}
+use Rattle.protocol.proofs.Tables.{put_each, get_kept}
 use Rattle.calm_laws.proofs.Known.{repeated}
 
 -- the packets of operation n

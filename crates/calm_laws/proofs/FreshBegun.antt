@@ -15,8 +15,8 @@ use Rattle.protocol.specs.Nodes.{Node, NodeStep, put, began_in, new_coordinator,
 use Rattle.protocol.specs.Worlds.{World, Operation, world_began, is_brick, is_up}
 use Rattle.protocol.specs.Calms.{operation_of}
 use Rattle.protocol_laws.proofs.Books.{Books, IsOperation}
-use Rattle.protocol_laws.proofs.Tables.{put_each, put_same, get_grown}
-use Rattle.protocol_laws.proofs.Puts.{put_other}
+use Rattle.protocol.proofs.Tables.{put_each, put_same, get_grown}
+use Rattle.protocol.proofs.Puts.{put_other}
 use Rattle.calm_laws.proofs.StepsOf.{members_are_of}
 use Rattle.calm_laws.proofs.Fresh.{packets_of, IsFresh, IsNumbered, AreFresh, filter_none, filter_every, packets_added, IsOpenAt, opens_at, opens_in, fresh_kept}
 

@@ -10,8 +10,8 @@ use Rattle.protocol.specs.Nodes.{NodeStep, put, received}
 use Rattle.protocol.specs.Worlds.{World, Operation, number_of, world_stepped, packet_of}
 use Rattle.protocol.specs.Calms.{operation_of, IsUntouched}
 use Rattle.protocol_laws.proofs.Books.{Books, IsOperation}
-use Rattle.protocol_laws.proofs.Tables.{put_each, put_same, get_grown}
-use Rattle.protocol_laws.proofs.Puts.{put_other}
+use Rattle.protocol.proofs.Tables.{put_each, put_same, get_grown}
+use Rattle.protocol.proofs.Puts.{put_other}
 use Rattle.calm_laws.proofs.Queues.{operation_same}
 use Rattle.calm_laws.proofs.StepsOf.{StepIsOf, message_is_of}
 use Rattle.calm_laws.proofs.Fresh.{IsNumbered, AreFresh, IsOpenAt, opens_at, opens_in, put_before, packet_kept, packet_stands, fresh_kept, own_number}

@@ -10,8 +10,8 @@ use Rattle.protocol.specs.Settings.{Setting}
 use Rattle.protocol.specs.Nodes.{Node, put, stopped, restarted}
 use Rattle.protocol.specs.Worlds.{World, Operation, Found, Before, After, world_stopped, world_found, world_started, reached_during, reached_at, packet_of}
 use Rattle.protocol_laws.proofs.Books.{Books}
-use Rattle.protocol_laws.proofs.Tables.{put_same}
-use Rattle.protocol_laws.proofs.Puts.{put_other}
+use Rattle.protocol.proofs.Tables.{put_same}
+use Rattle.protocol.proofs.Puts.{put_other}
 use Rattle.calm_laws.proofs.Queues.{operation_same}
 use Rattle.calm_laws.proofs.Fresh.{IsNumbered, AreFresh, IsOpenAt, opens_at, opens_in, put_before, packet_stands, fresh_kept}
 

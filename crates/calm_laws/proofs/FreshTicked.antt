@@ -18,7 +18,7 @@ use Rattle.protocol.specs.Nodes.{phase_packets, to_members, resent_to, resent, r
 use Rattle.protocol.specs.Worlds.{World, Operation, number_of, world_ticked}
 use Rattle.protocol.specs.Calms.{operation_of, IsUntouched}
 use Rattle.protocol_laws.proofs.Books.{Books, CallBooks}
-use Rattle.protocol_laws.proofs.Tables.{get_grown}
+use Rattle.protocol.proofs.Tables.{get_grown}
 use Rattle.calm_laws.proofs.Fresh.{packets_of, repeated_more, IsFresh, IsNumbered, AreFresh, filter_none, filter_every, packets_added, packets_kept, fresh_on, IsOpenAt, opens_at, untouched_before, own_number}
 
 module _ (setting : Setting) (w : World) (books : Books setting w) (numbered : IsNumbered w) (fresh : AreFresh setting w) where

@@ -8,7 +8,7 @@ use Rattle.calm_laws.proofs.Plays.{Finishes, finishes_by, HasEnded, ends_by}
 use Rattle.calm_laws.proofs.Queues.{IsDelivered, IsHead}
 use Rattle.calm_laws.proofs.Scenes.{Each, IsNext, SameCall, Scene, Stage, decision, heard, made, replying, sent, waits, EndsAt}
 use Rattle.calm_laws.proofs.Shows.{IsMove, Shows, open_at_is, put_field, shows_next, world_by, serves_on}
-use Rattle.protocol_laws.proofs.Tables.{put_same}
+use Rattle.protocol.proofs.Tables.{put_same}
 use Rattle.fab_base.specs.declared.answers.Answer.{Answer}
 use Rattle.fab_base.specs.declared.identities.BrickId.{BrickId}
 use Rattle.fab_base.specs.declared.stamps.Stamp.{Stamp}

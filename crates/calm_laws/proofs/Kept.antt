@@ -1,6 +1,5 @@
 -- What holds of what a brick keeps, and is ended by no request, holds in every run.
-use Rattle.std.proofs.Common.{◌≡◌, ℕ, false, List, [], ◌∷◌, Option, Some, None, refl, sym, subst, ⊎_elim}
-use Rattle.std.proofs.lemmas.Bool.{cond_both}
+use Rattle.std.proofs.Common.{◌≡◌, ℕ, false, List, Option, Some, None, refl, sym, subst, ⊎_elim}
 use Rattle.fab_base.specs.declared.identities.BrickId.{BrickId}
 use Rattle.fab_base.specs.Layouts.{Group}
 use Rattle.messages.specs.declared.calls.Call.{Call}
@@ -11,13 +10,15 @@ use Rattle.messages.specs.declared.requests.Request.{Request}
 use Rattle.protocol.specs.Coordinators.{Coordinator, Next, Ignores, Waits, Sends, Makes, Ends, on_reply}
 use Rattle.protocol.specs.Nodes.{Node, put, requested, replied, replied_at, received, absorbed, carried_out, known_after, fresh_stamp, invoked, began, group_at, stopped, restarted, first_node}
 use Rattle.protocol.specs.Settings.{Setting}
-use Rattle.protocol.specs.Worlds.{World, Event, Invokes, Delivers, Sets, Ticks, Stops, Starts, Found, Before, After, first_world, may_begin, may_start, is_brick, is_up, packet_of, delivered, world_ticked, world_stopped, world_found, world_started, happens, run}
+use Rattle.protocol.specs.Worlds.{World, Event, Found, Before, After, first_world, world_found, run}
 use Rattle.protocol_laws.specs.Laws.{WasSent}
 use Rattle.protocol_laws.proofs.Books.{Books}
 use Rattle.protocol_laws.proofs.BooksEvents.{books, start_fits}
 use Rattle.protocol_laws.proofs.FirstViews.{IsInFirst}
-use Rattle.protocol_laws.proofs.Left.{IsLeft, Leaves, always_leaves, leaves_happens}
-use Rattle.protocol_laws.proofs.Tables.{put_each}
+use Rattle.protocol_laws.proofs.Left.{IsLeft, Leaves, always_leaves}
+use Rattle.protocol.proofs.Tables.{put_each}
+use Rattle.protocol.proofs.Events.{EventCases, step_on, always_where}
+use Rattle.fab_base.specs.declared.asks.Ask.{Ask}
 
 -- the fact is of a brick's parts of stripes and its count of live records
 abbrev pub IsOfParts : (Node → Type 0) → Type 0
@@ -81,62 +82,44 @@ module _ (setting : Setting) (P : Node → Type 0) (same : IsOfParts P) (request
       (absorbed_keeps (record { 0 = i }) handled.0.from handled.0.to (w.nodes i) handled.0.message first (all i)))
       left
 
-  -- every event keeps it
-  event_keeps : (w : World) (event : Event) → Leaves setting w → Books setting w → AllHave w → AllHave (happens setting w event)
-  unfolding happens invoked stopped restarted
-  event_keeps w (Invokes brick ask) leaves books all =
-      cond_both (may_begin setting w brick ask) _ w (λ (next : World). AllHave next)
-      (λ may. have_by w brick.0 (invoked setting brick (w.clocks brick.0) (w.nodes brick.0) ask).node all
-      (in_group (group_at setting.layout (w.nodes brick.0) ask.group.0)))
-      (λ isnt. all)
+  -- a beginning
+  invoked_keeps : (me : BrickId) (now : ℕ) (node : Node) (ask : Ask) → P node → P (invoked setting me now node ask).node
+  unfolding invoked
+  invoked_keeps me now node ask holds = in_group (group_at setting.layout node ask.group.0)
     where
-      in_group : (z : Option Group) → P (began setting brick (w.clocks brick.0) (w.nodes brick.0) ask z).node
-      in_group None = all brick.0
-      in_group (Some group) =
-          same (w.nodes brick.0) (began setting brick (w.clocks brick.0) (w.nodes brick.0) ask (Some group)).node refl refl (all brick.0)
-  event_keeps w (Delivers number) leaves books all = at (packet_of w.packets number)
-    where
-      at : (z : Option Packet) → AllHave (delivered setting w number z)
-      at None = all
-      at (Some packet) =
-          cond_both (is_up setting.layout w packet.to) _ w (λ (next : World). AllHave next)
-          (λ up. have_by w packet.to.0 (received setting packet.to (w.clocks packet.to.0) (w.nodes packet.to.0) packet).node all
-          (message_keeps (w.clocks packet.to.0) packet.from packet.to (w.nodes packet.to.0) packet.message (books.first packet.to.0) (all packet.to.0)))
-          (λ isnt. all)
-  event_keeps w (Sets brick time) leaves books all =
-      cond_both (is_brick setting.layout brick) (record w { clocks = put w.clocks brick.0 time }) w (λ (next : World). AllHave next)
-      (λ is. all) (λ isnt. all)
-  event_keeps w (Ticks brick) leaves books all =
-      cond_both (is_up setting.layout w brick) (world_ticked setting w brick) w (λ (next : World). AllHave next) (λ up. all) (λ isnt. all)
-  event_keeps w (Stops brick during) leaves books all =
-      cond_both (is_up setting.layout w brick) (world_stopped setting w brick during) w (λ (next : World). AllHave next)
-      (λ up. have_by w brick.0 (stopped (w.nodes brick.0)) all (same (w.nodes brick.0) (stopped (w.nodes brick.0)) refl refl (all brick.0)))
-      (λ isnt. all)
-  event_keeps w (Starts brick openings found) leaves books all =
-      cond_both (may_start setting.layout w brick openings) (world_started (world_found w brick found) brick openings) w
-      (λ (next : World). AllHave next)
-      (λ may.
-      let with_found : AllHave (world_found w brick found) = of found (start_fits setting w brick openings may).0 in
-      have_by (world_found w brick found) brick.0 (restarted openings ((world_found w brick found).nodes brick.0)) with_found
-      (same ((world_found w brick found).nodes brick.0) (restarted openings ((world_found w brick found).nodes brick.0)) refl refl
-      (with_found brick.0)))
-      (λ isnt. all)
-    where
-      of : (z : Found) → w.up brick.0 ≡ false → AllHave (world_found w brick z)
-      of Before down = all
-      of After down =
-          have_by w brick.0 (w.after brick.0) all
-          (left_keeps w brick.0 (w.after brick.0) (books.first brick.0) (leaves brick.0 down) all)
+      in_group : (z : Option Group) → P (began setting me now node ask z).node
+      in_group None = holds
+      in_group (Some group) = same node (began setting me now node ask (Some group)).node refl refl holds
 
-  -- and so does every run
-  run_keeps : (events : List Event) (w : World) → Leaves setting w → ((more : List Event) → Books setting (run setting more w))
-      → AllHave w → AllHave (run setting events w)
-  run_keeps [] w leaves books all = all
-  run_keeps (event ∷ events) w leaves books all =
-      run_keeps events (happens setting w event) (leaves_happens setting w event leaves) (λ more. books (event ∷ more))
-      (event_keeps w event leaves (books []) all)
+  -- every event keeps it
+  have_cases : (w : World) → Leaves setting w × Books setting w → AllHave w → EventCases setting w AllHave
+  unfolding stopped restarted
+  have_cases w known all = record {
+    begins = λ brick ask may.
+        have_by w brick.0 (invoked setting brick (w.clocks brick.0) (w.nodes brick.0) ask).node all
+        (invoked_keeps brick (w.clocks brick.0) (w.nodes brick.0) ask (all brick.0));
+    handles = λ number packet at up.
+        have_by w packet.to.0 (step_on setting w packet).node all
+        (message_keeps (w.clocks packet.to.0) packet.from packet.to (w.nodes packet.to.0) packet.message (known.1.first packet.to.0) (all packet.to.0));
+    sets = λ brick time is. all;
+    ticks = λ brick up. all;
+    stops = λ brick during up.
+        have_by w brick.0 (stopped (w.nodes brick.0)) all (same (w.nodes brick.0) (stopped (w.nodes brick.0)) refl refl (all brick.0));
+    starts = λ brick openings found may.
+        (let with_found : AllHave (world_found w brick found) = of brick found (start_fits setting w brick openings may).0 in
+        have_by (world_found w brick found) brick.0 (restarted openings ((world_found w brick found).nodes brick.0)) with_found
+        (same ((world_found w brick found).nodes brick.0) (restarted openings ((world_found w brick found).nodes brick.0)) refl refl
+        (with_found brick.0)));
+  }
+    where
+      of : (brick : BrickId) (z : Found) → w.up brick.0 ≡ false → AllHave (world_found w brick z)
+      of brick Before down = all
+      of brick After down =
+          have_by w brick.0 (w.after brick.0) all
+          (left_keeps w brick.0 (w.after brick.0) (known.1.first brick.0) (known.0 brick.0 down) all)
 
   -- what holds of a fresh brick holds always
   pub always_kept : P (first_node setting.layout) → (events : List Event) (i : ℕ) → P ((run setting events (first_world setting.layout)).nodes i)
-  always_kept fresh events =
-      run_keeps events (first_world setting.layout) (always_leaves setting []) (λ more. books setting more) (λ i. fresh)
+  always_kept fresh =
+      always_where AllHave (λ w. Leaves setting w × Books setting w) setting (λ events. (always_leaves setting events, books setting events))
+      (λ i. fresh) have_cases

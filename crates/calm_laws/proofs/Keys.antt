@@ -8,7 +8,7 @@ use Rattle.protocol.specs.declared.tellings.Told.{Told}
 use Rattle.protocol.specs.declared.tellings.Told.TheVariants.{Made, Seen}
 use Rattle.protocol.specs.declared.tellings.Answered.{Answered}
 use Rattle.protocol.specs.Worlds.{World, Operation, number_of, world_stepped, world_tells, world_answers, world_told, world_answered, with_answer, is_answer, with_made, with_seen}
-use Rattle.protocol_laws.proofs.Tables.{put_each}
+use Rattle.protocol.proofs.Tables.{put_each}
 
 -- operations keep their brick, boot and call number
 abbrev pub KeepsKeys : (ℕ → Option Operation) → (ℕ → Option Operation) → Type 0

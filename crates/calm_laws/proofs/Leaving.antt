@@ -25,7 +25,7 @@ use Rattle.protocol_laws.proofs.BooksEvents.{books, brick_of}
 use Rattle.protocol_laws.proofs.Falls.{always_logged}
 use Rattle.protocol_laws.proofs.Logs.{LogAscends}
 use Rattle.protocol_laws.proofs.Outcomes.{IsLook}
-use Rattle.protocol_laws.proofs.Tables.{get_added}
+use Rattle.protocol.proofs.Tables.{get_added}
 use Rattle.calm_laws.proofs.Calmness.{each_counts, finishes}
 use Rattle.calm_laws.proofs.Casting.{chosen, seat_some}
 use Rattle.calm_laws.proofs.Collecting.{all_leave}
@@ -34,7 +34,7 @@ use Rattle.calm_laws.proofs.Finishing.{runs_once, runs_to}
 use Rattle.calm_laws.proofs.Known.{Known}
 use Rattle.calm_laws.proofs.Once.{IsOnce, always_once, only_newest}
 use Rattle.calm_laws.proofs.Plays.{Finishes, HasEnded}
-use Rattle.calm_laws.proofs.Schedules.{run-append}
+use Rattle.protocol.proofs.Events.{run-append}
 use Rattle.calm_laws.proofs.Scenes.{Each, EndsAt, IsNewest, Part, Stage}
 use Rattle.calm_laws.proofs.Shows.{IsMember, call_same_but}
 use Rattle.calm_laws.proofs.Storing.{held_newest}

@@ -37,7 +37,6 @@ pub mod Queues
 pub mod Rooms
 pub mod Rounds
 pub mod Scenes
-pub mod Schedules
 pub mod Shows
 pub mod Starts
 pub mod StorePhases

@@ -23,9 +23,9 @@ use Rattle.protocol.specs.Worlds.{World, Event, first_world, run}
 use Rattle.fab_base.specs.Layouts.{seat_in}
 use Rattle.protocol.specs.Settings.{Setting}
 use Rattle.protocol_laws.proofs.FirstViews.{IsInFirst, group_first, view_first}
-use Rattle.protocol_laws.proofs.Served.{request_each}
-use Rattle.protocol_laws.proofs.Tables.{put_each, put_same}
-use Rattle.protocol_laws.proofs.Puts.{put_other}
+use Rattle.protocol.proofs.Served.{request_each}
+use Rattle.protocol.proofs.Tables.{put_each, put_same}
+use Rattle.protocol.proofs.Puts.{put_other}
 use Rattle.calm_laws.proofs.Kept.{always_kept}
 use Rattle.protocol_laws.proofs.Reactions.{top_order, modified_each}
 

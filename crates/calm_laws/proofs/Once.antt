@@ -19,7 +19,7 @@ use Rattle.protocol.specs.Worlds.{Event, first_world, run}
 use Rattle.protocol_laws.proofs.FirstViews.{IsInFirst}
 use Rattle.protocol_laws.proofs.Logs.{LogAscends, among, among_held, at_least, newest_held}
 use Rattle.protocol_laws.proofs.Reactions.{modified_each}
-use Rattle.protocol_laws.proofs.Served.{parts_each, request_each}
+use Rattle.protocol.proofs.Served.{parts_each, request_each}
 use Rattle.calm_laws.proofs.Kept.{always_kept}
 
 -- no stamp stands again in a log

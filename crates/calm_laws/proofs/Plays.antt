@@ -8,8 +8,8 @@ use Rattle.std.specs.Prelude.{filter, is_some, nat_lt, ◌-◌}
 use Rattle.calm_laws.proofs.Queues.{IsHead, head_of}
 use Rattle.calm_laws.proofs.Scenes.{Each, Fits, IsSeated, Part, Scene, Seated, Stage, asked, asked_of, asking, part_after, reaction, replies_from, replying, EndsAt, SameCall}
 use Rattle.calm_laws.proofs.Shows.{IsMove, IsPart, Shows, delivers_so, open_at_is, put_field, world_by, IsMember}
-use Rattle.protocol_laws.proofs.Puts.{put_other}
-use Rattle.protocol_laws.proofs.Tables.{put_same}
+use Rattle.protocol.proofs.Puts.{put_other}
+use Rattle.protocol.proofs.Tables.{put_same}
 use Rattle.fab_base.specs.Layouts.{Group, seat_in}
 use Rattle.fab_base.specs.declared.identities.BrickId.{BrickId}
 use Rattle.messages.specs.declared.calls.Call.{Call}

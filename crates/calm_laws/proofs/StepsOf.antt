@@ -18,9 +18,9 @@ use Rattle.protocol.specs.Calms.{operation_of}
 use Rattle.protocol.proofs.CountsAt.{CountsAt, counts_facts}
 use Rattle.protocol_laws.proofs.Books.{Books, CallBooks, IsCall}
 use Rattle.protocol_laws.proofs.Outcomes.{NextFits, once_full_fits}
-use Rattle.protocol_laws.proofs.Puts.{put_other}
-use Rattle.protocol_laws.proofs.Served.{request_each}
-use Rattle.protocol_laws.proofs.Tables.{get_one}
+use Rattle.protocol.proofs.Puts.{put_other}
+use Rattle.protocol.proofs.Served.{request_each}
+use Rattle.protocol.proofs.Tables.{get_one}
 
 -- The step of a brick is of operation m.
 pub record StepIsOf (setting : Setting) (w : World) (me : BrickId) (step : NodeStep) (m : ℕ) : Type 0 where

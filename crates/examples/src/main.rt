@@ -1,4 +1,4 @@
-//! Runs inputs of the programs `replay` and `trace`, each a file in `data/`, and says whether each prints and ends as it should.
+//! Runs inputs of the programs `replay` and `trace`, each a file below `data/`, and says whether each prints and ends as it should.
 //!
 //! A line of standard input names a case: `NAME`, `NAME STATUS` or `NAME STATUS WORD..`. The file NAME.in is run over ends in
 //! memory, with the words given or else the word `run`. It must end with the status given or else with 0, and must print what stands

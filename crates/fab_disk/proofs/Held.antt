@@ -5,7 +5,7 @@ use Rattle.std.proofs.lemmas.Bool.{cases_lt, false≢true}
 use Rattle.std.proofs.lemmas.Bool.Decides.{nat_tests}
 use Rattle.fab_disk.specs.declared.pages.Page.{Page}
 use Rattle.fab_disk.specs.Pages.{held_at}
-use Rattle.fab_disk.specs.Past.{Change, Past, wrote, synced, past_of, Fits}
+use Rattle.fab_disk.specs.Past.{PastWrite, Past, wrote, synced, past_of, Fits}
 use Rattle.fab_disk.specs.declared.medium.Step.{Step}
 use Rattle.fab_disk.proofs.Uncertain.{same_places}
 use Rattle.fab_disk.specs.Held.{settled_size, HoldsWritten, HoldsSeam}
@@ -80,7 +80,7 @@ written_on front pages new (wrote w ∷ older) size fits keeps held = (
   written_on front pages new older w.length_before fits.1 (λ k lt. keeps k (omega (arith, fits.0.no_shorter))) held.1,
 )
 
-pub written_more : (front : ℕ) (pages new : List Page) (past : List Past) (w : Change) (at n size size_after : ℕ) → Fits past size
+pub written_more : (front : ℕ) (pages new : List Page) (past : List Past) (w : PastWrite) (at n size size_after : ℕ) → Fits past size
     → HoldsWritten front pages past → KeepsHeld front size pages new → HoldsRange front new at (at + n) → w.at ≡ min at size_after → w.len ≡ n
     → (1 ≤ n → at + n ≤ size_after) → HoldsWritten front new (wrote w ∷ past)
 written_more front pages new past w at n size size_after fits held keeps range starts len reach = (
@@ -88,7 +88,7 @@ written_more front pages new past w at n size size_after fits held keeps range s
   written_on front pages new past size fits keeps held,
 )
 
-pub seam_more : (front : ℕ) (pages new : List Page) (past : List Past) (w : Change) (size size_after : ℕ) → Fits past size → w.length_before ≡ size
+pub seam_more : (front : ℕ) (pages new : List Page) (past : List Past) (w : PastWrite) (size size_after : ℕ) → Fits past size → w.length_before ≡ size
     → HoldsSeam front pages past size → KeepsHeld front size pages new → (size < size_after → HoldsEnd front size new)
     → size ≤ size_after → HoldsSeam front new (wrote w ∷ past) size_after
 seam_more front pages new past w size size_after fits before seam keeps edge longer =
@@ -109,19 +109,19 @@ same_written front pages new (synced ∷ older) same held = tt
 same_written front pages new (wrote w ∷ older) same held =
     (λ k j lt low high. same k ∙ held.0 k j lt low high, same_written front pages new older same held.1)
 
-pub undone_fits : (past older : List Past) (w : Change) (size now : ℕ) → past ≡ wrote w ∷ older → Fits past size → now ≡ min w.length_before size
+pub undone_fits : (past older : List Past) (w : PastWrite) (size now : ℕ) → past ≡ wrote w ∷ older → Fits past size → now ≡ min w.length_before size
     → Fits older now
 undone_fits past older w size now is fits short =
     let both : Fits (wrote w ∷ older) size = subst (λ (p : List Past). Fits p size) is fits in
     subst (Fits older) (let same : w.length_before ≡ now = omega (arith, both.0.no_shorter) in same) both.1
 
-pub undone_written : (front : ℕ) (pages new : List Page) (past older : List Past) (w : Change) → past ≡ wrote w ∷ older
+pub undone_written : (front : ℕ) (pages new : List Page) (past older : List Past) (w : PastWrite) → past ≡ wrote w ∷ older
     → HoldsWritten front pages past → ((k : ℕ) → held_at new k ≡ held_at pages k) → HoldsWritten front new older
 undone_written front pages new past older w is held same =
     let both : HoldsWritten front pages (wrote w ∷ older) = subst (λ (p : List Past). HoldsWritten front pages p) is held in
     same_written front pages new older same both.1
 
-pub undone_seam : (front : ℕ) (pages new : List Page) (past older : List Past) (w : Change) (size now : ℕ) → past ≡ wrote w ∷ older → Fits past size
+pub undone_seam : (front : ℕ) (pages new : List Page) (past older : List Past) (w : PastWrite) (size now : ℕ) → past ≡ wrote w ∷ older → Fits past size
     → HoldsSeam front pages past size → now ≡ min w.length_before size → ((k : ℕ) → held_at new k ≡ held_at pages k)
     → HoldsSeam front new older now
 undone_seam front pages new past older w size now is fits seam short same =
@@ -131,7 +131,7 @@ undone_seam front pages new past older w size now is fits seam short same =
     (λ less k low high. same k ∙ had (omega (arith, both.0.no_shorter, less)) k low high)
 
 -- the bytes that stood there before go back into pages that have memory
-pub undone_range : (front : ℕ) (pages : List Page) (past older : List Past) (w : Change) (size n : ℕ) → past ≡ wrote w ∷ older → Fits past size
+pub undone_range : (front : ℕ) (pages : List Page) (past older : List Past) (w : PastWrite) (size n : ℕ) → past ≡ wrote w ∷ older → Fits past size
     → HoldsWritten front pages past → n ≤ w.len → HoldsRange front pages w.at (w.at + n)
 undone_range front pages past older w size n is fits held few =
     let both : HoldsWritten front pages (wrote w ∷ older) = subst (λ (p : List Past). HoldsWritten front pages p) is held in

@@ -5,7 +5,7 @@ use Rattle.std.proofs.lemmas.Bool.{cases_lt}
 use Rattle.std.proofs.lemmas.Bool.Decides.{nat_tests}
 use Rattle.std.proofs.lemmas.Grind.{same_number_lists}
 use Rattle.fab_disk.specs.Disk.{Torn, IsOutside}
-use Rattle.fab_disk.specs.Past.{Change, Past, wrote, synced, undone, IsImage, IsPlaced, Fits}
+use Rattle.fab_disk.specs.Past.{PastWrite, Past, wrote, synced, undone, IsImage, IsPlaced, Fits}
 use Rattle.fab_disk.specs.PastLaws.{length-undone, undone_below, undone_within, undone_above, torn_undone}
 use Rattle.fab_disk.specs.Settled.{rolled_back, is_uncertain}
 use Rattle.fab_disk.specs.Medium.{IsWrittenOver}
@@ -47,7 +47,7 @@ same_if_certain content image size certain =
     below n i lt = grind (arith, nat_tests)
 
 -- so too before a write
-certain_before : (w : Change) (older : List Past) (content image : List ℕ) → IsPlaced w (length content)
+certain_before : (w : PastWrite) (older : List Past) (content image : List ℕ) → IsPlaced w (length content)
     → IsSameWhereCertain (wrote w ∷ older) content image
     → IsSameWhereCertain older (undone w content) (undone w image)
 certain_before w older content image placed same =

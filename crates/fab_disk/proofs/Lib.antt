@@ -10,3 +10,4 @@ pub mod Scattered
 pub mod Held
 pub mod Rooms
 pub mod Plans
+pub mod Changing

@@ -1,13 +1,13 @@
 -- How the past goes on.
 use Rattle.std.proofs.Common.{◌≡◌, ℕ, ◌-◌, List, [], ◌∷◌, ◌++◌, length, reverse, take, drop, ◌∙◌, ap, arith}
 use Rattle.std.proofs.lemmas.List.{reverse-append, take_at, drop_at, length-append}
-use Rattle.fab_disk.specs.Past.{Change, wrote, synced, past_of}
+use Rattle.fab_disk.specs.Past.{PastWrite, wrote, synced, past_of}
 use Rattle.fab_disk.specs.declared.medium.Overwrite.{Overwrite}
 use Rattle.fab_disk.specs.declared.medium.Step.{Step}
 use Rattle.fab_disk.specs.declared.medium.Step.TheVariants.{Wrote, Synced}
 
 -- the write that is remembered, with the bytes that were saved
-abbrev pub change_of : Overwrite → List ℕ → Change
+abbrev pub change_of : Overwrite → List ℕ → PastWrite
 change_of w before = record { at = w.at; len = w.len; before = before; length_before = w.length_before }
 
 -- one write more

@@ -4,7 +4,7 @@ use Rattle.std.proofs.lemmas.Bool.{cases_lt}
 use Rattle.std.proofs.lemmas.Grind.{same_number_lists}
 use Rattle.std.proofs.lemmas.List.{append-nil, take_all, places, length-append, length-replicate, get_or_append_left, get_or-take, get_or-drop}
 use Rattle.fab_disk.specs.Disk.{padded, overlaid, written, Torn, IsOutside}
-use Rattle.fab_disk.specs.Past.{Change, undone, IsPlaced}
+use Rattle.fab_disk.specs.Past.{PastWrite, undone, IsPlaced}
 use Rattle.fab_disk.specs.PastLaws.{length-undone, undone_below, undone_within, undone_above}
 
 -- what is long enough is not padded
@@ -56,7 +56,7 @@ written_torn at [] old = record { kept = λ i lt out. refl; no_shorter = omega a
 written_torn at (byte ∷ bytes) old = overlaid_torn at (byte ∷ bytes) old (padded (at + length (byte ∷ bytes)) old) refl
 
 -- a write is undone by what stood there before
-pub undone_back : (at n : ℕ) (old new : List ℕ) (w : Change) → Torn at n old new → w.at ≡ min at (length new)
+pub undone_back : (at n : ℕ) (old new : List ℕ) (w : PastWrite) → Torn at n old new → w.at ≡ min at (length new)
     → w.before ≡ slice_range old (min at (length old)) (min (at + n) (length old)) → w.length_before ≡ length old → undone w new ≡ old
 undone_back at n old new w torn starts stood size =
     let kept : length w.before ≡ min (at + n) (length old) - min at (length old) = ap length stood ∙ grind (arith, places) in
@@ -84,7 +84,7 @@ undone_back at n old new w torn starts stood size =
     ]
 
 -- the lengths of a write fit
-pub is_placed : (at n : ℕ) (old new : List ℕ) (w : Change) → Torn at n old new → w.at ≡ min at (length new) → w.len ≡ n
+pub is_placed : (at n : ℕ) (old new : List ℕ) (w : PastWrite) → Torn at n old new → w.at ≡ min at (length new) → w.len ≡ n
     → w.before ≡ slice_range old (min at (length old)) (min (at + n) (length old)) → w.length_before ≡ length old → (1 ≤ n → at + n ≤ length new)
     → IsPlaced w (length new)
 is_placed at n old new w torn starts len stood size reach =

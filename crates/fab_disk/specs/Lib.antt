@@ -13,3 +13,4 @@ pub mod Medium
 pub mod MediumLaws
 pub mod FailingCalls
 pub mod MemDisk
+pub mod Changing

@@ -1,7 +1,7 @@
 -- Bytes in memory with their past.
 use Rattle.std.specs.Prelude.{ℕ, ◌≡◌, ◌+◌, ◌≤◌, List, ◌∷◌, reverse, vec_len, vec_capacity}
 use Rattle.fab_disk.specs.Disk.{Torn}
-use Rattle.fab_disk.specs.Past.{Change, Past, wrote, past_of, undone}
+use Rattle.fab_disk.specs.Past.{PastWrite, Past, wrote, past_of, undone}
 use Rattle.fab_disk.specs.Stored.{CanHold}
 use Rattle.fab_disk.specs.declared.medium.Medium.{Medium}
 
@@ -17,7 +17,7 @@ pub record HasRoom (m : Medium) (calls bytes end : ℕ) : Type 0 where
 
 -- one write more is remembered, by which the content before comes back
 pub record IsWrittenOver (at n : ℕ) (old new : List Past) (content content_after : List ℕ) : Type 0 where
-  pub change : Change
+  pub change : PastWrite
   pub remembered : new ≡ wrote change ∷ old
   pub comes_back : undone change content_after ≡ content
   pub torn : (before image : List ℕ) → Torn change.at change.len before image → Torn at n before image

@@ -6,7 +6,7 @@ use Rattle.fab_disk.specs.declared.medium.Step.{Step}
 use Rattle.fab_disk.specs.declared.medium.Step.TheVariants.{Wrote, Synced}
 
 -- a write that can be undone: its range, the bytes that stood there before, and how long the content was
-pub record Change : Type 0 where
+pub record PastWrite : Type 0 where
   pub at : ℕ
   pub len : ℕ
   pub before : List ℕ
@@ -14,11 +14,11 @@ pub record Change : Type 0 where
 
 -- a call that a disk remembers
 pub data Past : Type 0 where
-  wrote : Change → Past
+  wrote : PastWrite → Past
   synced : Past
 
 -- the content before a write
-abbrev pub undone : Change → List ℕ → List ℕ
+abbrev pub undone : PastWrite → List ℕ → List ℕ
 undone w content = take w.length_before (take w.at content ++ w.before ++ drop (w.at + length w.before) content)
 
 -- What a crash may leave: what the last sync left, changed by each write since, each of which may be torn.
@@ -45,7 +45,7 @@ HadImage (call ∷ older) content t image =
     IsImage (call ∷ older) content image ⊎ ((t ≤ length older) × HadImage older (content_before call content) t image)
 
 -- the lengths of a write fit a content that is this long after it
-pub record IsPlaced (w : Change) (size : ℕ) : Type 0 where
+pub record IsPlaced (w : PastWrite) (size : ℕ) : Type 0 where
   pub no_more : length w.before ≤ w.len
   pub no_shorter : w.length_before ≤ size
   pub reach : w.at + w.len ≤ size
@@ -59,7 +59,7 @@ Fits [] size = Unit {0}
 Fits (synced ∷ older) size = Fits older size
 Fits (wrote w ∷ older) size = IsPlaced w size × Fits older w.length_before
 
-IsPlaced-prop : (w : Change) (size : ℕ) → IsProp (IsPlaced w size)
+IsPlaced-prop : (w : PastWrite) (size : ℕ) → IsProp (IsPlaced w size)
 IsPlaced-prop w size = hlevel le_prop
 
 pub Fits-prop : (past : List Past) (size : ℕ) → IsProp (Fits past size)

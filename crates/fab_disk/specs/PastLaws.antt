@@ -3,27 +3,27 @@ use Rattle.std.proofs.Common.{◌≡◌, inl, inr, ℕ, ◌+◌, ◌-◌, ◌<�
 use Rattle.std.proofs.lemmas.List.{places}
 use Rattle.fab_disk.specs.Disk.{Torn, IsOutside}
 use Rattle.fab_disk.specs.Settled.{rolled_back}
-use Rattle.fab_disk.specs.Past.{Change, Past, wrote, synced, undone, IsImage, HadImage, IsPlaced, Fits}
+use Rattle.fab_disk.specs.Past.{PastWrite, Past, wrote, synced, undone, IsImage, HadImage, IsPlaced, Fits}
 
 -- what undoing a write gives, at each place
-pub undone_below : (w : Change) (content : List ℕ) (i : ℕ) → w.at + length w.before ≤ length content → i < w.length_before → i < w.at
+pub undone_below : (w : PastWrite) (content : List ℕ) (i : ℕ) → w.at + length w.before ≤ length content → i < w.length_before → i < w.at
     → get_or (undone w content) i 0 ≡ get_or content i 0
 undone_below w content i fits lt below = grind (arith, places)
 
-pub undone_within : (w : Change) (content : List ℕ) (i : ℕ) → w.at + length w.before ≤ length content → i < w.length_before → w.at ≤ i
+pub undone_within : (w : PastWrite) (content : List ℕ) (i : ℕ) → w.at + length w.before ≤ length content → i < w.length_before → w.at ≤ i
     → i < w.at + length w.before → get_or (undone w content) i 0 ≡ get_or w.before (i - w.at) 0
 undone_within w content i fits lt low high = grind (arith, places)
 
-pub undone_above : (w : Change) (content : List ℕ) (i : ℕ) → w.at + length w.before ≤ length content → i < w.length_before
+pub undone_above : (w : PastWrite) (content : List ℕ) (i : ℕ) → w.at + length w.before ≤ length content → i < w.length_before
     → w.at + length w.before ≤ i → get_or (undone w content) i 0 ≡ get_or content i 0
 undone_above w content i fits lt above = grind (arith, places)
 
-pub length-undone : (w : Change) (content : List ℕ) → w.at + length w.before ≤ length content → w.length_before ≤ length content
+pub length-undone : (w : PastWrite) (content : List ℕ) → w.at + length w.before ≤ length content → w.length_before ≤ length content
     → length (undone w content) ≡ w.length_before
 length-undone w content fits long = grind (arith, places)
 
 -- content may be what a write that was torn left of what was there before
-pub torn_undone : (w : Change) (content : List ℕ) → IsPlaced w (length content) → Torn w.at w.len (undone w content) content
+pub torn_undone : (w : PastWrite) (content : List ℕ) → IsPlaced w (length content) → Torn w.at w.len (undone w content) content
 torn_undone w content placed =
     let size = length-undone w content placed.within placed.no_shorter in
     record {

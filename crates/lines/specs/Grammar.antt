@@ -72,7 +72,7 @@ cut word c second p =
       pick ← number p
       Some (Cut call pick)) else None) else None
 
--- what is to befall a call of the disk, behind `deliver K` or `start B`: nothing where no word is left
+-- the fault of a call of the disk, behind `deliver K` or `start B`: none where no word is left
 unfoldable pub fault : List (List ℕ) → Option (Option Fault)
 fault [] = Some None
 fault (word ∷ c ∷ []) = do
@@ -83,7 +83,7 @@ fault (word ∷ c ∷ second ∷ p ∷ []) = do
   Some (Some befalls)
 fault _ = None
 
--- `deliver K`, behind its first word, with what is to befall a call
+-- `deliver K`, behind its first word, with the fault of a call
 unfoldable pub deliver : List (List ℕ) → Option Line
 deliver (k ∷ behind) = do
   message ← number k
@@ -91,7 +91,7 @@ deliver (k ∷ behind) = do
   Some (Deliver message befalls)
 deliver _ = None
 
--- `start B`, behind its first word, with what is to befall a call
+-- `start B`, behind its first word, with the fault of a call
 unfoldable pub start : List (List ℕ) → Option Line
 start (b ∷ behind) = do
   brick ← number b

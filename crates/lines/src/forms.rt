@@ -27,7 +27,7 @@ pub enum Access {
     WriteStripe(Bytes),
 }
 
-/// What is to befall one of the calls of `write_at` and `sync` that an event makes of a brick's disk. Calls are counted from 1.
+/// A fault of one of the calls of `write_at` and `sync` that an event makes of a brick's disk. Calls are counted from 1.
 #[derive(Clone, Copy)]
 pub enum Fault {
     /// The brick stops inside that call: `cut C pick P`.

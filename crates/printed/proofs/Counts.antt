@@ -14,10 +14,10 @@ use Rattle.reg_model.specs.declared.marks.Mark.{Mark}
 use Rattle.reg_model.specs.declared.marks.Mark.TheVariants.{Begin, End, Crash}
 use Rattle.reg_model.specs.Marks.{Life, life_of, begun_numbers, position_of, IsOpen, IsWellFormed}
 use Rattle.transcript.specs.Kinds.{is_begin}
-use Rattle.protocol_laws.proofs.Lives.{ended_not_open}
-use Rattle.protocol_laws.proofs.MarkLists.{positions_rise}
-use Rattle.protocol_laws.proofs.RisingMarks.{NumbersRise, NumbersRise-increasing, increasing_numbers}
-use Rattle.protocol_laws.proofs.StripeLives.{numbers_from_one}
+use Rattle.reg_model.proofs.GrowingLives.{ended_not_open}
+use Rattle.reg_model.proofs.AddedMarks.{positions_rise}
+use Rattle.reg_model.proofs.RisingMarks.{NumbersRise, NumbersRise-increasing, increasing_numbers}
+use Rattle.reg_model.proofs.StripeLives.{numbers_from_one}
 use Rattle.printed.proofs.PrintedMarks.{is_end, count_yes, count_no}
 
 -- as many operations begin as there are Begins

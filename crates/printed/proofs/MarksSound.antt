@@ -29,14 +29,14 @@ use Rattle.protocol_laws.specs.Laws.{Laws, Evidence}
 use Rattle.protocol_laws.specs.Marked as law
 use Rattle.protocol_laws.proofs.BooksEvents as books
 use Rattle.protocol_laws.proofs.EveryRun.{every_layout_run}
-use Rattle.protocol_laws.proofs.Lives.{life_of-append, life_onward}
+use Rattle.reg_model.proofs.GrowingLives.{life_of-append, life_onward}
 use Rattle.protocol_laws.proofs.Said.{Stamping, Said, IsMadeOrFirst}
 use Rattle.protocol_laws.proofs.SaidAlways.{always_said}
 use Rattle.audit.specs.Checks.{GroupFits, BeginFits, WordFits, AnswerFits, MarksHold}
 use Rattle.printed.proofs.Clocks.{EventsFit}
 use Rattle.printed.proofs.MarkLines.{IsSmall, IsTold, OpReads, AskReads, CauseReads, AnswerReads, MarkReads, most_told}
 use Rattle.printed.proofs.StampedWorlds.{WorldFits, run_fits, first_world_fits}
-use Rattle.printed.proofs.Standing.{MarkStands, AllStand, run_stands}
+use Rattle.printed.proofs.Standing.{MarkStands, AllStand, always_stand}
 
 -- bytes, by a test
 
@@ -155,7 +155,7 @@ module _ (layout : Layout) (is : IsLayout layout) where
 
     -- each operation that begins fits, and each brick that stops is the layout's
     stands : AllStand (coding layout) w.marks
-    stands = run_stands (coding layout) events (first_world layout) (λ k mark at. absurd (let never : None ≡ Some mark = at in cc))
+    stands = always_stand (coding layout) events
 
     -- each stamp has a spelling
     fits : WorldFits (coding layout) w

@@ -17,7 +17,7 @@ use Rattle.protocol.specs.Worlds.{World, Event, first_world, run}
 use Rattle.protocol.specs.Happenings.{happenings_of}
 use Rattle.protocol_laws.specs.Laws.{Laws}
 use Rattle.protocol_laws.proofs.BooksEvents.{books}
-use Rattle.protocol_laws.proofs.Numbers.{numbered_run}
+use Rattle.protocol_laws.proofs.Numbers.{always_numbered}
 use Rattle.transcript.specs.declared.claims.Claim.{Claim}
 use Rattle.transcript.specs.declared.claims.Counts.{Counts}
 use Rattle.transcript.specs.declared.claims.StripeLine.{StripeLine}
@@ -101,9 +101,7 @@ module _ (layout : Layout) (is : IsLayout layout) (schedule : List (List ℕ)) (
 
   -- how many begin, and how many end
   begun_is : length (begun_numbers w.marks) ≡ w.begun
-  begun_is =
-      (numbered_run (coding layout) events (first_world layout)
-      (record { count = refl; each = λ k n at. absurd (let never : None ≡ Some n = at in cc) })).count
+  begun_is = (always_numbered (coding layout) events).count
 
   -- no more begin than there are steps
   begins_few : count_by is_begin w.marks ≤ length steps

@@ -19,8 +19,10 @@ use Rattle.protocol.specs.declared.phases.Phase.TheVariants.{Looks, LooksAt, Ord
 use Rattle.protocol.specs.Coordinators.{Coordinator, has_seat, request_of}
 use Rattle.protocol.specs.Nodes.{Node, view_at, to_members, phase_packets, collect_packets, resent_to, resent, resent_up_to}
 use Rattle.protocol_laws.specs.Laws.{stamp_asked}
-use Rattle.protocol_laws.proofs.Tables.{get_grown, sent_to_member}
+use Rattle.protocol.proofs.Tables.{get_grown, sent_to_member}
 use Rattle.printed.proofs.MarkLines.{IsSmall, StampReads}
+use Rattle.protocol.proofs.Packets.{OfEach, OfRequests, each_member, each_collect, each_ticked}
+use Rattle.protocol_laws.proofs.StampViews.{asked_own}
 
 -- what a member keeps of a stripe
 pub record PartFits (replica : Replica) : Type 0 where
@@ -61,84 +63,32 @@ pub record PacketFits (bricks : ℕ) (packet : Packet) : Type 0 where
 
 -- each of these
 abbrev pub AreFit : ℕ → List Packet → Type 0
-AreFit bricks packets = (k : ℕ) (packet : Packet) → slice_get packets k ≡ Some packet → PacketFits bricks packet
-
--- none
-pub no_packets : (bricks : ℕ) → AreFit bricks []
-no_packets bricks k packet at = absurd (let never : None ≡ Some packet = at in cc)
-
--- some, and then others
-pub packets_both : (bricks : ℕ) (one other : List Packet) → AreFit bricks one → AreFit bricks other → AreFit bricks (one ++ other)
-packets_both bricks one other first second k packet at = ⊎_elim
-    (λ (old : slice_get one k ≡ Some packet). first k packet old)
-    (λ (new : (j : ℕ) × (slice_get other j ≡ Some packet)). second new.0 packet new.1)
-    (get_grown one other k packet at)
-
--- one, and then others
-pub one_packet : (bricks : ℕ) (one : Packet) (rest : List Packet) → PacketFits bricks one → AreFit bricks rest → AreFit bricks (one ∷ rest)
-one_packet bricks one rest first others zero packet at = subst (λ (z : Packet). PacketFits bricks z) (same_Some one packet at) first
-one_packet bricks one rest first others (suc k) packet at = others k packet at
-
--- a request to each member
-members_fit : (bricks : ℕ) (me : BrickId) (call : Call) (request : ℕ → Request) (seat : ℕ) (members : List BrickId) → me.0 < bricks
-    → ((k : ℕ) → RequestFits (request k)) → AreFit bricks (to_members me call request seat members)
-members_fit bricks me call request seat members there fits k packet at =
-    let sent = sent_to_member me call request seat members k packet at in
-    subst (λ (z : Packet). PacketFits bricks z) (sym sent.2) (record { from = there; message = fits (seat + k) })
-
--- what a phase asks for is its operation's stamp
-asked_own : (code : Code) (d : Coordinator) (seat : ℕ) (phase : Phase) (t : Stamp)
-    → stamp_asked (request_of code (record d { phase = phase }) seat) ≡ Some t → t ≡ d.stamp
-unfolding request_of
-asked_own code d seat Looks t is = absurd (let never : None ≡ Some t = is in cc)
-asked_own code d seat (LooksAt j) t is = absurd (let never : None ≡ Some t = is in cc)
-asked_own code d seat Orders t is = sym (same_Some d.stamp t is)
-asked_own code d seat (OrdersAt j) t is = sym (same_Some d.stamp t is)
-asked_own code d seat Recovers t is = sym (same_Some d.stamp t is)
-asked_own code d seat (Descends bound) t is = sym (same_Some d.stamp t is)
-asked_own code d seat (Modifies base j) t is = sym (same_Some d.stamp t is)
-asked_own code d seat (Bases base) t is = sym (same_Some d.stamp t is)
-asked_own code d seat Stores t is = sym (same_Some d.stamp t is)
+AreFit bricks packets = OfEach (PacketFits bricks) packets
 
 -- what a phase asks for has a spelling
-request_fits : (code : Code) (d : Coordinator) (seat : ℕ) → CallFits d → RequestFits (request_of code d seat)
-request_fits code d seat fits t is = subst (λ (z : Stamp). StampReads z) (sym (asked_own code d seat d.phase t is)) fits.stamp
+request_fits : (bricks : ℕ) (code : Code) (me : BrickId) (c : Coordinator) → me.0 < bricks → CallFits c
+    → OfRequests (PacketFits bricks) me c.call (request_of code c)
+request_fits bricks code me c there fits seat to = record {
+  from = there;
+  message = λ t is. subst (λ (z : Stamp). StampReads z) (sym (asked_own code c seat t is)) fits.stamp;
+}
 
 -- the requests of a phase
-pub phase_fits : (setting : Setting) (me : BrickId) (d : Coordinator) → me.0 < setting.layout.bricks → CallFits d
-    → AreFit setting.layout.bricks (phase_packets setting me d)
-phase_fits setting me d there fits =
-    members_fit setting.layout.bricks me d.call (request_of setting.code d) 0 d.group.members there (λ k. request_fits setting.code d k fits)
+pub phase_fits : (setting : Setting) (me : BrickId) (c : Coordinator) → me.0 < setting.layout.bricks → CallFits c
+    → AreFit setting.layout.bricks (phase_packets setting me c)
+phase_fits setting me c there fits =
+    each_member (PacketFits setting.layout.bricks) me c.call (request_of setting.code c) (request_fits setting.layout.bricks setting.code me c there fits)
+    0 c.group.members
 
 -- the requests to collect
 pub collects_fit : (bricks : ℕ) (me : BrickId) (c : Coordinator) (held : Option Stamp) → me.0 < bricks → AreFit bricks (collect_packets me c held)
-collects_fit bricks me c None there = no_packets bricks
-collects_fit bricks me c (Some t) there =
-    members_fit bricks me c.call (λ seat. Request.Collect t) 0 c.group.members there (λ k u is. absurd (let never : None ≡ Some u = is in cc))
-
--- a phase's requests again
-resent_fit : (bricks : ℕ) (me : BrickId) (call : Call) (request : ℕ → Request) (counted : List Counted) (seat : ℕ) (members : List BrickId)
-    → me.0 < bricks → ((k : ℕ) → RequestFits (request k)) → AreFit bricks (resent_to me call request counted seat members)
-resent_fit bricks me call request counted seat [] there fits = no_packets bricks
-resent_fit bricks me call request counted seat (member ∷ members) there fits =
-    let rest : AreFit bricks (resent_to me call request counted (seat + 1) members) =
-    resent_fit bricks me call request counted (seat + 1) members there fits
-    in
-    cond_both (has_seat seat counted) (resent_to me call request counted (seat + 1) members) _ (λ (l : List Packet). AreFit bricks l)
-    (λ has. rest)
-    (λ hasnt. one_packet bricks (record { from = me; to = member; message = Message.Request call (request seat) })
-    (resent_to me call request counted (seat + 1) members) (record { from = there; message = fits seat }) rest)
+collects_fit bricks me c held there =
+    each_collect (PacketFits bricks) me c held
+    (λ t to. record { from = there; message = λ u is. absurd (let never : None ≡ Some u = is in cc) })
 
 -- those of all open operations again
 pub ticked_fit : (setting : Setting) (me : BrickId) (calls : ℕ → Option Coordinator) (k : ℕ) → me.0 < setting.layout.bricks
     → ((j : ℕ) (c : Coordinator) → calls j ≡ Some c → CallFits c) → AreFit setting.layout.bricks (resent_up_to setting me calls k)
-ticked_fit setting me calls zero there fits = no_packets setting.layout.bricks
-ticked_fit setting me calls (suc k) there fits =
-    packets_both setting.layout.bricks (resent_up_to setting me calls k) (resent setting me (calls (suc k)))
-    (ticked_fit setting me calls k there fits) (of_call (calls (suc k)) refl)
-  where
-    of_call : (z : Option Coordinator) → calls (suc k) ≡ z → AreFit setting.layout.bricks (resent setting me z)
-    of_call None is = no_packets setting.layout.bricks
-    of_call (Some c) is =
-        resent_fit setting.layout.bricks me c.call (request_of setting.code c) c.counted 0 c.group.members there
-        (λ seat. request_fits setting.code c seat (fits (suc k) c is))
+ticked_fit setting me calls k there fits =
+    each_ticked (PacketFits setting.layout.bricks) setting me calls k
+    (λ j c is. request_fits setting.layout.bricks setting.code me c there (fits j c is))

@@ -22,14 +22,15 @@ use Rattle.protocol.specs.Coordinators.{Coordinator, Next, Ignores, Waits, Sends
 use Rattle.protocol.specs.Nodes.{Node, NodeStep, no_step, has_later_time, is_spent, refusal_in, refusal_of, next_time, new_stamp, fresh_stamp, new_coordinator, opened, began, group_at, invoked, replica_at, full_at, reply_packets, reacted, requested, known_after, with_call, carried_out, replied_at, replied, received, absorbed, stopped, restarted}
 use Rattle.protocol.specs.Worlds.{World, is_brick, is_up, may_begin}
 use Rattle.protocol_laws.proofs.Logs.{newest_stands}
-use Rattle.protocol_laws.proofs.MarkLists.{slice_get_push}
+use Rattle.reg_model.proofs.AddedMarks.{slice_get_push}
 use Rattle.protocol_laws.proofs.Outcomes.{NextFits, ReordersFits, RecoversFits, RebuildsFits, once_full_fits}
 use Rattle.protocol_laws.proofs.Reactions.{modified_each}
-use Rattle.protocol_laws.proofs.Served.{request_each, parts_each}
-use Rattle.protocol_laws.proofs.StripeLives.{filter_place}
-use Rattle.protocol_laws.proofs.Tables.{put_each}
+use Rattle.protocol.proofs.Served.{request_each, parts_each}
+use Rattle.reg_model.proofs.StripeLives.{filter_place}
+use Rattle.protocol.proofs.Tables.{put_each}
 use Rattle.printed.proofs.MarkLines.{IsSmall, StampReads}
-use Rattle.printed.proofs.StampedMessages.{PartFits, CallFits, NodeFits, RequestFits, ReplyFits, MessageFits, AreFit, no_packets, one_packet, phase_fits, collects_fit}
+use Rattle.printed.proofs.StampedMessages.{PartFits, CallFits, NodeFits, RequestFits, ReplyFits, MessageFits, AreFit, phase_fits, collects_fit, PacketFits}
+use Rattle.protocol.proofs.Packets.{each_none, each_one}
 
 -- the greater of two stamps
 max_fits : (a b : Stamp) → StampReads a → StampReads b → StampReads (stamp_max a b)
@@ -138,15 +139,15 @@ pub record StepFits (bricks boot : ℕ) (step : NodeStep) : Type 0 where
 
 -- a step that does nothing
 quiet_fits : (bricks : ℕ) (node : Node) → NodeFits node → StepFits bricks node.boot (no_step node)
-quiet_fits bricks node fits = record { node = fits; opened_as = refl; packets = no_packets bricks }
+quiet_fits bricks node fits = record { node = fits; opened_as = refl; packets = each_none (PacketFits bricks) }
 
 -- the reply that is sent
 replies_fit : (bricks : ℕ) (me to : BrickId) (call : Call) (reply : Option Reply) → me.0 < bricks → AnyReplyFits reply
     → AreFit bricks (reply_packets me to call reply)
-replies_fit bricks me to call None there fits = no_packets bricks
+replies_fit bricks me to call None there fits = each_none (PacketFits bricks)
 replies_fit bricks me to call (Some reply) there fits =
-    one_packet bricks (record { from = me; to = to; message = Message.Reply call reply }) [] (record { from = there; message = fits })
-    (no_packets bricks)
+    each_one (PacketFits bricks) (record { from = me; to = to; message = Message.Reply call reply }) [] (record { from = there; message = fits })
+    (each_none (PacketFits bricks))
 
 -- a member's step
 reacted_fits : (bricks : ℕ) (me from : BrickId) (node : Node) (call : Call) (reaction : Reaction) → me.0 < bricks → NodeFits node
@@ -250,11 +251,11 @@ some_call d c fits is = subst (λ (z : Coordinator). CallFits z) (same_Some d c 
 carried_fits : (setting : Setting) (me : BrickId) (node : Node) (known : ℕ) (c : Coordinator) (next : Next) → me.0 < setting.layout.bricks
     → NodeFits node → NextReads next → StepFits setting.layout.bricks node.boot (carried_out setting me node known c next)
 carried_fits setting me node known c Ignores there fits reads =
-    record { node = record { boot = fits.boot; views = fits.views; parts = fits.parts; calls = fits.calls }; opened_as = refl; packets = no_packets setting.layout.bricks }
+    record { node = record { boot = fits.boot; views = fits.views; parts = fits.parts; calls = fits.calls }; opened_as = refl; packets = each_none (PacketFits setting.layout.bricks) }
 carried_fits setting me node known c (Waits d) there fits reads = record {
   node = call_put node known node.busy c.call.seq (Some d) fits (λ e is. some_call d e reads is);
   opened_as = refl;
-  packets = no_packets setting.layout.bricks;
+  packets = each_none (PacketFits setting.layout.bricks);
 }
 carried_fits setting me node known c (Sends d) there fits reads = record {
   node = call_put node (max known d.stamp.time) node.busy c.call.seq (Some d) fits (λ e is. some_call d e reads is);
@@ -299,7 +300,7 @@ replied_fits setting me now from node call reply few there clock fits = at_call 
     at_call None is = record {
       node = record { boot = fits.boot; views = fits.views; parts = fits.parts; calls = fits.calls };
       opened_as = refl;
-      packets = no_packets setting.layout.bricks;
+      packets = each_none (PacketFits setting.layout.bricks);
     }
     at_call (Some c) is =
         let known : ℕ = known_after node.known reply in

@@ -14,12 +14,14 @@ use Rattle.protocol.specs.declared.tellings.Told.{Told}
 use Rattle.protocol.specs.declared.tellings.Told.TheVariants.{Made, Seen}
 use Rattle.protocol.specs.declared.tellings.Answered.{Answered}
 use Rattle.protocol.specs.Worlds.{World, Event, Found, Invokes, Delivers, Sets, Ticks, Stops, Starts, Before, After, first_world, is_brick, is_up, may_begin, may_start, world_began, world_told, world_tells, world_answered, world_answers, world_stepped, world_ticked, world_stopped, world_found, world_started, left_after, packet_during, replies_with, delivered, packet_of, happens, run}
-use Rattle.protocol_laws.proofs.Puts.{put_other}
-use Rattle.protocol_laws.proofs.Tables.{put_each, put_same, get_one}
+use Rattle.protocol.proofs.Puts.{put_other}
+use Rattle.protocol.proofs.Tables.{put_each, put_same, get_one}
 use Rattle.printed.proofs.Clocks.{EventFits, EventsFit}
 use Rattle.printed.proofs.MarkLines.{IsSmall, StampReads}
-use Rattle.printed.proofs.StampedMessages.{PartFits, NodeFits, PacketFits, AreFit, no_packets, packets_both, ticked_fit}
+use Rattle.printed.proofs.StampedMessages.{PartFits, NodeFits, PacketFits, AreFit, ticked_fit}
 use Rattle.printed.proofs.StampedSteps.{StepFits, received_fits, absorbed_fits, up_brick, begins_time, invoked_fits, stopped_fits, restarted_fits, stopped_boot, restarted_boot}
+use Rattle.protocol.proofs.Events.{EachEvent, event_each}
+use Rattle.protocol.proofs.Packets.{each_none, each_both}
 
 -- a world
 pub record WorldFits (setting : Setting) (w : World) : Type 0 where
@@ -65,7 +67,7 @@ node_changes setting w next me node more fits clocks after nodes packets new sam
       (put_each (λ j n. (w.after j).boot ≤ n.boot) w.nodes me.0 node (let old = fits.boots me.0 in omega (arith, old, same))
       (λ j other. fits.boots j)));
   packets = subst (λ (l : List Packet). AreFit setting.layout.bricks l) (sym packets)
-      (packets_both setting.layout.bricks w.packets more fits.packets sent);
+      (each_both (PacketFits setting.layout.bricks) w.packets more fits.packets sent);
 }
 
 -- a brick's step on a message that was sent
@@ -87,17 +89,6 @@ stepped_fits setting w number packet few fits up reads =
     node_changes setting w (world_stepped setting counted packet.to step) packet.to step.node step.packets fits (answered.0 ∙ told.0) (answered.1
     ∙ told.1)
     refl refl steps.node steps.opened_as steps.packets
-
--- a delivery
-delivered_fits : (setting : Setting) (w : World) (number : ℕ) (packet : Option Packet) → setting.layout.bricks ≤ 64 → WorldFits setting w
-    → packet_of w.packets number ≡ packet → WorldFits setting (delivered setting w number packet)
-delivered_fits setting w number None few fits is = fits
-delivered_fits setting w number (Some packet) few fits is =
-    cond_both (is_up setting.layout w packet.to) _ w (λ (next : World). WorldFits setting next)
-    (λ up.
-    let at = packet_at w.packets number packet is in
-    stepped_fits setting w number packet few fits up (fits.packets at.0 packet at.1))
-    (λ down. fits)
 
 -- a brick that stops
 
@@ -208,56 +199,48 @@ may_open_low layout w brick openings may =
     let third = and_parts (nat_lt 0 openings) (nat_lt ((w.nodes brick.0).boot + openings) (2 ^ 32)) second.1 in
     ltb-true ((w.nodes brick.0).boot + openings) (2 ^ 32) third.1
 
--- through any event
-happens_fits : (setting : Setting) (w : World) (event : Event) → setting.layout.bricks ≤ 64 → WorldFits setting w → EventFits event
-    → WorldFits setting (happens setting w event)
-unfolding happens ticked
-happens_fits setting w (Invokes brick ask) few fits event =
-    let step : NodeStep = invoked setting brick (w.clocks brick.0) (w.nodes brick.0) ask in
-    cond_both (may_begin setting w brick ask) (world_began w brick ask step) w (λ (next : World). WorldFits setting next)
-    (λ may.
-    let up = (and_parts (is_up setting.layout w brick) (not (is_some (refusal_of setting.layout (w.nodes brick.0) ask))) may).0 in
-    let steps = invoked_fits setting brick (w.clocks brick.0) (w.nodes brick.0) ask few (up_brick setting.layout w brick up) (fits.clocks brick.0)
-    (fits.nodes brick.0) (begins_time setting w brick ask may) in
-    node_changes setting w
-    (world_began w brick ask step) brick step.node step.packets fits refl refl refl refl steps.node steps.opened_as steps.packets)
-    (λ isnt. fits)
-happens_fits setting w (Delivers number) few fits event = delivered_fits setting w number (packet_of w.packets number) few fits refl
-happens_fits setting w (Sets brick time) few fits event =
-    cond_both (is_brick setting.layout brick) _ w (λ (next : World). WorldFits setting next)
-    (λ is. record {
-      clocks = put_each (λ j t. IsSmall t) w.clocks brick.0 time event (λ j other. fits.clocks j);
-      nodes = fits.nodes;
-      after = fits.after;
-      boots = fits.boots;
-      packets = fits.packets;
-    })
-    (λ isnt. fits)
-happens_fits setting w (Ticks brick) few fits event =
-    cond_both (is_up setting.layout w brick) (world_ticked setting w brick) w (λ (next : World). WorldFits setting next)
-    (λ up. record {
-      clocks = fits.clocks;
-      nodes = fits.nodes;
-      after = fits.after;
-      boots = fits.boots;
-      packets = packets_both setting.layout.bricks w.packets (resent_up_to setting brick (w.nodes brick.0).calls (w.nodes brick.0).seq) fits.packets
-          (ticked_fit setting brick (w.nodes brick.0).calls (w.nodes brick.0).seq (up_brick setting.layout w brick up) (fits.nodes brick.0).calls);
-    })
-    (λ down. fits)
-happens_fits setting w (Stops brick during) few fits event =
-    cond_both (is_up setting.layout w brick) (world_stopped setting w brick during) w (λ (next : World). WorldFits setting next)
-    (λ up. halted_fits setting w brick during fits (up_brick setting.layout w brick up)) (λ down. fits)
-happens_fits setting w (Starts brick openings found) few fits event =
-    cond_both (may_start setting.layout w brick openings) (world_started (world_found w brick found) brick openings) w
-    (λ (next : World). WorldFits setting next)
-    (λ may. found_fits setting w brick openings found fits (may_open_low setting.layout w brick openings may)) (λ cannot. fits)
+-- every event that fits keeps a world that fits
+fits_each : (setting : Setting) (w : World) → setting.layout.bricks ≤ 64 → WorldFits setting w
+    → EachEvent setting w (λ (event : Event) (next : World). EventFits event → WorldFits setting next)
+unfolding ticked
+fits_each setting w few fits = record {
+  begins = λ brick ask may timely.
+      (let step : NodeStep = invoked setting brick (w.clocks brick.0) (w.nodes brick.0) ask in
+      let up = (and_parts (is_up setting.layout w brick) (not (is_some (refusal_of setting.layout (w.nodes brick.0) ask))) may).0 in
+      let steps = invoked_fits setting brick (w.clocks brick.0) (w.nodes brick.0) ask few (up_brick setting.layout w brick up) (fits.clocks brick.0)
+      (fits.nodes brick.0) (begins_time setting w brick ask may) in
+      node_changes setting w (world_began w brick ask step) brick step.node step.packets fits refl refl refl refl steps.node steps.opened_as
+      steps.packets);
+  handles = λ number packet sent up timely.
+      (let at = packet_at w.packets number packet sent in stepped_fits setting w number packet few fits up (fits.packets at.0 packet at.1));
+  sets = λ brick time is timely.
+      record {
+        clocks = put_each (λ j t. IsSmall t) w.clocks brick.0 time timely (λ j other. fits.clocks j);
+        nodes = fits.nodes;
+        after = fits.after;
+        boots = fits.boots;
+        packets = fits.packets;
+      };
+  ticks = λ brick up timely.
+      record {
+        clocks = fits.clocks;
+        nodes = fits.nodes;
+        after = fits.after;
+        boots = fits.boots;
+        packets = each_both (PacketFits setting.layout.bricks) w.packets (resent_up_to setting brick (w.nodes brick.0).calls (w.nodes brick.0).seq) fits.packets
+            (ticked_fit setting brick (w.nodes brick.0).calls (w.nodes brick.0).seq (up_brick setting.layout w brick up) (fits.nodes brick.0).calls);
+      };
+  stops = λ brick during up timely. halted_fits setting w brick during fits (up_brick setting.layout w brick up);
+  starts = λ brick openings found may timely. found_fits setting w brick openings found fits (may_open_low setting.layout w brick openings may);
+}
 
 -- and through any schedule
 pub run_fits : (setting : Setting) (events : List Event) (w : World) → setting.layout.bricks ≤ 64 → WorldFits setting w → EventsFit events
     → WorldFits setting (run setting events w)
 run_fits setting [] w few fits all = fits
 run_fits setting (event ∷ events) w few fits all = run_fits setting events (happens setting w event) few
-    (happens_fits setting w event few fits all.0) all.1
+    (event_each (λ (one : Event) (next : World). EventFits one → WorldFits setting next) setting w (fits_each setting w few fits) (λ one timely. fits)
+    event all.0) all.1
 
 -- the first stamp has a spelling
 first_reads : StampReads first_stamp
@@ -289,5 +272,5 @@ first_world_fits setting = record {
   nodes = λ i. first_fits setting.layout;
   after = λ i. first_fits setting.layout;
   boots = λ i. omega arith;
-  packets = no_packets setting.layout.bricks;
+  packets = each_none (PacketFits setting.layout.bricks);
 }

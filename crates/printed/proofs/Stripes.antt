@@ -20,7 +20,7 @@ use Rattle.transcript.specs.declared.claims.Claim.{Claim}
 use Rattle.transcript.specs.declared.claims.StripeLine.{StripeLine}
 use Rattle.transcript.specs.Kinds.{is_begin}
 use Rattle.transcript.specs.Transcripts.{text_behind, most_lines}
-use Rattle.protocol_laws.proofs.StripeLives.{filter_place, none_filtered}
+use Rattle.reg_model.proofs.StripeLives.{filter_place, none_filtered}
 use Rattle.audit.specs.Checks.{happenings_said}
 use Rattle.printed.specs.Outputs.{happened_text, stripes_of}
 use Rattle.printed.proofs.LineTexts.{text_of_lines, lines_both, one_line_text, AreClear, clear_all}

@@ -20,6 +20,7 @@ most_lines = 1048576
 abbrev pub happening_text : Happening → List ℕ
 happening_text h = codes " " ++ (decimal h.operation ++ (codes "@" ++ decimal h.position))
 
+-- happenings, in order, to the end of the line
 abbrev pub happenings_text : List Happening → List ℕ
 happenings_text [] = newline
 happenings_text (h ∷ happenings) = happening_text h ++ happenings_text happenings

@@ -10,6 +10,7 @@ pub data Printed : Type 0 where
   OfRefusal : (refusal : Refusal) → Printed
   OfNothing : Printed
 
+-- the text of a printed line
 abbrev pub printed_text : Printed → List ℕ
 printed_text (OfMark mark) = mark_text mark
 printed_text (OfRefusal refusal) = refusal_text refusal

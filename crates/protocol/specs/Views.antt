@@ -1,10 +1,11 @@
 -- Views: the lists of members that keep a group, one after another, by number from 1 (Saito 2004, section 5).
-use Rattle.std.specs.Prelude.{ℕ, true, Bool, List, [], Option, Some, None, max}
+use Rattle.std.specs.Prelude.{ℕ, true, Bool, nat_lt, if◌then◌else◌, List, [], Option, Some, None, max}
 use Rattle.std.specs.Option.{option_map}
 use Rattle.fab_base.specs.declared.identities.BrickId.{BrickId}
 use Rattle.fab_base.specs.declared.member_lists.View.{View}
 use Rattle.fab_base.specs.declared.stamps.Stamp.{Stamp}
 use Rattle.fab_base.specs.Layouts.{Layout, Group, group_of}
+use Rattle.fab_base.specs.Stamps.{first_stamp}
 
 -- the members, by seat, of each view of each group: by group and view
 abbrev pub Views : Type 0
@@ -22,9 +23,9 @@ layout_views layout g e = members_of (group_of layout g)
 abbrev pub view_of : Stamp → ℕ
 view_of t = max t.view.0 1
 
--- the stamp that is below all that are made in a view, and above all of the views before it
+-- the stamp that is below all that are made in a view, and above all of the views before it; in view 1, which has none before it, the first stamp
 abbrev pub floor_of : ℕ → Stamp
-floor_of e = record { view = record { 0 = e }; time = 0; brick = record { 0 = 0 }; boot = 0 }
+floor_of e = if nat_lt 1 e then record { view = record { 0 = e }; time = 0; brick = record { 0 = 0 }; boot = 0 } else first_stamp
 
 -- a view of a group that a brick has learnt, and whether all its stripes are known to be kept in it
 pub record Learnt : Type 0 where

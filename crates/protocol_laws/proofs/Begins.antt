@@ -1,5 +1,5 @@
 -- A brick begins an operation, with a stamp that no part of any stripe has.
-use Rattle.std.proofs.Common.{◌≡◌, ℕ, ◌+◌, ◌≤◌, ◌⊎◌, inl, inr, false, not, [], ◌∷◌, length, Option, Some, None, refl, sym, ap, ◌∙◌, subst, ⊎_elim, arith}
+use Rattle.std.proofs.Common.{◌≡◌, ℕ, ◌+◌, ◌≤◌, ◌⊎◌, inl, inr, false, [], ◌∷◌, length, Option, Some, None, refl, sym, ap, ◌∙◌, subst, ⊎_elim, arith}
 use Rattle.std.specs.Prelude.{slice_get}
 use Rattle.std.proofs.lemmas.Bool.{false≢true}
 use Rattle.std.proofs.lemmas.List.{length-append}
@@ -13,25 +13,24 @@ use Rattle.reg_model.specs.declared.marks.Mark.{Mark}
 use Rattle.reg_model.specs.declared.marks.Mark.TheVariants.{Begin, End}
 use Rattle.reg_model.specs.Marks.{life_of, position_of}
 use Rattle.reg_model.specs.Walk.{last_of}
-use Rattle.fab_base.specs.Stamps.{stamp_below}
-use Rattle.fab_base.specs.Layouts.{Group, group_of, brick_at}
-use Rattle.quorum.proofs.Counts.{count_monotone}
+use Rattle.fab_base.specs.Layouts.{Group, group_of}
 use Rattle.protocol.specs.Settings.{Setting}
 use Rattle.protocol.specs.Replicas.{top_of, Replica}
 use Rattle.protocol.specs.declared.phases.Phase.{Phase}
 use Rattle.protocol.specs.declared.phases.Phase.TheVariants.{Looks, LooksAt, Orders, OrdersAt, Recovers, Descends, Modifies, Bases, Stores}
 use Rattle.protocol.specs.Coordinators.{Coordinator, request_of}
-use Rattle.protocol.specs.Nodes.{Node, put, first_phase, new_coordinator, opened, began_in, phase_packets, top_at}
+use Rattle.protocol.specs.Nodes.{Node, put, first_phase, new_coordinator, opened, began_in, phase_packets, top_at, view_at, view_floor}
 use Rattle.protocol.specs.Worlds.{World, Operation, world_began}
-use Rattle.protocol_laws.proofs.Parts.{part_of, PartsGuard}
-use Rattle.protocol_laws.proofs.FirstViews.{floor_at, floor_first, view_first}
+use Rattle.protocol_laws.proofs.FirstViews.{view_first}
 use Rattle.protocol_laws.proofs.Books.{Books, IsOperation}
 use Rattle.protocol_laws.proofs.Said.{Begun, Stamping, Said, IsSaid, IsBegun, IsStamped, IsKnown, IsStampOf, IsCalled, FitsPhase, FloorsAtLeast, RequestSays, PacketSays, OperationSays, CallSays, IsInOrder, DescendsFrom, base_in}
-use Rattle.protocol_laws.proofs.Tables.{put_each, put_same, get_grown, get_one, sent_to_member}
-use Rattle.protocol_laws.proofs.Lives.{last_grows}
+use Rattle.protocol.proofs.Tables.{put_each, put_same, get_grown, get_one, sent_to_member}
+use Rattle.reg_model.proofs.GrowingLives.{last_grows}
 use Rattle.protocol_laws.proofs.Growth.{Grows, continues_same}
 use Rattle.protocol_laws.proofs.Steps.{KeepsStamps, parts_kept, sent_by, ages_by, calls_by, phase_asked, said_after, new_none, part_same}
-use Rattle.protocol_laws.proofs.Stampings.{known_first, ComesFrom, ages_within, stays_known, later_unknown, with_stamp, stamp_now, stamps_other, stamp_last, stamps_grow, stamps_say}
+use Rattle.protocol_laws.proofs.Stampings.{ComesFrom, ages_within, stays_known, later_unknown, with_stamp, stamp_now, stamps_other, stamp_last, stamps_grow, stamps_say}
+use Rattle.protocol_laws.specs.Laws.{IsGuarded, part_in}
+use Rattle.protocol_laws.proofs.Tops.{top_cases, floor_time}
 
 -- an operation fits its first phase
 first_fits : (op : Op) → FitsPhase (first_phase op) op
@@ -103,7 +102,7 @@ module _ (setting : Setting) (w : World) (stamps : Stamping) (me : BrickId) (ask
   unknown = later_unknown w stamps said.stamps_say node me.0 c.stamp own (omega arith)
 
   from : ComesFrom stamps me.0 c.call.boot c.call.seq c.stamp
-  from = inr unknown
+  from = inr (unknown, own.positive)
 
   -- the new call has no stamp before
   no_stamp : (p : ℕ) (z : Option Begun) → stamps me.0 c.call.boot c.call.seq p ≡ z → z ≡ None
@@ -149,7 +148,7 @@ module _ (setting : Setting) (w : World) (stamps : Stamping) (me : BrickId) (ask
 
   grows : Grows w next stamps later
   grows = record {
-    parts = parts_kept w next me.0 node refl refl said.logged refl;
+    parts = parts_kept w next me.0 node refl refl said.logged (refl, refl, refl);
     fresh = new_none w next refl;
     sent = sent_by w next (phase_packets setting me c) refl;
     operations = λ n o is. (o, goes_on n o is, continues_same o);
@@ -171,28 +170,28 @@ module _ (setting : Setting) (w : World) (stamps : Stamping) (me : BrickId) (ask
     view = view_first setting.layout (w.nodes me.0) ask.group.0 (books.first me.0);
   }
 
-  -- how far a part had come when the operation began
-  floor_is : (i : ℕ) → floor_at new i ≡ top_of (part_of w ask.group.0 ask.stripe.0 i)
-  floor_is i =
-      floor_first setting.layout (w.nodes i) ask.group.0 ask.stripe.0 (books.first i)
-      (known_first w stamps (top_of (part_of w ask.group.0 ask.stripe.0 i)) said.stamps_say (said.tops ask.group.0 ask.stripe.0 i))
+  -- how far a brick had come when the operation began: as far as it had learnt, or as its part had
+  floor_known : (i : ℕ) → IsKnown stamps (new.floor i) ⊎ ((new.floor i).time ≡ 0)
+  floor_known i = ⊎_elim
+      (λ (learnt : new.floor i ≡ view_floor (w.nodes i) ask.group.0). inr (ap (λ (z : Stamp). z.time) learnt ∙ floor_time _))
+      (λ (part : new.floor i ≡ top_of (part_in w ask.group.0 (view_at (w.nodes i) ask.group.0) ask.stripe.0 i)).
+      inl (subst (λ (z : Stamp). IsKnown stamps z) (sym part) (said.tops ask.group.0 (view_at (w.nodes i) ask.group.0) ask.stripe.0 i)))
+      (top_cases (w.nodes i) ask.group.0 ask.stripe.0)
 
   operation_says : OperationSays setting next later (w.begun + 1) new
   operation_says = record {
     begin = grows.marks;
-    floors = λ i.
-        subst (λ (z : Stamp). stamp_below (top_of (part_of next ask.group.0 ask.stripe.0 i)) z ≡ false) (sym (floor_is i))
-        (grows.parts.tops ask.group.0 1 ask.stripe.0 i);
-    floors_known = λ i.
-        subst (λ (z : Stamp). IsKnown later z) (sym (floor_is i))
-        (stays_known stamps later grows.grow (top_of (part_of w ask.group.0 ask.stripe.0 i)) (said.tops ask.group.0 ask.stripe.0 i));
+    floors = λ i. grows.parts.tops ask.group.0 ask.stripe.0 i;
+    floors_known = λ i. ⊎_elim
+        (λ (known : IsKnown stamps (new.floor i)). inl (stays_known stamps later grows.grow (new.floor i) known))
+        (λ (none : (new.floor i).time ≡ 0). inr none)
+        (floor_known i);
     fresh = λ i p stamped. ⊎_elim
-        (λ (own_was : (q : ℕ) × IsStamped stamps me.0 c.call.boot c.call.seq q (top_of (part_of w ask.group.0 ask.stripe.0 i))).
-        let begun = said.stamps_say.begun me.0 c.call.boot c.call.seq own_was.0 (top_of (part_of w ask.group.0 ask.stripe.0 i)) own_was.1 in
-        omega (arith, begun.1 refl))
-        (λ (never : IsKnown stamps (top_of (part_of w ask.group.0 ask.stripe.0 i)) → ⊥). never (said.tops ask.group.0 ask.stripe.0 i))
-        (grows.grow.newer me.0 c.call.boot c.call.seq p (top_of (part_of w ask.group.0 ask.stripe.0 i))
-        (subst (λ (z : Stamp). IsStamped later me.0 c.call.boot c.call.seq p z) (floor_is i) stamped));
+        (λ (own_was : (q : ℕ) × IsStamped stamps me.0 c.call.boot c.call.seq q (new.floor i)).
+        let begun = said.stamps_say.begun me.0 c.call.boot c.call.seq own_was.0 (new.floor i) own_was.1 in omega (arith, begun.1 refl))
+        (λ (never : (IsKnown stamps (new.floor i) → ⊥) × (1 ≤ (new.floor i).time)). ⊎_elim never.0
+        (λ (none : (new.floor i).time ≡ 0). omega (arith, none, never.1)) (floor_known i))
+        (grows.grow.newer me.0 c.call.boot c.call.seq p (new.floor i) stamped);
     made = λ made. absurd (false≢true made);
     maker = λ v made version. absurd (false≢true made);
     content = λ v made version group group_is. absurd (false≢true made);
@@ -292,13 +291,8 @@ module _ (setting : Setting) (w : World) (stamps : Stamping) (me : BrickId) (ask
       → earlier.ask.stripe.0 ≡ ask.stripe.0 → earlier.version ≡ Some u → FloorsAtLeast new group u
   floors_at_least a earlier u is groups stripes version =
       let guarded = ((said.operations a earlier is).version u version).guarded group (ap (group_of setting.layout) groups ∙ group_is) in
-      let here : PartsGuard w ask.group.0 ask.stripe.0 group u = subst (λ (s : ℕ). PartsGuard w ask.group.0 s group u) stripes
-      (subst (λ (g : ℕ). PartsGuard w g earlier.ask.stripe.0 group u) groups guarded) in
-      let more = count_monotone (length group.members)
-      (λ seat. not (stamp_below (top_of (part_of w ask.group.0 ask.stripe.0 (brick_at group seat))) u))
-      (λ seat. not (stamp_below (floor_at new (brick_at group seat)) u))
-      (λ k below at. ap (λ (z : Stamp). not (stamp_below z u)) (floor_is (brick_at group k)) ∙ at) in
-      omega (arith, here, more)
+      subst (λ (s : ℕ). IsGuarded w ask.group.0 s group u) stripes
+      (subst (λ (g : ℕ). IsGuarded w g earlier.ask.stripe.0 group u) groups guarded)
 
   in_order : IsInOrder setting next
   in_order a b earlier late u earlier_is late_is groups stripes version =
@@ -335,9 +329,9 @@ module _ (setting : Setting) (w : World) (stamps : Stamping) (me : BrickId) (ask
           (ages_by w next me.0 node refl (ages_within (w.nodes me.0) node refl (omega arith) (omega arith)))
           (subst (λ (x : Node). IsStampOf x me.0 c.call.boot c.stamp) (sym (put_same w.nodes me.0 node)) own) (omega arith)
           (λ now. let here : (put w.nodes me.0 node me.0).seq ≡ c.call.seq = ap (λ (x : Node). x.seq) (put_same w.nodes me.0 node) in omega arith);
-      tops = λ g s i. inl (ap (λ (r : Replica). top_of r) (part_same w next me.0 node refl refl g 1 s i));
-      logs = λ g s i k version is. inl (k, ap (λ (r : Replica). slice_get r.log k) (sym (part_same w next me.0 node refl refl g 1 s i)) ∙ is);
-      lowest = λ g s i x log is. inl (log, ap (λ (r : Replica). r.log) (sym (part_same w next me.0 node refl refl g 1 s i)) ∙ is);
+      tops = λ g e s i. inl (ap (λ (r : Replica). top_of r) (part_same w next me.0 node refl refl g e s i));
+      logs = λ g e s i k version is. inl (k, ap (λ (r : Replica). slice_get r.log k) (sym (part_same w next me.0 node refl refl g e s i)) ∙ is);
+      lowest = λ g e s i x log is. inl (log, ap (λ (r : Replica). r.log) (sym (part_same w next me.0 node refl refl g e s i)) ∙ is);
       packets = λ k packet is. ⊎_elim
           (λ (there : slice_get w.packets k ≡ Some packet). inl there)
           (λ (sent : (j : ℕ) × (slice_get (phase_packets setting me c) j ≡ Some packet)).

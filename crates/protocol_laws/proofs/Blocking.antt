@@ -9,12 +9,12 @@ use Rattle.quorum.specs.Quorums.{count, one_if, both, IsWithinLimits}
 use Rattle.quorum.proofs.Counts.{count_none, count_suc, count_both, count_monotone, count_empty}
 use Rattle.fab_base.specs.Layouts.{Group}
 use Rattle.quorum.specs.Quorums.{quorum_of}
-use Rattle.protocol.specs.Replicas.{top_of, is_held, Replica}
+use Rattle.protocol.specs.Replicas.{is_held, Replica}
 use Rattle.protocol.specs.Worlds.{World, first_world}
 use Rattle.protocol.specs.Views.{view_of}
 use Rattle.fab_base.specs.Layouts.{brick_at}
-use Rattle.protocol_laws.specs.Laws.{part_in, AtQuorum}
-use Rattle.protocol_laws.proofs.Parts.{PartsNeverFall, PartsAddNothingBelow, part_of, PartsBlock}
+use Rattle.protocol_laws.specs.Laws.{part_in, AtQuorum, IsBlocked, NeverFalls, AddsNothingBelow, top_in, OrdersRise}
+use Rattle.protocol_laws.proofs.Parts.{part_of}
 use Rattle.protocol_laws.proofs.Logs.{LogAscends, IsKept, below_above}
 
 -- Logs ascend; what is in them was held; and what was held is in them, or was dropped from below all that they have.
@@ -41,9 +41,10 @@ was_kept w fit g s i t view held = subst (λ (e : ℕ). IsKept t (part_in w g e 
 
 -- from one world to the next no part falls, what a log kept it goes on keeping, what is new is at or above the part's stamps, and logs go on ascending
 pub record LogsStay (w next : World) : Type 0 where
-  pub tops : PartsNeverFall w next
+  pub tops : NeverFalls w next
+  pub orders : OrdersRise w next
   pub kept : (g e s i : ℕ) (t : Stamp) → IsKept t (part_in w g e s i).log → IsKept t (part_in next g e s i).log
-  pub newer : PartsAddNothingBelow w next
+  pub newer : AddsNothingBelow w next
   pub ascends : (g e s i : ℕ) → LogAscends (part_in w g e s i).log → LogAscends (part_in next g e s i).log
 
 -- what comes to be held in the next world is in its logs
@@ -53,11 +54,12 @@ NewIsLogged w next =
 
 -- no part falls, what bricks have held they have held, what they come to hold is at or above their parts' stamps, and logs go on fitting that
 pub record PartsStay (w next : World) : Type 0 where
-  pub tops : PartsNeverFall w next
+  pub tops : NeverFalls w next
+  pub orders : OrdersRise w next
   pub held : (g s i : ℕ) (t : Stamp) → w.held i g s t ≡ true → next.held i g s t ≡ true
   pub newer : (g s i : ℕ) (t : Stamp) → next.held i g s t ≡ true
-      → (w.held i g s t ≡ true) ⊎ (stamp_below t (top_of (part_in w g (view_of t) s i)) ≡ false)
-  pub adds : PartsAddNothingBelow w next
+      → (w.held i g s t ≡ true) ⊎ (stamp_below t (top_in w g s i) ≡ false)
+  pub adds : AddsNothingBelow w next
   pub logged : LogsFit next
 
 -- parts stay where logs do, and what is in them is noted as held
@@ -66,12 +68,13 @@ pub parts_from : (w next : World) → LogsStay w next → LogsFit w → ((i g s 
     → PartsStay w next
 parts_from w next stay fit more new noted = record {
   tops = stay.tops;
+  orders = stay.orders;
   held = λ g s i t held. more i g s t held;
   newer = λ g s i t held. ⊎_elim
       (λ (was : w.held i g s t ≡ true). inl was)
       (λ (logged : is_held t (part_in next g (view_of t) s i).log ≡ true). ⊎_elim
       (λ (old : is_held t (part_in w g (view_of t) s i).log ≡ true). inl (fit.held i g s t old))
-      (λ (above : stamp_below t (top_of (part_in w g (view_of t) s i)) ≡ false). inr above)
+      (λ (above : stamp_below t (top_in w g s i) ≡ false). inr above)
       (stay.newer g (view_of t) s i t logged))
       (new i g s t held);
   adds = stay.newer;
@@ -88,19 +91,20 @@ parts_from w next stay fit more new noted = record {
 -- and so through two steps
 pub parts_then : (w mid next : World) → PartsStay w mid → PartsStay mid next → PartsStay w next
 parts_then w mid next first second = record {
-  tops = λ g e s i. stamp_not_below_trans (top_of (part_in w g e s i)) (top_of (part_in mid g e s i)) (top_of (part_in next g e s i))
-      (first.tops g e s i) (second.tops g e s i);
+  tops = λ g s i. stamp_not_below_trans (top_in w g s i) (top_in mid g s i) (top_in next g s i)
+      (first.tops g s i) (second.tops g s i);
+  orders = λ g e s i. (let one = first.orders g e s i in let two = second.orders g e s i in omega (arith, one, two));
   held = λ g s i t held. second.held g s i t (first.held g s i t held);
   newer = λ g s i t held. ⊎_elim
       (λ (was : mid.held i g s t ≡ true). first.newer g s i t was)
-      (λ (new : stamp_below t (top_of (part_in mid g (view_of t) s i)) ≡ false).
-      inr (stamp_not_below_trans (top_of (part_in w g (view_of t) s i)) (top_of (part_in mid g (view_of t) s i)) t
-      (first.tops g (view_of t) s i) new))
+      (λ (new : stamp_below t (top_in mid g s i) ≡ false).
+      inr (stamp_not_below_trans (top_in w g s i) (top_in mid g s i) t
+      (first.tops g s i) new))
       (second.newer g s i t held);
   adds = λ g e s i t held. ⊎_elim
       (λ (was : is_held t (part_in mid g e s i).log ≡ true). first.adds g e s i t was)
-      (λ (new : stamp_below t (top_of (part_in mid g e s i)) ≡ false).
-      inr (stamp_not_below_trans (top_of (part_in w g e s i)) (top_of (part_in mid g e s i)) t (first.tops g e s i) new))
+      (λ (new : stamp_below t (top_in mid g s i) ≡ false).
+      inr (stamp_not_below_trans (top_in w g s i) (top_in mid g s i) t (first.tops g s i) new))
       (second.adds g e s i t held);
   logged = second.logged;
 }
@@ -108,28 +112,28 @@ parts_then w mid next first second = record {
 -- the part at a seat is above d, and does not hold it
 abbrev pub passes_by : World → ℕ → ℕ → Group → Stamp → ℕ → Bool
 passes_by w g s group d seat =
-    stamp_below d (top_of (part_in w g (view_of d) s (brick_at group seat))) && not (w.held (brick_at group seat) g s d)
+    stamp_below d (top_in w g s (brick_at group seat)) && not (w.held (brick_at group seat) g s d)
 
 -- what a part above d does not hold, it never will
-pub stays_unheld : (w next : World) → PartsStay w next → (g s i : ℕ) (d : Stamp) → stamp_below d (top_of (part_in w g (view_of d) s i)) ≡ true
+pub stays_unheld : (w next : World) → PartsStay w next → (g s i : ℕ) (d : Stamp) → stamp_below d (top_in w g s i) ≡ true
     → w.held i g s d ≡ false → next.held i g s d ≡ false
 stays_unheld w next stay g s i d above isnt = ⊎_elim
     (λ (held : next.held i g s d ≡ true). ⊎_elim
     (λ (was : w.held i g s d ≡ true). absurd (false≢true (sym isnt ∙ was)))
-    (λ (new : stamp_below d (top_of (part_in w g (view_of d) s i)) ≡ false). absurd (false≢true (sym new ∙ above)))
+    (λ (new : stamp_below d (top_in w g s i) ≡ false). absurd (false≢true (sym new ∙ above)))
     (stay.newer g s i d held))
     (λ (never : next.held i g s d ≡ false). never)
     (cases_Bool (next.held i g s d))
 
 -- what is blocked stays blocked
-pub blocked_stays : (w next : World) → PartsStay w next → (g s : ℕ) (group : Group) (d : Stamp) → PartsBlock w g s group d → PartsBlock next g s group d
+pub blocked_stays : (w next : World) → PartsStay w next → (g s : ℕ) (group : Group) (d : Stamp) → IsBlocked w g s group d → IsBlocked next g s group d
 blocked_stays w next stay g s group d blocked =
     let more = count_monotone (length group.members) (passes_by w g s group d) (passes_by next g s group d)
     (λ k below is.
-    let parts = and_parts (stamp_below d (top_of (part_in w g (view_of d) s (brick_at group k)))) (not (w.held (brick_at group k) g s d)) is in
-    and_from (stamp_below d (top_of (part_in next g (view_of d) s (brick_at group k)))) (not (next.held (brick_at group k) g s d))
-    (below_above d (top_of (part_in w g (view_of d) s (brick_at group k))) (top_of (part_in next g (view_of d) s (brick_at group k))) parts.0
-    (stay.tops g (view_of d) s (brick_at group k)))
+    let parts = and_parts (stamp_below d (top_in w g s (brick_at group k))) (not (w.held (brick_at group k) g s d)) is in
+    and_from (stamp_below d (top_in next g s (brick_at group k))) (not (next.held (brick_at group k) g s d))
+    (below_above d (top_in w g s (brick_at group k)) (top_in next g s (brick_at group k)) parts.0
+    (stay.tops g s (brick_at group k)))
     (not_from_false (next.held (brick_at group k) g s d)
     (stays_unheld w next stay g s (brick_at group k) d parts.0 (not-true (w.held (brick_at group k) g s d) parts.1)))) in
     omega (arith, blocked, more)
@@ -150,13 +154,13 @@ not_both true true = refl
 not_both true false = refl
 
 -- no quorum holds what is blocked
-pub blocked_never_stands : (w : World) (g s : ℕ) (group : Group) (d : Stamp) → PartsBlock w g s group d
+pub blocked_never_stands : (w : World) (g s : ℕ) (group : Group) (d : Stamp) → IsBlocked w g s group d
     → AtQuorum group (λ seat. w.held (brick_at group seat) g s d) → ⊥
 blocked_never_stands w g s group d blocked stands =
     let held : ℕ → Bool = λ seat. w.held (brick_at group seat) g s d in
     let sum = count_both (length group.members) (passes_by w g s group d) held in
     let none = count_empty (length group.members) (both (passes_by w g s group d) held)
-    (λ k below. not_both (stamp_below d (top_of (part_in w g (view_of d) s (brick_at group k)))) (w.held (brick_at group k) g s d)) in
+    (λ k below. not_both (stamp_below d (top_in w g s (brick_at group k))) (w.held (brick_at group k) g s d)) in
     absurd (omega (arith, blocked, stands, sum, none))
 
 -- twice a quorum is all the seats, and m more
@@ -165,15 +169,15 @@ twice_quorum m n most = omega arith
 
 -- a stamp is blocked where so many seats pass it by that with m more they would be more than a quorum
 pub blocked_by : (w : World) (g s : ℕ) (group : Group) (d : Stamp) → IsWithinLimits group.m (length group.members)
-    → quorum_of group < count (length group.members) (passes_by w g s group d) + group.m → PartsBlock w g s group d
+    → quorum_of group < count (length group.members) (passes_by w g s group d) + group.m → IsBlocked w g s group d
 blocked_by w g s group d limits many =
     let twice = twice_quorum group.m (length group.members) limits.enough_seats in omega (arith, many, twice)
 
 -- a part that is above a stamp, and does not hold it
-pub passes : (w : World) (g s : ℕ) (group : Group) (d : Stamp) (seat : ℕ) → stamp_below d (top_of (part_in w g (view_of d) s (brick_at group seat))) ≡ true
+pub passes : (w : World) (g s : ℕ) (group : Group) (d : Stamp) (seat : ℕ) → stamp_below d (top_in w g s (brick_at group seat)) ≡ true
     → w.held (brick_at group seat) g s d ≡ false → passes_by w g s group d seat ≡ true
 passes w g s group d seat above isnt =
-    and_from (stamp_below d (top_of (part_in w g (view_of d) s (brick_at group seat)))) (not (w.held (brick_at group seat) g s d)) above
+    and_from (stamp_below d (top_in w g s (brick_at group seat))) (not (w.held (brick_at group seat) g s d)) above
     (not_from_false (w.held (brick_at group seat) g s d) isnt)
 
 cell_split : (a b : Bool) → one_if a ≤ one_if (a && b) + one_if (a && not b)

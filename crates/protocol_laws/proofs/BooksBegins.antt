@@ -16,10 +16,10 @@ use Rattle.protocol.specs.Worlds.{World, Operation, number_of, world_began}
 use Rattle.protocol_laws.proofs.FirstViews.{IsInFirst, view_first}
 use Rattle.protocol_laws.proofs.Books.{Books, OperationBooks, CallBooks, IsOperation, IsCall, IsUnmade, MadeInPhase, InRound}
 use Rattle.protocol_laws.proofs.BooksKept.{operation_kept, call_kept, cases_call}
-use Rattle.protocol_laws.proofs.Lives.{Stays, Stays-push, Stays-before, life_of-begin}
-use Rattle.protocol_laws.proofs.MarkLists.{Places-push, well_formed_begin, numbers_below}
-use Rattle.protocol_laws.proofs.Puts.{put_other}
-use Rattle.protocol_laws.proofs.Tables.{put_each, put_same}
+use Rattle.reg_model.proofs.GrowingLives.{Stays, Stays-push, Stays-before, life_of-begin}
+use Rattle.reg_model.proofs.AddedMarks.{Places-push, well_formed_begin, numbers_below}
+use Rattle.protocol.proofs.Puts.{put_other}
+use Rattle.protocol.proofs.Tables.{put_each, put_same}
 
 -- a new operation has made nothing
 fresh_made : (c : Coordinator) (o : Operation) (op : Op) → IsUnmade o → MadeInPhase c o (first_phase op)

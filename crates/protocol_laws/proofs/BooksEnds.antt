@@ -19,10 +19,10 @@ use Rattle.protocol.specs.Nodes.{Node, has_length, no_calls, stopped, has_block}
 use Rattle.protocol.specs.Worlds.{World, Operation, is_answer, number_of, world_stopped}
 use Rattle.protocol_laws.proofs.Books.{Books, OperationBooks, CallBooks, IsOperation, IsCall}
 use Rattle.protocol_laws.proofs.BooksKept.{KeepsNumbers, first_kept, operation_stays, operation_kept, call_kept, number_at, calls_apart, cases_call, keeps_all}
-use Rattle.protocol_laws.proofs.Lives.{Stays, Stays-push, Stays-before, Stays-crash, lived_before_crash, cases_open, unended_not_answered, with_ending, life_of-end, life_of-crash}
-use Rattle.protocol_laws.proofs.MarkLists.{Places-push, well_formed_end, well_formed_crash}
-use Rattle.protocol_laws.proofs.Puts.{put_other}
-use Rattle.protocol_laws.proofs.Tables.{put_each, put_same}
+use Rattle.reg_model.proofs.GrowingLives.{Stays, Stays-push, Stays-before, Stays-crash, lived_before_crash, cases_open, unended_not_answered, with_ending, life_of-end, life_of-crash}
+use Rattle.reg_model.proofs.AddedMarks.{Places-push, well_formed_end, well_formed_crash}
+use Rattle.protocol.proofs.Puts.{put_other}
+use Rattle.protocol.proofs.Tables.{put_each, put_same}
 
 -- an End that answers and does not abort makes an operation answered
 answer_is : (p : ℕ) (answer : Answer) → is_answer answer ≡ true → IsAnswered (Answered p answer)

@@ -1,5 +1,5 @@
 -- Every event keeps the books.
-use Rattle.std.proofs.Common.{◌≡◌, ◌≢◌, ℕ, ◌+◌, ◌-◌, ◌<◌, ◌≤◌, ◌⊎◌, inl, inr, ◌^◌, Bool, true, false, not, ◌&&◌, cond, is_some, Option, Some, None, refl, sym, ap, ◌∙◌, subst, arith, List, [], ◌∷◌, ◌++◌, ⊎_elim}
+use Rattle.std.proofs.Common.{◌≡◌, ◌≢◌, ℕ, ◌+◌, ◌-◌, ◌<◌, ◌≤◌, ◌⊎◌, inl, inr, ◌^◌, Bool, true, false, not, ◌&&◌, cond, is_some, Option, Some, None, refl, sym, ap, ◌∙◌, subst, arith, List, [], ◌++◌, ⊎_elim}
 use Rattle.std.specs.Prelude.{nat_lt, max}
 use Rattle.std.proofs.lemmas.Option.{same_Some}
 use Rattle.std.proofs.lemmas.Bool.{cond_both, and_parts, not-true, not-false, ltb-true, both_ways}
@@ -22,20 +22,21 @@ use Rattle.protocol.specs.declared.phases.Phase.TheVariants.{Looks, LooksAt, Ord
 use Rattle.protocol.specs.declared.phases.Counted.{Counted}
 use Rattle.protocol.specs.Coordinators.{Coordinator, Next, Ignores, Waits, Sends, Makes, Ends, most_rounds, with_reply, once_full, counted_at, counts_at, on_reply}
 use Rattle.protocol.specs.Nodes.{Node, NodeStep, put, no_step, has_block, has_length, refusal_in, refusal_of, began, invoked, with_replica, replica_at, full_at, reply_packets, requested, absorbed, ticked, may_open, has_later_time, next_time, new_stamp, fresh_stamp, known_after, with_call, with_known, carried_out, phase_packets, collect_packets, sending, replied_at, replied, received}
-use Rattle.protocol.specs.Worlds.{World, world_found, Operation, Found, Before, After, Found, Before, After, Event, Invokes, Delivers, Sets, Ticks, Stops, Starts, is_answer, first_world, is_brick, is_up, may_begin, number_of, may_start, world_found, world_began, world_stepped, with_made, with_seen, with_answer, with_content, replies_with, delivered, packet_of, happens, run, with_held}
+use Rattle.protocol.specs.Worlds.{World, world_found, Operation, Found, Before, After, Found, Before, After, Event, is_answer, first_world, is_brick, is_up, may_begin, number_of, may_start, world_found, world_began, world_stepped, with_made, with_seen, with_answer, with_content, replies_with, run, with_held}
 use Rattle.protocol_laws.specs.Laws.{WasSent}
-use Rattle.protocol_laws.proofs.Served.{request_each, keeps_replica}
+use Rattle.protocol.proofs.Served.{request_each}
 use Rattle.protocol_laws.proofs.FirstViews.{group_first}
-use Rattle.protocol_laws.proofs.Left.{IsLeft, Leaves, always_leaves, leaves_happens, found_down}
+use Rattle.protocol_laws.proofs.Left.{IsLeft, Leaves, always_leaves, found_down}
 use Rattle.protocol_laws.proofs.Books.{Replies, version_after, Books, CallBooks, IsCall, IsUnmade, MadeInPhase, InRound, IsMade}
-use Rattle.protocol_laws.proofs.BooksKept.{KeepsNumbers, keeps_all, keeps_known, keeps_with_call}
+use Rattle.protocol_laws.proofs.BooksKept.{KeepsNumbers, keeps_all, keeps_known, keeps_with_call, keeps_replica}
 use Rattle.protocol_laws.proofs.BooksQuiet.{books_quiet, books_started}
 use Rattle.protocol_laws.proofs.BooksTurns.{IsBookedStamp, books_turned}
 use Rattle.protocol_laws.proofs.BooksEnds.{ended_world, books_ended, books_stopped}
 use Rattle.protocol_laws.proofs.BooksBegins.{books_began}
 use Rattle.protocol_laws.proofs.Outcomes.{SameOperation, IsRound, ReordersFits, RecoversFits, SendsFits, EndFits, NextFits, once_full_fits, IsLook, IsMaking, RebuildsIn, RebuildsFits, MakesIn, unmade_again, unmade_recovers}
-use Rattle.protocol_laws.proofs.Puts.{put_other}
-use Rattle.protocol_laws.proofs.Tables.{put_each, put_same}
+use Rattle.protocol.proofs.Puts.{put_other}
+use Rattle.protocol.proofs.Tables.{put_each, put_same}
+use Rattle.protocol.proofs.Events.{EventCases, always_where, world_handled}
 
 -- a brick that keeps its numbers, among those that stay
 pub keeps_put : (w : World) (i : ℕ) (node : Node) → KeepsNumbers (w.nodes i) node → (j : ℕ) → KeepsNumbers (w.nodes j) (put w.nodes i node j)
@@ -511,16 +512,11 @@ pub books_beside : (setting : Setting) (w : World) (replies : Replies) (reached 
 books_beside setting w replies reached books =
     books_quiet setting w w.nodes w.held w.clocks w.packets replies reached books (λ i. keeps_all (w.nodes i)) (λ i k. refl)
 
-books_delivered : (setting : Setting) (w : World) (number : ℕ) (packet : Option Packet) → Books setting w
-    → Books setting (delivered setting w number packet)
-books_delivered setting w number None books = books
-books_delivered setting w number (Some packet) books =
-    let noted : World = record w { reached = put w.reached number true } in
-    cond_both (is_up setting.layout w packet.to) _ _ (λ (x : World). Books setting x)
-    (λ member.
-    books_received setting noted (replies_with setting w packet) packet.to (w.clocks packet.to.0) packet.from packet.to packet.message
-    (books_beside setting w w.replies (put w.reached number true) books))
-    (λ stranger. books)
+-- a message is handled
+books_handled : (setting : Setting) (w : World) (number : ℕ) (packet : Packet) → Books setting w → Books setting (world_handled setting w number packet)
+books_handled setting w number packet books =
+    books_received setting (record w { reached = put w.reached number true }) (replies_with setting w packet) packet.to (w.clocks packet.to.0)
+    packet.from packet.to packet.message (books_beside setting w w.replies (put w.reached number true) books)
 
 -- where no reason to refuse is found, the group is there, and the ask fits it
 cond_none : (b : Bool) (r : Refusal) (rest : Option Refusal) → cond b (Some r) rest ≡ None → (b ≡ false) × (rest ≡ None)
@@ -632,31 +628,21 @@ start_fits setting w brick openings may =
     (not-true (w.up brick.0) rest.0, omega arith)
 
 -- every event keeps the books
-pub books_kept : (setting : Setting) (w : World) (event : Event) → Leaves setting w → Books setting w → Books setting (happens setting w event)
-unfolding happens
-books_kept setting w (Invokes brick ask) leaves books =
-    cond_both (may_begin setting w brick ask) _ _ (λ (x : World). Books setting x)
-    (λ may. books_invoked setting w brick (w.clocks brick.0) ask books may) (λ refused. books)
-books_kept setting w (Delivers number) leaves books = books_delivered setting w number (packet_of w.packets number) books
-books_kept setting w (Sets brick time) leaves books =
-    cond_both (is_brick setting.layout brick) _ _ (λ (x : World). Books setting x)
-    (λ member. books_quiet setting w w.nodes w.held (put w.clocks brick.0 time) w.packets w.replies w.reached books
-    (λ i. keeps_all (w.nodes i)) (λ i k. refl))
-    (λ stranger. books)
-books_kept setting w (Ticks brick) leaves books =
-    cond_both (is_up setting.layout w brick) _ _ (λ (x : World). Books setting x)
-    (λ up. books_quiet setting w w.nodes w.held w.clocks (w.packets ++ ticked setting brick (w.nodes brick.0)) w.replies w.reached books
-    (λ i. keeps_all (w.nodes i)) (λ i k. refl))
-    (λ down. books)
-books_kept setting w (Stops brick during) leaves books =
-    cond_both (is_up setting.layout w brick) _ _ (λ (x : World). Books setting x) (λ up. books_stopped setting w brick during books) (λ down. books)
-books_kept setting w (Starts brick openings found) leaves books =
-    cond_both (may_start setting.layout w brick openings) _ _ (λ (x : World). Books setting x)
-    (λ may.
-    let fits = start_fits setting w brick openings may in
-    books_started setting (world_found w brick found) brick openings (books_found setting w brick found fits.0 leaves books)
-    (found_down w brick found fits.0) fits.1)
-    (λ cannot. books)
+books_cases : (setting : Setting) (w : World) → Leaves setting w → Books setting w → EventCases setting w (Books setting)
+books_cases setting w leaves books = record {
+  begins = λ brick ask may. books_invoked setting w brick (w.clocks brick.0) ask books may;
+  handles = λ number packet at up. books_handled setting w number packet books;
+  sets = λ brick time is.
+      books_quiet setting w w.nodes w.held (put w.clocks brick.0 time) w.packets w.replies w.reached books (λ i. keeps_all (w.nodes i)) (λ i k. refl);
+  ticks = λ brick up.
+      books_quiet setting w w.nodes w.held w.clocks (w.packets ++ ticked setting brick (w.nodes brick.0)) w.replies w.reached books
+      (λ i. keeps_all (w.nodes i)) (λ i k. refl);
+  stops = λ brick during up. books_stopped setting w brick during books;
+  starts = λ brick openings found may.
+      (let fits = start_fits setting w brick openings may in
+      books_started setting (world_found w brick found) brick openings (books_found setting w brick found fits.0 leaves books)
+      (found_down w brick found fits.0) fits.1);
+}
 
 -- at first nothing is booked
 books_first : (setting : Setting) → Books setting (first_world setting.layout)
@@ -676,13 +662,6 @@ books_first setting = record {
   lives = λ n life is. absurd (let never : None ≡ Some life = is in cc);
 }
 
--- through any schedule
-pub books_run : (setting : Setting) (events : List Event) (w : World) → Leaves setting w → Books setting w → Books setting (run setting events w)
-books_run setting [] w leaves books = books
-books_run setting (event ∷ events) w leaves books =
-    books_run setting events (happens setting w event) (leaves_happens setting w event leaves) (books_kept setting w event leaves books)
-
 -- the books hold in every world that a run reaches
 pub books : (setting : Setting) (events : List Event) → Books setting (run setting events (first_world setting.layout))
-books setting events =
-    books_run setting events (first_world setting.layout) (always_leaves setting []) (books_first setting)
+books setting = always_where (Books setting) (Leaves setting) setting (always_leaves setting) (books_first setting) (books_cases setting)

@@ -6,11 +6,14 @@ use Rattle.reg_model.specs.Marks.{Life, life_of, IsOpen}
 use Rattle.fab_base.specs.Layouts.{Layout}
 use Rattle.protocol.specs.Settings.{Setting}
 use Rattle.protocol.specs.Coordinators.{Coordinator}
-use Rattle.protocol.specs.Nodes.{Node, view_at, with_known, with_call}
+use Rattle.protocol.specs.Nodes.{Node, view_at, with_known, with_call, with_replica}
 use Rattle.protocol.specs.Worlds.{World, Operation, number_of}
 use Rattle.protocol_laws.proofs.FirstViews.{IsInFirst, view_first}
 use Rattle.protocol_laws.proofs.Books.{OperationBooks, CallBooks, IsOperation, IsCall}
-use Rattle.protocol_laws.proofs.Lives.{Stays, LifeStays, EndingStays-answered, EndingStays-answered_before, EndingStays-open, EndingStays-open_before}
+use Rattle.reg_model.proofs.GrowingLives.{Stays, LifeStays, EndingStays-answered, EndingStays-answered_before, EndingStays-open, EndingStays-open_before}
+use Rattle.protocol.proofs.Served.{parts_each}
+use Rattle.messages.specs.declared.calls.Call.{Call}
+use Rattle.protocol.specs.Replicas.{Reaction}
 
 -- the books of an operation that no step makes, or ends, at a brick whose boots do not fall
 pub operation_stays : (setting : Setting) (w later : World) (n : ℕ) (o : Operation) → OperationBooks setting w n o
@@ -157,4 +160,16 @@ first_kept layout node later keeps first = record {
       (λ (same : later.replicas g e s ≡ node.replicas g e s). same ∙ first.others g e s other)
       (λ (is : e ≡ view_at node g). absurd (other (is ∙ view_first layout node g first)))
       (keeps.parts g e s);
+}
+
+-- a part that changes is of the view that its brick has learnt
+pub keeps_replica : (node : Node) (call : Call) (reaction : Reaction) → call.view.0 ≡ view_at node call.group.0
+    → KeepsNumbers node (with_replica node call reaction)
+keeps_replica node call reaction view = record {
+  boot = refl;
+  seq = refl;
+  learnt = refl;
+  accepted = refl;
+  parts = parts_each (λ g e s r. (r ≡ node.replicas g e s) ⊎ (e ≡ view_at node g)) node call reaction (inr view) (λ g e s. inl refl);
+  known = omega arith;
 }

@@ -16,9 +16,9 @@ use Rattle.protocol.specs.Worlds.{World, Operation, number_of, known_in, world_s
 use Rattle.protocol_laws.proofs.FirstViews.{IsInFirst}
 use Rattle.protocol_laws.proofs.Books.{Books, OperationBooks, CallBooks, IsCall}
 use Rattle.protocol_laws.proofs.BooksKept.{KeepsNumbers, first_kept, operation_stays, operation_kept, call_kept}
-use Rattle.protocol_laws.proofs.Lives.{Stays-refl}
-use Rattle.protocol_laws.proofs.Puts.{put_other}
-use Rattle.protocol_laws.proofs.Tables.{put_each, put_same}
+use Rattle.reg_model.proofs.GrowingLives.{Stays-refl}
+use Rattle.protocol.proofs.Puts.{put_other}
+use Rattle.protocol.proofs.Tables.{put_each, put_same}
 
 -- the world with other bricks, clocks, packets and counted replies, of which other packets were delivered
 abbrev pub quiet_world : World → (ℕ → Node) → (ℕ → ℕ → ℕ → Stamp → Bool) → (ℕ → ℕ) → List Packet → (ℕ → ℕ → List Counted) → (ℕ → Bool) → World

@@ -14,7 +14,7 @@ use Rattle.protocol.specs.Worlds.{World, Operation, number_of}
 use Rattle.protocol_laws.proofs.Books.{Books, OperationBooks, CallBooks, IsOperation, IsCall, MadeInPhase, InRound}
 use Rattle.protocol_laws.proofs.BooksKept.{KeepsNumbers, first_kept, operation_kept, call_kept, number_at, calls_apart, cases_call}
 use Rattle.protocol_laws.proofs.Outcomes.{SameOperation}
-use Rattle.protocol_laws.proofs.Lives.{Stays-refl}
+use Rattle.reg_model.proofs.GrowingLives.{Stays-refl}
 
 -- what is known of an operation that is open, but for its version
 pub record SameAsk (o later : Operation) : Type 0 where

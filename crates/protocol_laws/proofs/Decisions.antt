@@ -26,23 +26,22 @@ use Rattle.reg_model.specs.Registers.{zero_registers, block_of}
 use Rattle.fab_base.specs.Layouts.{Group, group_of, seat_in}
 use Rattle.quorum.specs.Quorums.{quorum_of}
 use Rattle.protocol.specs.Settings.{Setting, IsSound, are_bytes}
-use Rattle.protocol.specs.Replicas.{Replica, top_of, stamp_max, is_wanted}
+use Rattle.protocol.specs.Replicas.{stamp_max, is_wanted}
 use Rattle.protocol.specs.declared.phases.Counted.{Counted}
 use Rattle.protocol.specs.declared.phases.Phase.{Phase}
 use Rattle.protocol.specs.declared.phases.Phase.TheVariants.{Looks, LooksAt, Orders, OrdersAt, Recovers, Descends, Modifies, Bases, Stores}
 use Rattle.protocol.specs.Coordinators.{Coordinator, may_be_found, may_be_base, told_length, answers_phase, told_in, told_stamp, bytes_of, bytes_at, has_seat, is_behind, some_behind, refuser_of, greatest_refuser, full_member_of, lowest_full, fast_version, found_bytes, pieces_of}
 use Rattle.protocol.specs.Worlds.{World, Operation, zero_content, number_of}
 use Rattle.fab_base.specs.Layouts.{brick_at}
-use Rattle.protocol_laws.specs.Laws.{AtQuorum, stamp_stored}
-use Rattle.protocol_laws.proofs.Parts.{part_of, PartsGuard, PartsBlock}
-use Rattle.protocol_laws.proofs.FirstViews.{floor_at}
+use Rattle.protocol_laws.specs.Laws.{AtQuorum, stamp_stored, IsGuarded, IsBlocked, top_in}
 use Rattle.protocol_laws.proofs.Books.{Books, CallBooks, IsOperation, IsCall, IsMade, MadeInPhase}
 use Rattle.protocol_laws.proofs.Logs.{IsWithin}
-use Rattle.protocol_laws.proofs.Said.{Stamping, Said, IsBegun, IsContent, IsMadeOrFirst, FloorsAtMost, IsCalled, OrderedSays, OrderedReadSays, FoundSays, ReplySays, CountedSays, EachCounted, AreOnce, IsBlockOf, RequestSays, look_of, want_of, is_looked, IsPassedOver, CollectSays, Stands, IsStamped, WritesWhole, ReadsBack}
+use Rattle.protocol_laws.proofs.Said.{Stamping, Said, IsBegun, IsMadeOrFirst, FloorsAtMost, IsCalled, OrderedSays, OrderedReadSays, FoundSays, ReplySays, CountedSays, EachCounted, AreOnce, IsBlockOf, RequestSays, look_of, want_of, is_looked, IsPassedOver, CollectSays, Stands, IsStamped, WritesWhole, ReadsBack}
 use Rattle.fab_base.proofs.Seats.{seat_within, brick_at_seat}
 use Rattle.protocol_laws.proofs.Reactions.{max_right, max_most}
 use Rattle.protocol_laws.proofs.Stampings.{begun_once}
 use Rattle.protocol_laws.proofs.Counting.{each_then, each_both, at_quorum, TellsVersion, fast_each, none_refuses, none_full, IsPieceOf, are_pieces, pieces_length, none_behind, bytes_reply}
+use Rattle.protocol.proofs.Blocks.{IsContent}
 
 -- zeros are bytes
 zero_bytes : (n : ℕ) → are_bytes (replicate n 0) ≡ true
@@ -51,8 +50,8 @@ zero_bytes (suc n) = zero_bytes n
 
 -- the version that was found, by the operation of a read
 pub record FoundAt (setting : Setting) (w : World) (j : ℕ) (o : Operation) (order : Stamp) (version : Version) : Type 0 where
-  pub top : stamp_below (top_of (part_of w o.ask.group.0 o.ask.stripe.0 j)) (stamp_max order version.stamp) ≡ false
-  pub floor : stamp_below (stamp_max order version.stamp) (floor_at o j) ≡ false
+  pub top : stamp_below (top_in w o.ask.group.0 o.ask.stripe.0 j) (stamp_max order version.stamp) ≡ false
+  pub floor : stamp_below (stamp_max order version.stamp) (o.floor j) ≡ false
   pub held : w.held j o.ask.group.0 o.ask.stripe.0 version.stamp ≡ true
   pub made : IsMadeOrFirst w o.ask.group.0 o.ask.stripe.0 version.stamp
   pub block : (group : Group) (seat : ℕ) → group_of setting.layout o.ask.group.0 ≡ Some group → seat_in group.members j ≡ Some seat
@@ -64,11 +63,11 @@ found_at setting w j i call o order version is says =
     let same : says.operation ≡ o = (let e : Some says.operation ≡ Some o = sym says.called.is ∙ is in cc) in
     let group : o.ask.group.0 ≡ call.group.0 = ap (λ (p : Operation). p.ask.group.0) (sym same) ∙ says.called.group in
     let stripe : o.ask.stripe.0 ≡ call.stripe.0 = ap (λ (p : Operation). p.ask.stripe.0) (sym same) ∙ says.called.stripe in
-    let part : part_of w o.ask.group.0 o.ask.stripe.0 j ≡ part_of w call.group.0 call.stripe.0 j
-    = ap (λ (g : ℕ). part_of w g o.ask.stripe.0 j) group ∙ ap (λ (s : ℕ). part_of w call.group.0 s j) stripe in
+    let come : top_in w o.ask.group.0 o.ask.stripe.0 j ≡ top_in w call.group.0 call.stripe.0 j
+    = ap (λ (g : ℕ). top_in w g o.ask.stripe.0 j) group ∙ ap (λ (s : ℕ). top_in w call.group.0 s j) stripe in
     record {
-      top = subst (λ (r : Replica). stamp_below (top_of r) (stamp_max order version.stamp) ≡ false) (sym part) says.top;
-      floor = subst (λ (p : Operation). stamp_below (stamp_max order version.stamp) (floor_at p j) ≡ false) same says.floor;
+      top = subst (λ (t : Stamp). stamp_below t (stamp_max order version.stamp) ≡ false) (sym come) says.top;
+      floor = subst (λ (p : Operation). stamp_below (stamp_max order version.stamp) (p.floor j) ≡ false) same says.floor;
       held = subst (λ (g : ℕ). w.held j g o.ask.stripe.0 version.stamp ≡ true) (sym group)
           (subst (λ (s : ℕ). w.held j call.group.0 s version.stamp ≡ true) (sym stripe) says.held);
       made = subst (λ (g : ℕ). IsMadeOrFirst w g o.ask.stripe.0 version.stamp) (sym group)
@@ -303,8 +302,8 @@ module _ (setting : Setting) (sound : IsSound setting) (w : World) (stamps : Sta
       subst (λ (b : ℕ). IsBegun stamps me.0 b c.call.seq c.call.phase c.phase c.stamp) (sym its.call_boot) (said.calls me.0 c.call.seq c is).begun
 
   -- the part of the stripe at a seat
-  abbrev pub part_at : ℕ → Replica
-  part_at seat = part_of w its_operation.ask.group.0 its_operation.ask.stripe.0 (brick_at group seat)
+  abbrev pub come_to : ℕ → Stamp
+  come_to seat = top_in w its_operation.ask.group.0 its_operation.ask.stripe.0 (brick_at group seat)
 
   -- a version was held at a seat
   abbrev pub held_at : ℕ → Stamp → Bool
@@ -319,34 +318,34 @@ module _ (setting : Setting) (sound : IsSound setting) (w : World) (stamps : Sta
   -- a reply that promises the coordinator's stamp
   pub record PromisesAt (x : Counted) : Type 0 where
     pub within : x.seat < length group.members
-    pub top : stamp_below (top_of (part_at x.seat)) c.stamp ≡ false
-    pub floor : stamp_below c.stamp (floor_at its_operation (brick_at group x.seat)) ≡ false
+    pub top : stamp_below (come_to x.seat) c.stamp ≡ false
+    pub floor : stamp_below c.stamp (its_operation.floor (brick_at group x.seat)) ≡ false
 
   promises_at : (x : Counted) → CountedSays setting w me.0 c x → (p : Operation) (t : Stamp) → IsCalled w me.0 c.call p → t ≡ c.stamp
-      → stamp_below (top_of (part_of w c.call.group.0 c.call.stripe.0 x.brick.0)) t ≡ false → stamp_below t (floor_at p x.brick.0) ≡ false → PromisesAt x
+      → stamp_below (top_in w c.call.group.0 c.call.stripe.0 x.brick.0) t ≡ false → stamp_below t (p.floor x.brick.0) ≡ false → PromisesAt x
   promises_at x says p t called at promised floor = record {
     within = (seat_fits x says).0;
-    top = subst (λ (u : Stamp). stamp_below (top_of (part_at x.seat)) u ≡ false) at
-        (at_seat (λ g s j. stamp_below (top_of (part_of w g s j)) t ≡ false) x says promised);
-    floor = subst (λ (u : Stamp). stamp_below u (floor_at its_operation (brick_at group x.seat)) ≡ false) at
-        (subst (λ (q : Operation). stamp_below t (floor_at q (brick_at group x.seat)) ≡ false) (called_same p called)
-        (subst (λ (j : ℕ). stamp_below t (floor_at p j) ≡ false) (sym (seat_fits x says).1) floor));
+    top = subst (λ (u : Stamp). stamp_below (come_to x.seat) u ≡ false) at
+        (at_seat (λ g s j. stamp_below (top_in w g s j) t ≡ false) x says promised);
+    floor = subst (λ (u : Stamp). stamp_below u (its_operation.floor (brick_at group x.seat)) ≡ false) at
+        (subst (λ (q : Operation). stamp_below t (q.floor (brick_at group x.seat)) ≡ false) (called_same p called)
+        (subst (λ (j : ℕ). stamp_below t (p.floor j) ≡ false) (sym (seat_fits x says).1) floor));
   }
 
   -- a quorum of promises guards the stamp
-  pub promises_guard : EachCounted PromisesAt counted → PartsGuard w its_operation.ask.group.0 its_operation.ask.stripe.0 group c.stamp
+  pub promises_guard : EachCounted PromisesAt counted → IsGuarded w its_operation.ask.group.0 its_operation.ask.stripe.0 group c.stamp
   promises_guard all =
-      at_quorum group counted (λ seat. not (stamp_below (top_of (part_at seat)) c.stamp))
-      (each_then PromisesAt (λ x. (x.seat < length group.members) × (not (stamp_below (top_of (part_at x.seat)) c.stamp) ≡ true)) counted
+      at_quorum group counted (λ seat. not (stamp_below (come_to seat) c.stamp))
+      (each_then PromisesAt (λ x. (x.seat < length group.members) × (not (stamp_below (come_to x.seat) c.stamp) ≡ true)) counted
       (λ x h. (h.within, not_from_false _ h.top)) all)
       once many
 
   -- and the stamp is at or above the floors of a quorum
   pub promises_floors : EachCounted PromisesAt counted → FloorsAtMost its_operation group c.stamp
   promises_floors all =
-      at_quorum group counted (λ seat. not (stamp_below c.stamp (floor_at its_operation (brick_at group seat))))
+      at_quorum group counted (λ seat. not (stamp_below c.stamp (its_operation.floor (brick_at group seat))))
       (each_then PromisesAt (λ x. (x.seat < length group.members)
-      × (not (stamp_below c.stamp (floor_at its_operation (brick_at group x.seat))) ≡ true)) counted
+      × (not (stamp_below c.stamp (its_operation.floor (brick_at group x.seat))) ≡ true)) counted
       (λ x h. (h.within, not_from_false _ h.floor)) all)
       once many
 
@@ -504,12 +503,12 @@ module _ (setting : Setting) (sound : IsSound setting) (w : World) (stamps : Sta
 
       -- what a phase does not look for below its stamp no quorum holds
       blocked : (l : Look) → look_of c.phase c.stamp ≡ Some l → is_looked l d ≡ true → is_looked l passed.at ≡ false
-          → stamp_below passed.at c.stamp ≡ true → PartsBlock w its_operation.ask.group.0 its_operation.ask.stripe.0 group passed.at
+          → stamp_below passed.at c.stamp ≡ true → IsBlocked w its_operation.ask.group.0 its_operation.ask.stripe.0 group passed.at
       blocked (Below bound) looks looked unlooked less = ⊎_elim
           (λ (own : bound ≡ c.stamp).
           absurd (false≢true (sym unlooked ∙ subst (λ (t : Stamp). stamp_below passed.at t ≡ true) (sym own) less)))
           (λ (lower : c.phase ≡ Descends bound).
-          subst (λ (a : Ask). PartsBlock w a.group.0 a.stripe.0 group passed.at) its.ask
+          subst (λ (a : Ask). IsBlocked w a.group.0 a.stripe.0 group passed.at) its.ask
           ((said.calls me.0 c.call.seq c is).covered bound lower group group_is passed.at (unlooked, less)))
           (bound_cases c.phase c.stamp bound looks)
       blocked (At base) looks looked unlooked less =
@@ -520,7 +519,7 @@ module _ (setting : Setting) (sound : IsSound setting) (w : World) (stamps : Sta
         where
           by_maker : (base : Stamp) → stamp_same d base ≡ true → stamp_below passed.at c.stamp ≡ true → its_operation.base ≡ Some base
               → WritesWhole w its_operation c.stamp ⊎ ReadsBack setting w its_operation c.stamp
-              → PartsBlock w its_operation.ask.group.0 its_operation.ask.stripe.0 group passed.at
+              → IsBlocked w its_operation.ask.group.0 its_operation.ask.stripe.0 group passed.at
           by_maker base looked less based (inl whole) = let none : None ≡ Some base = sym whole.0 ∙ based in cc
           by_maker base looked less based (inr back) =
               let same : back.base ≡ d
@@ -570,8 +569,8 @@ module _ (setting : Setting) (sound : IsSound setting) (w : World) (stamps : Sta
   -- what a reply that tells version v shows
   record TellsAt (v : Stamp) (x : Counted) : Type 0 where
     within : x.seat < length group.members
-    top : stamp_below (top_of (part_of w its_operation.ask.group.0 its_operation.ask.stripe.0 (brick_at group x.seat))) v ≡ false
-    floor : stamp_below v (floor_at its_operation (brick_at group x.seat)) ≡ false
+    top : stamp_below (top_in w its_operation.ask.group.0 its_operation.ask.stripe.0 (brick_at group x.seat)) v ≡ false
+    floor : stamp_below v (its_operation.floor (brick_at group x.seat)) ≡ false
     held : held_at x.seat v ≡ true
     made : IsMadeOrFirst w its_operation.ask.group.0 its_operation.ask.stripe.0 v
     block : is_wanted (want_of c.phase) x.seat ≡ true
@@ -592,10 +591,10 @@ module _ (setting : Setting) (sound : IsSound setting) (w : World) (stamps : Sta
       let brick : brick_at group x.seat ≡ x.brick.0 = (seat_fits x says).1 in
       record {
         within = (seat_fits x says).0;
-        top = subst (λ (j : ℕ). stamp_below (top_of (part_of w its_operation.ask.group.0 its_operation.ask.stripe.0 j)) v ≡ false) (sym brick)
-            (stamp_not_below_trans v most (top_of (part_of w its_operation.ask.group.0 its_operation.ask.stripe.0 x.brick.0)) above at.top);
-        floor = subst (λ (j : ℕ). stamp_below v (floor_at its_operation j) ≡ false) (sym brick)
-            (stamp_not_below_trans (floor_at its_operation x.brick.0) most v at.floor below);
+        top = subst (λ (j : ℕ). stamp_below (top_in w its_operation.ask.group.0 its_operation.ask.stripe.0 j) v ≡ false) (sym brick)
+            (stamp_not_below_trans v most (top_in w its_operation.ask.group.0 its_operation.ask.stripe.0 x.brick.0) above at.top);
+        floor = subst (λ (j : ℕ). stamp_below v (its_operation.floor j) ≡ false) (sym brick)
+            (stamp_not_below_trans (its_operation.floor x.brick.0) most v at.floor below);
         held = subst (λ (t : Stamp). held_at x.seat t ≡ true) tells.stamp
             (subst (λ (j : ℕ). w.held j its_operation.ask.group.0 its_operation.ask.stripe.0 tells.version.stamp ≡ true)
             (sym brick) at.held);
@@ -615,13 +614,13 @@ module _ (setting : Setting) (sound : IsSound setting) (w : World) (stamps : Sta
       (each_both (CountedSays setting w me.0 c) (λ x. TellsVersion v x.reply) counted each (fast_each counted v fast))
 
   -- a version that may be answered at once is guarded
-  pub fast_guards : (v : Stamp) → fast_version counted ≡ Some v → PartsGuard w its_operation.ask.group.0 its_operation.ask.stripe.0 group v
+  pub fast_guards : (v : Stamp) → fast_version counted ≡ Some v → IsGuarded w its_operation.ask.group.0 its_operation.ask.stripe.0 group v
   fast_guards v fast =
       at_quorum group counted (λ seat. not (stamp_below
-      (top_of (part_of w its_operation.ask.group.0 its_operation.ask.stripe.0 (brick_at group seat))) v))
+      (top_in w its_operation.ask.group.0 its_operation.ask.stripe.0 (brick_at group seat)) v))
       (each_then (TellsAt v)
       (λ x. (x.seat < length group.members)
-      × (not (stamp_below (top_of (part_of w its_operation.ask.group.0 its_operation.ask.stripe.0 (brick_at group x.seat))) v) ≡ true))
+      × (not (stamp_below (top_in w its_operation.ask.group.0 its_operation.ask.stripe.0 (brick_at group x.seat)) v) ≡ true))
       counted (λ x h. (h.within, not_from_false _ h.top)) (all_tell_at v fast))
       once many
 
@@ -636,9 +635,9 @@ module _ (setting : Setting) (sound : IsSound setting) (w : World) (stamps : Sta
   -- and is at or above the floors of a quorum
   pub fast_floors : (v : Stamp) → fast_version counted ≡ Some v → FloorsAtMost its_operation group v
   fast_floors v fast =
-      at_quorum group counted (λ seat. not (stamp_below v (floor_at its_operation (brick_at group seat))))
+      at_quorum group counted (λ seat. not (stamp_below v (its_operation.floor (brick_at group seat))))
       (each_then (TellsAt v)
-      (λ x. (x.seat < length group.members) × (not (stamp_below v (floor_at its_operation (brick_at group x.seat))) ≡ true))
+      (λ x. (x.seat < length group.members) × (not (stamp_below v (its_operation.floor (brick_at group x.seat))) ≡ true))
       counted (λ x h. (h.within, not_from_false _ h.floor)) (all_tell_at v fast))
       once many
 

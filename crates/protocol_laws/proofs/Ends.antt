@@ -20,8 +20,8 @@ use Rattle.protocol.specs.Nodes.{Node, NodeStep, put, with_call, seen_told, coll
 use Rattle.protocol.specs.Worlds.{World, Operation, number_of, world_stepped, with_seen, with_answer, is_answer, with_held}
 use Rattle.protocol_laws.proofs.Books.{version_after, Books, CallBooks, IsCall, IsOperation}
 use Rattle.protocol_laws.proofs.Said.{Stamping, Said, Stands, WritesWhole, ReadsBack, PacketSays, HasVersion, OperationSays, CallSays, EndShows, IsCalled}
-use Rattle.protocol_laws.proofs.Tables.{put_each, put_same, put_twice, get_grown, get_one, sent_to_member}
-use Rattle.protocol_laws.proofs.Lives.{last_grows}
+use Rattle.protocol.proofs.Tables.{put_each, put_same, put_twice, get_grown, get_one, sent_to_member}
+use Rattle.reg_model.proofs.GrowingLives.{last_grows}
 use Rattle.protocol_laws.proofs.Stampings.{ages_within, stamps_same}
 use Rattle.protocol_laws.proofs.Steps.{KeepsStamps, stamps_stay_by}
 use Rattle.protocol_laws.proofs.Growth.{Grows, Continues, stays_standing, stays_operation, stays_has_version}
@@ -139,7 +139,7 @@ module _ (setting : Setting) (w : World) (stamps : Stamping) (me : BrickId) (c :
 
     keeps : OperatedKeeps w me node marks n o ended w.contents
     keeps = record {
-      replicas = refl;
+      places = (refl, refl, refl);
       boot = refl;
       is = its.operation_is;
       continues = on;

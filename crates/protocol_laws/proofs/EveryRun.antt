@@ -1,5 +1,5 @@
 -- The laws hold in every world that a run reaches.
-use Rattle.std.proofs.Common.{List, [], refl, sym}
+use Rattle.std.proofs.Common.{List, [], sym}
 use Rattle.std.proofs.lemmas.List.{append-nil}
 use Rattle.protocol.specs.Settings.{Setting, IsSound}
 use Rattle.protocol.specs.Views.{Views, layout_views}
@@ -9,14 +9,14 @@ use Rattle.protocol_laws.proofs.Books.{Books}
 use Rattle.protocol_laws.proofs.BooksEvents.{books}
 use Rattle.protocol_laws.proofs.Chains.{neighbours_follow, lowest_follows}
 use Rattle.protocol_laws.proofs.Moments.{refusals_true}
-use Rattle.protocol_laws.proofs.Numbers.{IsNumbered, numbered_run}
+use Rattle.protocol_laws.proofs.Numbers.{IsNumbered, always_numbered}
 use Rattle.protocol_laws.proofs.QuorumFacts.{QuorumFacts, facts}
 use Rattle.protocol_laws.proofs.Said.{Stamping, Said}
 use Rattle.protocol_laws.proofs.SaidAlways.{always_said}
-use Rattle.protocol_laws.proofs.ViewLaws.{follows_layout, always_first, one_content, writes_guarded, bases_newest, collects_stand, drops_older}
+use Rattle.protocol_laws.proofs.ViewLaws.{follows_layout, one_content, writes_guarded, bases_newest, collects_stand, drops_older}
 use Rattle.protocol_laws.proofs.Tallies.{Tallied}
 use Rattle.protocol_laws.proofs.TalliesEvents.{tallied}
-use Rattle.protocol_laws.proofs.StripeLives.{well_formed_stripe, numbers_from_one}
+use Rattle.reg_model.proofs.StripeLives.{well_formed_stripe, numbers_from_one}
 use Rattle.protocol_laws.proofs.Walks.{happenings_strict}
 
 -- the laws, from the books, from what quorums show, and from the history of replies
@@ -53,9 +53,9 @@ every_run setting views events sound follows =
     let said = always_said setting events sound in
     laws setting views w said.0 (books setting events) said.1 (follows events [] (sym (append-nil events)))
     (facts setting sound w said.0 (books setting events) said.1)
-    (tallied setting events sound (λ more. books setting more))
-    (numbered_run setting events (first_world setting.layout) (record { count = refl; each = λ k n is. let never : ⊥ = cc in absurd never }))
-    (refusals_true setting events (λ moment. always_first setting moment sound))
+    (tallied setting events sound)
+    (always_numbered setting events)
+    (refusals_true setting events)
 
 -- for the layout's members
 pub every_layout_run : (setting : Setting) (events : List Event) → IsSound setting

@@ -22,8 +22,7 @@ use Rattle.quorum.proofs.Counts.{count_monotone}
 use Rattle.fab_base.specs.Layouts.{Group}
 use Rattle.reg_model.specs.Registers.{block_of, with_block, after_op, read_of}
 use Rattle.protocol.specs.Settings.{Setting}
-use Rattle.protocol.specs.Views.{view_of}
-use Rattle.protocol.specs.Replicas.{top_of, stamp_max, modified_block}
+use Rattle.protocol.specs.Replicas.{stamp_max, modified_block}
 use Rattle.protocol.specs.declared.phases.Phase.{Phase}
 use Rattle.protocol.specs.declared.phases.Phase.TheVariants.{Orders, Stores, Modifies}
 use Rattle.protocol.specs.declared.phases.Counted.{Counted}
@@ -31,14 +30,13 @@ use Rattle.protocol.specs.Coordinators.{Coordinator, request_of}
 use Rattle.protocol.specs.Worlds.{World, Operation}
 use Rattle.protocol.specs.Happenings.{writes}
 use Rattle.fab_base.specs.Layouts.{brick_at}
-use Rattle.protocol_laws.specs.Laws.{WasSent, AskedAt, part_in, IsModified}
-use Rattle.protocol_laws.proofs.Parts.{PartsNeverFall, part_of, PartsGuard}
-use Rattle.protocol_laws.proofs.FirstViews.{floor_at, part_floor, view_below}
+use Rattle.protocol_laws.specs.Laws.{WasSent, AskedAt, IsModified, IsGuarded, NeverFalls, top_in}
 use Rattle.protocol_laws.proofs.Books.{Books, OperationBooks, IsOperation}
 use Rattle.protocol_laws.proofs.Blocking.{PartsStay, blocked_stays, stands_stays, NewIsLogged}
-use Rattle.protocol_laws.proofs.Said.{Stamping, IsBegun, IsStamped, Stands, AreBlocked, IsContent, IsMadeOrFirst, IsKnown, IsCalled, IsBlockOf, VersionSays, WriteSays, RequestSays, OrderedSays, OrderedReadSays, FoundSays, ReplySays, MessageSays, PacketSays, HasVersion, WritesWhole, ReadsBack, OperationSays, CountedSays, CallSays, DataShown, EndShows, FitsPhase, DescendsFrom, ToldSays, MakerSays, ChangesBlock, ModifySays, OrderSays, OrderReadSays, MadeOn, WasCollected, IsPassedOver}
+use Rattle.protocol_laws.proofs.Said.{Stamping, IsBegun, IsStamped, Stands, AreBlocked, IsMadeOrFirst, IsKnown, IsCalled, IsBlockOf, VersionSays, WriteSays, RequestSays, OrderedSays, OrderedReadSays, FoundSays, ReplySays, MessageSays, PacketSays, HasVersion, WritesWhole, ReadsBack, OperationSays, CountedSays, CallSays, DataShown, EndShows, FitsPhase, DescendsFrom, ToldSays, MakerSays, ChangesBlock, ModifySays, OrderSays, OrderReadSays, MadeOn, WasCollected, IsPassedOver}
 use Rattle.protocol_laws.proofs.Stampings.{StampsGrow, stays_begun, stays_stamped, stays_known}
 use Rattle.protocol_laws.proofs.Counting.{each_then}
+use Rattle.protocol.proofs.Blocks.{IsContent}
 
 -- an operation goes on: it keeps what it is, and a version that it has
 pub record Continues (o p : Operation) : Type 0 where
@@ -92,20 +90,20 @@ stays_collected w next sent g s c was = record {
 }
 
 -- where no top falls, what is at or above t stays so
-pub above_stays : (w next : World) → PartsNeverFall w next → (g s i : ℕ) (t : Stamp) → stamp_below (top_of (part_of w g s i)) t ≡ false
-    → stamp_below (top_of (part_of next g s i)) t ≡ false
-above_stays w next tops g s i t above = stamp_not_below_trans t (top_of (part_of w g s i)) (top_of (part_of next g s i)) above (tops g 1 s i)
+pub above_stays : (w next : World) → NeverFalls w next → (g s i : ℕ) (t : Stamp) → stamp_below (top_in w g s i) t ≡ false
+    → stamp_below (top_in next g s i) t ≡ false
+above_stays w next tops g s i t above = stamp_not_below_trans t (top_in w g s i) (top_in next g s i) above (tops g s i)
 
 -- and what is guarded stays guarded
-pub guarded_stays : (w next : World) → PartsNeverFall w next → (g s : ℕ) (group : Group) (t : Stamp) → PartsGuard w g s group t
-    → PartsGuard next g s group t
+pub guarded_stays : (w next : World) → NeverFalls w next → (g s : ℕ) (group : Group) (t : Stamp) → IsGuarded w g s group t
+    → IsGuarded next g s group t
 guarded_stays w next tops g s group t guarded =
     let more = count_monotone (length group.members)
-    (λ seat. not (stamp_below (top_of (part_of w g s (brick_at group seat))) t))
-    (λ seat. not (stamp_below (top_of (part_of next g s (brick_at group seat))) t))
+    (λ seat. not (stamp_below (top_in w g s (brick_at group seat)) t))
+    (λ seat. not (stamp_below (top_in next g s (brick_at group seat)) t))
     (λ k below is.
-    not_from_false (stamp_below (top_of (part_of next g s (brick_at group k))) t)
-    (above_stays w next tops g s (brick_at group k) t (not-true (stamp_below (top_of (part_of w g s (brick_at group k))) t) is))) in
+    not_from_false (stamp_below (top_in next g s (brick_at group k)) t)
+    (above_stays w next tops g s (brick_at group k) t (not-true (stamp_below (top_in w g s (brick_at group k)) t) is))) in
     omega (arith, guarded, more)
 
 module _ (setting : Setting) (w next : World) (stamps later : Stamping) (books : Books setting w) (grows : Grows w next stamps later) where
@@ -163,11 +161,11 @@ module _ (setting : Setting) (w next : World) (stamps later : Stamping) (books :
   stays_phase i b k p phase t is = stays_begun stamps later grows.grow i b k p phase t is
 
   -- what is at or above t stays so
-  pub stays_above : (g s i : ℕ) (t : Stamp) → stamp_below (top_of (part_of w g s i)) t ≡ false → stamp_below (top_of (part_of next g s i)) t ≡ false
+  pub stays_above : (g s i : ℕ) (t : Stamp) → stamp_below (top_in w g s i) t ≡ false → stamp_below (top_in next g s i) t ≡ false
   stays_above g s i t above = above_stays w next grows.parts.tops g s i t above
 
   -- what is guarded stays guarded
-  pub stays_guarded : (g s : ℕ) (group : Group) (t : Stamp) → PartsGuard w g s group t → PartsGuard next g s group t
+  pub stays_guarded : (g s : ℕ) (group : Group) (t : Stamp) → IsGuarded w g s group t → IsGuarded next g s group t
   stays_guarded g s group t guarded = guarded_stays w next grows.parts.tops g s group t guarded
 
   -- what is blocked stays blocked
@@ -315,7 +313,7 @@ module _ (setting : Setting) (w next : World) (stamps later : Stamping) (books :
         stamp = says.stamp;
         stamp_is = stays_phase i call.boot call.seq call.phase Orders says.stamp says.stamp_is;
         promised = stays_above call.group.0 call.stripe.0 j says.stamp says.promised;
-        floor = subst (λ (f : ℕ → Stamp). stamp_below says.stamp (part_floor (f j)) ≡ false) (sym goes.2.floor) says.floor;
+        floor = subst (λ (f : ℕ → Stamp). stamp_below says.stamp (f j) ≡ false) (sym goes.2.floor) says.floor;
       }
 
   pub stays_found : (j i : ℕ) (call : Call) (order : Stamp) (version : Version) → FoundSays setting w j i call order version
@@ -326,7 +324,7 @@ module _ (setting : Setting) (w next : World) (stamps later : Stamping) (books :
         operation = goes.0;
         called = goes.1;
         top = stays_above call.group.0 call.stripe.0 j (stamp_max order version.stamp) says.top;
-        floor = subst (λ (f : ℕ → Stamp). stamp_below (stamp_max order version.stamp) (part_floor (f j)) ≡ false) (sym goes.2.floor) says.floor;
+        floor = subst (λ (f : ℕ → Stamp). stamp_below (stamp_max order version.stamp) (f j) ≡ false) (sym goes.2.floor) says.floor;
         held = grows.parts.held call.group.0 call.stripe.0 j version.stamp says.held;
         says = stays_told call.group.0 call.stripe.0 j version says.says;
       }
@@ -347,7 +345,7 @@ module _ (setting : Setting) (w next : World) (stamps later : Stamping) (books :
         below = says.below;
         view = says.view;
         promised = stays_above call.group.0 call.stripe.0 j says.stamp says.promised;
-        floor = subst (λ (f : ℕ → Stamp). stamp_below says.stamp (part_floor (f j)) ≡ false) (sym goes.2.floor) says.floor;
+        floor = subst (λ (f : ℕ → Stamp). stamp_below says.stamp (f j) ≡ false) (sym goes.2.floor) says.floor;
         newest = λ d held less. ⊎_elim
             (λ (was : w.held j call.group.0 call.stripe.0 d ≡ true). ⊎_elim
             (λ (within : IsWithin found d). inl within)
@@ -359,13 +357,10 @@ module _ (setting : Setting) (w next : World) (stamps later : Stamping) (books :
               collected = stays_collected w next grows.sent call.group.0 call.stripe.0 passed.at passed.collected;
             }))
             (says.newest d was less))
-            (λ (new : stamp_below d (top_of (part_in w call.group.0 (view_of d) call.stripe.0 j)) ≡ false).
-            let lower : stamp_below d says.stamp ≡ true = says.below d less in
-            let above : stamp_below d says.stamp ≡ false = stamp_not_below_trans says.stamp
-            (top_of (part_of w call.group.0 call.stripe.0 j)) d says.promised
-            (subst (λ (e : ℕ). stamp_below d (top_of (part_in w call.group.0 e call.stripe.0 j)) ≡ false)
-            (view_below d says.stamp (omega (arith, says.view)) lower) new) in
-            absurd (false≢true (sym above ∙ lower)))
+            (λ (new : stamp_below d (top_in w call.group.0 call.stripe.0 j) ≡ false).
+            let above : stamp_below d says.stamp ≡ false
+            = stamp_not_below_trans says.stamp (top_in w call.group.0 call.stripe.0 j) d says.promised new in
+            absurd (false≢true (sym above ∙ says.below d less)))
             (grows.parts.newer call.group.0 call.stripe.0 j d held);
         held = λ version is. grows.parts.held call.group.0 call.stripe.0 j version.stamp (says.held version is);
         says = λ version is. stays_told call.group.0 call.stripe.0 j version (says.says version is);
@@ -436,12 +431,16 @@ module _ (setting : Setting) (w next : World) (stamps later : Stamping) (books :
   pub stays_operation : (n : ℕ) (o : Operation) → IsOperation w n o → OperationSays setting w stamps n o → OperationSays setting next later n o
   stays_operation n o is says = record {
     begin = omega (arith, says.begin, grows.marks);
-    floors = λ i. stays_above o.ask.group.0 o.ask.stripe.0 i (floor_at o i) (says.floors i);
-    floors_known = λ i. stays_known stamps later grows.grow (floor_at o i) (says.floors_known i);
+    floors = λ i. stays_above o.ask.group.0 o.ask.stripe.0 i (o.floor i) (says.floors i);
+    floors_known = λ i. ⊎_elim
+        (λ (known : IsKnown stamps (o.floor i)). inl (stays_known stamps later grows.grow (o.floor i) known))
+        (λ (none : (o.floor i).time ≡ 0). inr none)
+        (says.floors_known i);
     fresh = λ i p stamped. ⊎_elim
-        (λ (own : (q : ℕ) × IsStamped stamps o.brick.0 o.boot o.seq q (floor_at o i)). says.fresh i own.0 own.1)
-        (λ (unknown : IsKnown stamps (floor_at o i) → ⊥). unknown (says.floors_known i))
-        (grows.grow.newer o.brick.0 o.boot o.seq p (floor_at o i) stamped);
+        (λ (own : (q : ℕ) × IsStamped stamps o.brick.0 o.boot o.seq q (o.floor i)). says.fresh i own.0 own.1)
+        (λ (new : (IsKnown stamps (o.floor i) → ⊥) × (1 ≤ (o.floor i).time)). ⊎_elim new.0
+        (λ (none : (o.floor i).time ≡ 0). omega (arith, none, new.1)) (says.floors_known i))
+        (grows.grow.newer o.brick.0 o.boot o.seq p (o.floor i) stamped);
     made = λ made.
         let had = says.made made in (had.0, had.1, had.2, stays_stamp o.brick.0 o.boot o.seq had.1 had.0 had.3);
     maker = λ v made version. stays_maker n o v is made version (says.maker v made version);

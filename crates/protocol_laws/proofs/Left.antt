@@ -14,11 +14,12 @@ use Rattle.protocol.specs.declared.phases.Counted.{Counted}
 use Rattle.protocol.specs.declared.tellings.Told.{Told}
 use Rattle.protocol.specs.declared.tellings.Told.TheVariants.{Made, Seen}
 use Rattle.protocol.specs.declared.tellings.Answered.{Answered}
-use Rattle.protocol.specs.Nodes.{Node, NodeStep, group_at, put, refusal_of, requested_at, seat_served, requested_in, requested, absorbed, stopped, restarted, invoked, received}
-use Rattle.protocol.specs.Worlds.{World, Found, Before, After, Event, Invokes, Delivers, Sets, Ticks, Stops, Starts, first_world, is_brick, is_up, may_begin, may_start, world_began, world_told, world_tells, world_answered, world_answers, world_stepped, world_ticked, left_after, packet_during, world_stopped, world_found, world_started, replies_with, delivered, packet_of, happens, run}
+use Rattle.protocol.specs.Nodes.{Node, NodeStep, group_at, put, refusal_of, requested_at, seat_served, requested_in, requested, absorbed, stopped, restarted, invoked}
+use Rattle.protocol.specs.Worlds.{World, Found, Before, After, Event, first_world, is_brick, is_up, world_began, world_told, world_tells, world_answered, world_answers, world_stepped, world_ticked, left_after, packet_during, world_stopped, world_found, world_started, replies_with, packet_of, run}
 use Rattle.protocol_laws.specs.Laws.{WasSent}
-use Rattle.protocol_laws.proofs.Puts.{put_other}
-use Rattle.protocol_laws.proofs.Tables.{put_same, get_kept}
+use Rattle.protocol.proofs.Puts.{put_other}
+use Rattle.protocol.proofs.Tables.{put_same, get_kept}
+use Rattle.protocol.proofs.Events.{EventCases, step_on, started_each, always}
 
 -- a stopped brick that handles a message keeps what it would have kept by handling it before it stopped
 requested_stopped : (setting : Setting) (me from : BrickId) (node : Node) (call : Call) (request : Request)
@@ -114,7 +115,7 @@ after_told : (setting : Setting) (brick : BrickId) (w : World) (told : Told) →
 after_told setting brick w (Made seq t base) = refl
 after_told setting brick w (Seen seq v) = refl
 
-after_stepped : (setting : Setting) (w : World) (me : BrickId) (step : NodeStep) → (world_stepped setting w me step).after ≡ w.after
+pub after_stepped : (setting : Setting) (w : World) (me : BrickId) (step : NodeStep) → (world_stepped setting w me step).after ≡ w.after
 after_stepped setting w me step =
     answered_same (λ x. x.after) me (λ x answered. refl) step.answers (world_tells setting w me step.told)
     ∙ told_same setting (λ x. x.after) me (after_told setting me) step.told w
@@ -129,24 +130,13 @@ leaves_stepped setting w replies reached me step up leaves =
     (was, put_other w.nodes me.0 step.node i (apart w i me.0 was up), ap (λ (f : ℕ → Node). f i) (after_stepped setting counted me step)))
     (λ packet sent. (sent.0, get_kept w.packets step.packets sent.0 packet sent.1)) leaves
 
-leaves_delivered : (setting : Setting) (w : World) (number : ℕ) (packet : Option Packet) → Leaves setting w
-    → Leaves setting (delivered setting w number packet)
-leaves_delivered setting w number None leaves = leaves
-leaves_delivered setting w number (Some packet) leaves =
-    let step : NodeStep = received setting packet.to (w.clocks packet.to.0) (w.nodes packet.to.0) packet in
-    let counted : World = record w { replies = replies_with setting w packet; reached = put w.reached number true } in
-    cond_both (is_up setting.layout w packet.to) (world_stepped setting counted packet.to step) w (λ (next : World). Leaves setting next)
-    (λ up. leaves_stepped setting w (replies_with setting w packet) (put w.reached number true) packet.to step
-    (and_parts (is_brick setting.layout packet.to) (w.up packet.to.0) up).1 leaves)
-    (λ down. leaves)
-
 -- a packet of a number was sent
 pub packet_was_sent : (w : World) (number : ℕ) (packet : Packet) → packet_of w.packets number ≡ Some packet → WasSent w packet
 packet_was_sent w zero packet is = cc
 packet_was_sent w (suc k) packet is = (k, is)
 
 -- so was one during whose handling a brick stopped
-during_was_sent : (w : World) (during : Option ℕ) (packet : Packet) → packet_during w.packets during ≡ Some packet → WasSent w packet
+pub during_was_sent : (w : World) (during : Option ℕ) (packet : Packet) → packet_during w.packets during ≡ Some packet → WasSent w packet
 during_was_sent w None packet is = cc
 during_was_sent w (Some number) packet is = packet_was_sent w number packet is
 
@@ -220,48 +210,32 @@ leaves_after setting w brick openings leaves i down = ⊎_elim
     (λ packet sent. sent) leaves)
     (cases_eq i brick.0)
 
-leaves_found : (setting : Setting) (w : World) (brick : BrickId) (openings : ℕ) (found : Found) → Leaves setting w
-    → Leaves setting (world_started (world_found w brick found) brick openings)
-leaves_found setting w brick openings Before leaves = leaves_started setting w brick openings leaves
-leaves_found setting w brick openings After leaves = leaves_after setting w brick openings leaves
-
--- through any event
-pub leaves_happens : (setting : Setting) (w : World) (event : Event) → Leaves setting w → Leaves setting (happens setting w event)
-unfolding happens
-leaves_happens setting w (Invokes brick ask) leaves =
-    let step : NodeStep = invoked setting brick (w.clocks brick.0) (w.nodes brick.0) ask in
-    cond_both (may_begin setting w brick ask) (world_began w brick ask step) w (λ (next : World). Leaves setting next)
-    (λ may.
-    let up = and_parts (is_up setting.layout w brick) (not (is_some (refusal_of setting.layout (w.nodes brick.0) ask))) may in
-    leaves_on setting w (world_began w brick ask step)
-    (steps_on w brick.0 step.node (and_parts (is_brick setting.layout brick) (w.up brick.0) up.0).1)
-    (λ packet sent. (sent.0, get_kept w.packets step.packets sent.0 packet sent.1)) leaves)
-    (λ isnt. leaves)
-leaves_happens setting w (Delivers number) leaves = leaves_delivered setting w number (packet_of w.packets number) leaves
-leaves_happens setting w (Sets brick time) leaves =
-    cond_both (is_brick setting.layout brick) (record w { clocks = put w.clocks brick.0 time }) w (λ (next : World). Leaves setting next)
-    (λ is. leaves) (λ isnt. leaves)
-leaves_happens setting w (Ticks brick) leaves =
-    cond_both (is_up setting.layout w brick) (world_ticked setting w brick) w (λ (next : World). Leaves setting next)
-    (λ up. leaves_on setting w (world_ticked setting w brick) (λ i down. (down, refl, refl))
-    (λ packet sent. (sent.0, get_kept w.packets _ sent.0 packet sent.1)) leaves)
-    (λ down. leaves)
-leaves_happens setting w (Stops brick during) leaves =
-    cond_both (is_up setting.layout w brick) (world_stopped setting w brick during) w (λ (next : World). Leaves setting next)
-    (λ up. leaves_stopped setting w brick during leaves) (λ down. leaves)
-leaves_happens setting w (Starts brick openings found) leaves =
-    cond_both (may_start setting.layout w brick openings) (world_started (world_found w brick found) brick openings) w
-    (λ (next : World). Leaves setting next)
-    (λ may. leaves_found setting w brick openings found leaves) (λ cannot. leaves)
-
--- and through any schedule
-pub leaves_run : (setting : Setting) (events : List Event) (w : World) → Leaves setting w → Leaves setting (run setting events w)
-leaves_run setting [] w leaves = leaves
-leaves_run setting (event ∷ events) w leaves = leaves_run setting events (happens setting w event) (leaves_happens setting w event leaves)
+-- every event leaves each store as it may be
+leaves_cases : (setting : Setting) (w : World) → Leaves setting w → EventCases setting w (Leaves setting)
+leaves_cases setting w leaves = record {
+  begins = λ brick ask may.
+      (let step : NodeStep = invoked setting brick (w.clocks brick.0) (w.nodes brick.0) ask in
+      let up = and_parts (is_up setting.layout w brick) (not (is_some (refusal_of setting.layout (w.nodes brick.0) ask))) may in
+      leaves_on setting w (world_began w brick ask step)
+      (steps_on w brick.0 step.node (and_parts (is_brick setting.layout brick) (w.up brick.0) up.0).1)
+      (λ packet sent. (sent.0, get_kept w.packets step.packets sent.0 packet sent.1)) leaves);
+  handles = λ number packet at up.
+      leaves_stepped setting w (replies_with setting w packet) (put w.reached number true) packet.to (step_on setting w packet)
+      (and_parts (is_brick setting.layout packet.to) (w.up packet.to.0) up).1 leaves;
+  sets = λ brick time is. leaves;
+  ticks = λ brick up.
+      leaves_on setting w (world_ticked setting w brick) (λ i down. (down, refl, refl))
+      (λ packet sent. (sent.0, get_kept w.packets _ sent.0 packet sent.1)) leaves;
+  stops = λ brick during up. leaves_stopped setting w brick during leaves;
+  starts = λ brick openings found may.
+      started_each (Leaves setting) w brick openings (leaves_started setting w brick openings leaves) (leaves_after setting w brick openings leaves)
+      found;
+}
 
 -- at first every brick is up
 pub always_leaves : (setting : Setting) (events : List Event) → Leaves setting (run setting events (first_world setting.layout))
-always_leaves setting events = leaves_run setting events (first_world setting.layout) (λ i down. absurd (let never : true ≡ false = down in cc))
+always_leaves setting events =
+    always (Leaves setting) setting (λ i down. absurd (let never : true ≡ false = down in cc)) (leaves_cases setting) events
 
 -- a brick that starts with what its store is found to hold is still down
 pub found_down : (w : World) (brick : BrickId) (found : Found) → w.up brick.0 ≡ false → (world_found w brick found).up brick.0 ≡ false

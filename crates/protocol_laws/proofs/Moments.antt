@@ -1,5 +1,5 @@
 -- What a member told was true of it when it told it.
-use Rattle.std.proofs.Common.{nat_lt, ◌≡◌, ℕ, true, zero, suc, ◌+◌, ◌≤◌, ◌⊎◌, inl, inr, ⊎_elim, List, [], ◌∷◌, ◌++◌, length, Option, Some, None, refl, sym, ap, ◌∙◌, subst, arith}
+use Rattle.std.proofs.Common.{nat_lt, ◌≡◌, ℕ, true, zero, suc, ◌≤◌, ◌⊎◌, inl, inr, ⊎_elim, List, [], ◌∷◌, ◌++◌, length, Option, Some, None, refl, sym, ap, ◌∙◌, subst, arith, false}
 use Rattle.std.specs.Prelude.{slice_get, nat_eq}
 use Rattle.std.proofs.lemmas.Bool.{cond_both}
 use Rattle.std.proofs.lemmas.List.{append-nil}
@@ -17,14 +17,16 @@ use Rattle.fab_base.specs.Layouts.{Group}
 use Rattle.protocol.specs.Settings.{Setting, Code}
 use Rattle.protocol_laws.proofs.Reactions.{modified_each}
 use Rattle.protocol.specs.Replicas.{Replica, Reaction, top_of, is_held, is_wanted, told_version, stays, unless_full, promised, stored, looked_up, handle, ignored}
-use Rattle.protocol.specs.declared.phases.Counted.{Counted}
-use Rattle.protocol.specs.Coordinators.{Coordinator, Next, Ignores, Waits, Sends, Makes, Ends, has_seat, request_of, on_reply}
-use Rattle.protocol.specs.Nodes.{view_at, Node, NodeStep, replica_at, full_at, reply_packets, to_members, collect_packets, resent_to, resent, resent_up_to, ticked, began, invoked, requested, known_after, fresh_stamp, carried_out, group_at, replied_at, replied, received, put}
-use Rattle.protocol.specs.Worlds.{World, Found, Before, After, Event, Invokes, Delivers, Sets, Ticks, Stops, Starts, first_world, is_brick, is_up, may_begin, may_start, world_began, world_stepped, world_ticked, world_stopped, world_found, world_started, replies_with, delivered, packet_of, happens, run}
-use Rattle.protocol_laws.specs.Laws.{RefusalIsTrue, Sending, RefusalsWereTrue}
-use Rattle.protocol_laws.proofs.FirstViews.{AreInFirst, view_first, top_told}
-use Rattle.protocol_laws.proofs.Served.{request_each}
-use Rattle.protocol_laws.proofs.Tables.{get_grown, sent_to_member}
+use Rattle.protocol.specs.Coordinators.{Coordinator, Next, Ignores, Waits, Sends, Makes, Ends, request_of, on_reply}
+use Rattle.protocol.specs.Nodes.{view_at, Node, replica_at, full_at, reply_packets, ticked, began, invoked, requested, known_after, fresh_stamp, carried_out, group_at, replied_at, replied, received, phase_packets, new_coordinator, view_floor}
+use Rattle.protocol.specs.Worlds.{World, Event, first_world, world_stopped, happens, run}
+use Rattle.protocol_laws.specs.Laws.{RefusalIsTrue, Sending, RefusalsWereTrue, stamp_asked}
+use Rattle.protocol.proofs.Served.{request_each, served_open}
+use Rattle.protocol.proofs.Events.{EventCases, step_on, happens_each, started_each, run-append}
+use Rattle.protocol.proofs.Packets.{OfEach, each_none, each_member, each_collect, each_reply, each_ticked}
+use Rattle.protocol_laws.proofs.Tops.{top_is_part}
+use Rattle.protocol_laws.proofs.StampViews.{StampViews, NodeViews, RequestIsOf, MessageIsOf, asks_above, always_views}
+use Rattle.protocol_laws.proofs.Left.{packet_was_sent}
 
 -- what a packet refuses is true of its sender in a world
 abbrev IsTrue : World → Packet → Type 0
@@ -32,89 +34,48 @@ IsTrue w packet = RefusalIsTrue w packet.from packet.message
 
 -- of each of these packets
 abbrev AreTrue : World → List Packet → Type 0
-AreTrue w packets = (k : ℕ) (packet : Packet) → slice_get packets k ≡ Some packet → IsTrue w packet
-
--- of none
-none_true : (w : World) → AreTrue w []
-none_true w k packet at = cc
-
--- of packets that follow others
-true_both : (w : World) (one other : List Packet) → AreTrue w one → AreTrue w other → AreTrue w (one ++ other)
-true_both w one other first second k packet at = ⊎_elim
-    (λ (old : slice_get one k ≡ Some packet). first k packet old)
-    (λ (new : (j : ℕ) × (slice_get other j ≡ Some packet)). second new.0 packet new.1)
-    (get_grown one other k packet at)
+AreTrue w packets = OfEach (IsTrue w) packets
 
 -- a request refuses nothing
-members_true : (w : World) (me : BrickId) (call : Call) (request : ℕ → Request) (seat : ℕ) (members : List BrickId)
-    → AreTrue w (to_members me call request seat members)
-members_true w me call request seat members k packet at =
-    let sent = sent_to_member me call request seat members k packet at in subst (λ (z : Packet). IsTrue w z) (sym sent.2) tt
+phase_true : (setting : Setting) (w : World) (me : BrickId) (c : Coordinator) → AreTrue w (phase_packets setting me c)
+phase_true setting w me c = each_member (IsTrue w) me c.call (request_of setting.code c) (λ seat to. tt) 0 c.group.members
 
-collects_true : (w : World) (me : BrickId) (c : Coordinator) (stored : Option Stamp) → AreTrue w (collect_packets me c stored)
-collects_true w me c None = none_true w
-collects_true w me c (Some t) = members_true w me c.call (λ seat. Request.Collect t) 0 c.group.members
+-- a reply refuses only what is so: a later stamp is the part's own, and above the one that was asked at; and live records are as many as there may be
+abbrev SaysTrue : Option ℕ → Replica → Request → Option Reply → Type 0
+SaysTrue full replica request None = Unit {0}
+SaysTrue full replica request (Some (Reply.Later x)) = (top_of replica ≡ x) × ((t : Stamp) × (stamp_asked request ≡ Some t) × (stamp_below t x ≡ true))
+SaysTrue full replica request (Some (Reply.Full live)) = full ≡ Some live
+SaysTrue full replica request (Some reply) = Unit {0}
 
-one_true : (w : World) (one : Packet) (rest : List Packet) → IsTrue w one → AreTrue w rest → AreTrue w (one ∷ rest)
-one_true w one rest first others zero packet at = subst (λ (z : Packet). IsTrue w z) (same_Some one packet at) first
-one_true w one rest first others (suc k) packet at = others k packet at
-
-resent_true : (w : World) (me : BrickId) (call : Call) (request : ℕ → Request) (counted : List Counted) (seat : ℕ) (members : List BrickId)
-    → AreTrue w (resent_to me call request counted seat members)
-resent_true w me call request counted seat [] = none_true w
-resent_true w me call request counted seat (member ∷ members) =
-    let rest : AreTrue w (resent_to me call request counted (seat + 1) members) = resent_true w me call request counted (seat + 1) members in
-    cond_both (has_seat seat counted) (resent_to me call request counted (seat + 1) members) _ (λ (l : List Packet). AreTrue w l)
-    (λ has. rest)
-    (λ hasnt. one_true w (record { from = me; to = member; message = Message.Request call (request seat) })
-    (resent_to me call request counted (seat + 1) members) tt rest)
-
--- what is sent again at a tick
-ticked_true : (setting : Setting) (w : World) (me : BrickId) (calls : ℕ → Option Coordinator) (k : ℕ) → AreTrue w (resent_up_to setting me calls k)
-ticked_true setting w me calls zero = none_true w
-ticked_true setting w me calls (suc k) =
-    true_both w (resent_up_to setting me calls k) (resent setting me (calls (suc k))) (ticked_true setting w me calls k) (of_call (calls (suc k)))
-  where
-    of_call : (z : Option Coordinator) → AreTrue w (resent setting me z)
-    of_call None = none_true w
-    of_call (Some c) = resent_true w me c.call (request_of setting.code c) c.counted 0 c.group.members
-
--- a reply refuses only what is so: a later stamp is the part's own, and above another one; and live records are as many as there may be
-abbrev SaysTrue : Option ℕ → Replica → Option Reply → Type 0
-SaysTrue full replica None = Unit {0}
-SaysTrue full replica (Some (Reply.Later x)) = (top_of replica ≡ x) × ((t : Stamp) × (stamp_below t x ≡ true))
-SaysTrue full replica (Some (Reply.Full live)) = full ≡ Some live
-SaysTrue full replica (Some reply) = Unit {0}
-
-unless_full_true : (full whole : Option ℕ) (replica : Replica) (reaction : Reaction) → whole ≡ full → SaysTrue whole replica reaction.reply
-    → SaysTrue whole replica (unless_full full replica reaction).reply
-unless_full_true None whole replica reaction is says = says
-unless_full_true (Some live) whole replica reaction is says =
-    cond_both (nat_lt reaction.drops reaction.adds) (stays replica (Reply.Full live)) reaction (λ (z : Reaction). SaysTrue whole replica z.reply) (λ adds. is) (λ isnt. says)
+unless_full_true : (full whole : Option ℕ) (replica : Replica) (request : Request) (reaction : Reaction) → whole ≡ full → SaysTrue whole replica request reaction.reply
+    → SaysTrue whole replica request (unless_full full replica reaction).reply
+unless_full_true None whole replica request reaction is says = says
+unless_full_true (Some live) whole replica request reaction is says =
+    cond_both (nat_lt reaction.drops reaction.adds) (stays replica (Reply.Full live)) reaction (λ (z : Reaction). SaysTrue whole replica request z.reply) (λ adds. is) (λ isnt. says)
 
 handle_true : (code : Code) (m : ℕ) (full : Option ℕ) (seat : ℕ) (replica : Replica) (request : Request)
-    → SaysTrue full replica (handle code m full seat replica request).reply
+    → SaysTrue full replica request (handle code m full seat replica request).reply
 unfolding handle
 handle_true code m full seat replica (Request.Read want) = tt
 handle_true code m full seat replica (Request.Order t) =
-    cond_both (stamp_below t (top_of replica)) (stays replica (Reply.Later (top_of replica))) _ (λ (z : Reaction). SaysTrue full replica z.reply)
-    (λ below. (refl, (t, below))) (λ at. unless_full_true full full replica (promised replica t Reply.Ordered) refl tt)
+    cond_both (stamp_below t (top_of replica)) (stays replica (Reply.Later (top_of replica))) _ (λ (z : Reaction). SaysTrue full replica (Request.Order t) z.reply)
+    (λ below. (refl, (t, refl, below))) (λ at. unless_full_true full full replica (Request.Order t) (promised replica t Reply.Ordered) refl tt)
 handle_true code m full seat replica (Request.Write t block) =
-    cond_both (is_held t replica.log) (stays replica Reply.Stored) _ (λ (z : Reaction). SaysTrue full replica z.reply)
+    cond_both (is_held t replica.log) (stays replica Reply.Stored) _ (λ (z : Reaction). SaysTrue full replica (Request.Write t block) z.reply)
     (λ held. tt)
     (λ isnt. cond_both (stamp_below t (top_of replica)) (stays replica (Reply.Later (top_of replica))) _
-    (λ (z : Reaction). SaysTrue full replica z.reply)
-    (λ below. (refl, (t, below))) (λ at. unless_full_true full full replica (stored replica t block) refl tt))
+    (λ (z : Reaction). SaysTrue full replica (Request.Write t block) z.reply)
+    (λ below. (refl, (t, refl, below))) (λ at. unless_full_true full full replica (Request.Write t block) (stored replica t block) refl tt))
 handle_true code m full seat replica (Request.OrderRead t look want) =
-    cond_both (stamp_below t (top_of replica)) (stays replica (Reply.Later (top_of replica))) _ (λ (z : Reaction). SaysTrue full replica z.reply)
-    (λ below. (refl, (t, below)))
-    (λ at. unless_full_true full full replica
+    cond_both (stamp_below t (top_of replica)) (stays replica (Reply.Later (top_of replica))) _ (λ (z : Reaction). SaysTrue full replica (Request.OrderRead t look want) z.reply)
+    (λ below. (refl, (t, refl, below)))
+    (λ at. unless_full_true full full replica (Request.OrderRead t look want)
     (promised replica t (Reply.OrderedRead (told_version (is_wanted want seat) (looked_up look replica.log)))) refl tt)
 handle_true code m full seat replica (Request.Modify t base j delta) =
-    modified_each code m seat (λ (z : Reaction). SaysTrue full replica z.reply) full replica t base j delta
-    tt (λ below. (refl, (t, below))) (λ newest. tt) (λ live is. is) (λ at old is same. tt)
+    modified_each code m seat (λ (z : Reaction). SaysTrue full replica (Request.Modify t base j delta) z.reply) full replica t base j delta
+    tt (λ below. (refl, (t, refl, below))) (λ newest. tt) (λ live is. is) (λ at old is same. tt)
 handle_true code m full seat replica (Request.Collect t) =
-    cond_both (is_held t replica.log) _ (ignored replica) (λ (z : Reaction). SaysTrue full replica z.reply) (λ held. tt) (λ isnt. tt)
+    cond_both (is_held t replica.log) _ (ignored replica) (λ (z : Reaction). SaysTrue full replica (Request.Collect t) z.reply) (λ held. tt) (λ isnt. tt)
 handle_true code m full seat replica (Request.OldRead bound) = tt
 handle_true code m full seat replica (Request.Prepare ballot) = tt
 handle_true code m full seat replica (Request.Accept ballot members) = tt
@@ -125,38 +86,43 @@ full_live records node live is =
     cond_both (nat_eq node.live records) (Some node.live) None (λ (z : Option ℕ). z ≡ Some live → node.live ≡ live)
     (λ same e. same_Some node.live live e) (λ other e. cc) is
 
-replies_true : (setting : Setting) (w : World) (me to : BrickId) (call : Call) (reply : Option Reply) → AreInFirst setting.layout w
+replies_true : (setting : Setting) (w : World) (me to : BrickId) (call : Call) (request : Request) (reply : Option Reply)
+    → ((t : Stamp) → stamp_asked request ≡ Some t → stamp_below t (view_floor (w.nodes me.0) call.group.0) ≡ false)
     → call.view.0 ≡ view_at (w.nodes me.0) call.group.0
-    → SaysTrue (full_at setting.layout.records (w.nodes me.0).live) (replica_at (w.nodes me.0) call) reply → AreTrue w (reply_packets me to call reply)
-replies_true setting w me to call None first view says = none_true w
-replies_true setting w me to call (Some reply) first view says =
-    one_true w (record { from = me; to = to; message = Message.Reply call reply }) [] (said reply says) (none_true w)
+    → SaysTrue (full_at setting.layout.records (w.nodes me.0).live) (replica_at (w.nodes me.0) call) request reply
+    → AreTrue w (reply_packets me to call reply)
+replies_true setting w me to call request reply above view says =
+    each_reply (IsTrue w) me to call reply (λ r is. said r (subst (λ (z : Option Reply). Says z) is says))
   where
-    said : (r : Reply) → SaysTrue (full_at setting.layout.records (w.nodes me.0).live) (replica_at (w.nodes me.0) call) (Some r)
-        → IsTrue w (record { from = me; to = to; message = Message.Reply call r })
+    Says : Option Reply → Type 0
+    Says z = SaysTrue (full_at setting.layout.records (w.nodes me.0).live) (replica_at (w.nodes me.0) call) request z
+
+    said : (r : Reply) → Says (Some r) → IsTrue w (record { from = me; to = to; message = Message.Reply call r })
     said (Reply.Later x) is =
-        top_told setting.layout (w.nodes me.0) call.group.0 call.stripe.0 is.1.0 x (first.bricks me.0) (first.tops call.group.0 call.stripe.0 me.0)
-        (ap (λ (e : ℕ). top_of ((w.nodes me.0).replicas call.group.0 e call.stripe.0))
-        (sym (view ∙ view_first setting.layout (w.nodes me.0) call.group.0 (first.bricks me.0))) ∙ is.0) is.1.1
+        let part : top_of ((w.nodes me.0).replicas call.group.0 (view_at (w.nodes me.0) call.group.0) call.stripe.0) ≡ x
+        = ap (λ (e : ℕ). top_of ((w.nodes me.0).replicas call.group.0 e call.stripe.0)) (sym view) ∙ is.0 in
+        top_is_part (w.nodes me.0) call.group.0 call.stripe.0 is.1.0 (above is.1.0 is.1.1) (ap (λ (z : Stamp). stamp_below is.1.0 z) part ∙ is.1.2)
+        ∙ part
     said (Reply.Full live) is = full_live setting.layout.records (w.nodes me.0) live is
     said r is = tt
 
 -- what a step on a message sends
-requested_true : (setting : Setting) (w : World) (me from : BrickId) (call : Call) (request : Request) → AreInFirst setting.layout w
-    → AreTrue w (requested setting me from (w.nodes me.0) call request).packets
-requested_true setting w me from call request first =
-    request_each (λ step. AreTrue w step.packets) setting me from (w.nodes me.0) call request (none_true w)
-    (λ group seat here at view. replies_true setting w me from call
-    (handle setting.code group.m (full_at setting.layout.records (w.nodes me.0).live) seat (replica_at (w.nodes me.0) call) request).reply first view
+requested_true : (setting : Setting) (w : World) (me from : BrickId) (call : Call) (request : Request) → NodeViews setting.layout (w.nodes me.0)
+    → RequestIsOf call request → AreTrue w (requested setting me from (w.nodes me.0) call request).packets
+requested_true setting w me from call request has asks =
+    request_each (λ step. AreTrue w step.packets) setting me from (w.nodes me.0) call request (each_none (IsTrue w))
+    (λ group seat here at view. replies_true setting w me from call request
+    (handle setting.code group.m (full_at setting.layout.records (w.nodes me.0).live) seat (replica_at (w.nodes me.0) call) request).reply
+    (asks_above setting.layout (w.nodes me.0) call request has asks view (served_open setting me (w.nodes me.0) call request group seat at)) view
     (handle_true setting.code group.m (full_at setting.layout.records (w.nodes me.0).live) seat (replica_at (w.nodes me.0) call) request))
 
 carried_true : (setting : Setting) (w : World) (me : BrickId) (node : Node) (known : ℕ) (c : Coordinator) (next : Next)
     → AreTrue w (carried_out setting me node known c next).packets
-carried_true setting w me node known c Ignores = none_true w
-carried_true setting w me node known c (Waits d) = none_true w
-carried_true setting w me node known c (Sends d) = members_true w me d.call (request_of setting.code d) 0 d.group.members
-carried_true setting w me node known c (Makes d) = members_true w me d.call (request_of setting.code d) 0 d.group.members
-carried_true setting w me node known c (Ends answer seen held) = collects_true w me c held
+carried_true setting w me node known c Ignores = each_none (IsTrue w)
+carried_true setting w me node known c (Waits d) = each_none (IsTrue w)
+carried_true setting w me node known c (Sends d) = phase_true setting w me d
+carried_true setting w me node known c (Makes d) = phase_true setting w me d
+carried_true setting w me node known c (Ends answer seen held) = each_collect (IsTrue w) me c held (λ t to. tt)
 
 replied_true : (setting : Setting) (w : World) (me : BrickId) (now : ℕ) (from : BrickId) (call : Call) (reply : Reply)
     → AreTrue w (replied setting me now from (w.nodes me.0) call reply).packets
@@ -164,26 +130,26 @@ unfolding replied
 replied_true setting w me now from call reply = at_call ((w.nodes me.0).calls call.seq)
   where
     at_call : (z : Option Coordinator) → AreTrue w (replied_at setting me now from (w.nodes me.0) call reply z).packets
-    at_call None = none_true w
+    at_call None = each_none (IsTrue w)
     at_call (Some c) =
         carried_true setting w me (w.nodes me.0) (known_after (w.nodes me.0).known reply) c
         (on_reply setting.layout.block setting.code
         (fresh_stamp me c.call.view now (w.nodes me.0).boot (known_after (w.nodes me.0).known reply)) c from call reply)
 
-received_true : (setting : Setting) (w : World) (now : ℕ) (from to : BrickId) (message : Message) → AreInFirst setting.layout w
-    → AreTrue w (received setting to now (w.nodes to.0) (record { from = from; to = to; message = message })).packets
+received_true : (setting : Setting) (w : World) (now : ℕ) (from to : BrickId) (message : Message) → NodeViews setting.layout (w.nodes to.0)
+    → MessageIsOf message → AreTrue w (received setting to now (w.nodes to.0) (record { from = from; to = to; message = message })).packets
 unfolding received
-received_true setting w now from to (Message.Request call request) first = requested_true setting w to from call request first
-received_true setting w now from to (Message.Reply call reply) first = replied_true setting w to now from call reply
-received_true setting w now from to message first = none_true w
+received_true setting w now from to (Message.Request call request) has is = requested_true setting w to from call request has is
+received_true setting w now from to (Message.Reply call reply) has is = replied_true setting w to now from call reply
+received_true setting w now from to message has is = each_none (IsTrue w)
 
 invoked_true : (setting : Setting) (w : World) (me : BrickId) (now : ℕ) (ask : Ask) → AreTrue w (invoked setting me now (w.nodes me.0) ask).packets
 unfolding invoked
 invoked_true setting w me now ask = in_group (group_at setting.layout (w.nodes me.0) ask.group.0)
   where
     in_group : (z : Option Group) → AreTrue w (began setting me now (w.nodes me.0) ask z).packets
-    in_group None = none_true w
-    in_group (Some group) = members_true w me _ _ 0 group.members
+    in_group None = each_none (IsTrue w)
+    in_group (Some group) = phase_true setting w me (new_coordinator group me now (w.nodes me.0) ask)
 
 -- the packets of a next world: those that were, and more, of which what is refused is true in the world before
 record AddsTrue (w next : World) : Type 0 where
@@ -193,53 +159,35 @@ record AddsTrue (w next : World) : Type 0 where
 
 adds_none : (w next : World) → next.packets ≡ w.packets → AddsTrue w next
 adds_none w next same =
-    record { more = []; packets = same ∙ sym (append-nil w.packets); are_true = none_true w }
+    record { more = []; packets = same ∙ sym (append-nil w.packets); are_true = each_none (IsTrue w) }
 
-stepped_adds : (setting : Setting) (w before : World) (me : BrickId) (step : NodeStep) → before.packets ≡ w.packets → AreTrue w step.packets
-    → AddsTrue w (world_stepped setting before me step)
-stepped_adds setting w before me step same says =
-    record { more = step.packets; packets = ap (λ (l : List Packet). l ++ step.packets) same; are_true = says }
-
-delivered_adds : (setting : Setting) (w : World) (number : ℕ) (packet : Option Packet) → AreInFirst setting.layout w
-    → AddsTrue w (delivered setting w number packet)
-delivered_adds setting w number None first = adds_none w w refl
-delivered_adds setting w number (Some packet) first =
-    let step : NodeStep = received setting packet.to (w.clocks packet.to.0) (w.nodes packet.to.0) packet in
-    let counted : World = record w { replies = replies_with setting w packet; reached = put w.reached number true } in
-    cond_both (is_up setting.layout w packet.to) (world_stepped setting counted packet.to step) w (λ (next : World). AddsTrue w next)
-    (λ up. stepped_adds setting w counted packet.to step refl
-    (received_true setting w (w.clocks packet.to.0) packet.from packet.to packet.message first))
-    (λ down. adds_none w w refl)
-
-found_adds : (w : World) (brick : BrickId) (openings : ℕ) (found : Found) → AddsTrue w (world_started (world_found w brick found) brick openings)
-found_adds w brick openings Before = adds_none w _ refl
-found_adds w brick openings After = adds_none w _ refl
-
--- through any event
-happens_adds : (setting : Setting) (w : World) (event : Event) → AreInFirst setting.layout w → AddsTrue w (happens setting w event)
-unfolding happens ticked
-happens_adds setting w (Invokes brick ask) first =
-    let step : NodeStep = invoked setting brick (w.clocks brick.0) (w.nodes brick.0) ask in
-    cond_both (may_begin setting w brick ask) (world_began w brick ask step) w (λ (next : World). AddsTrue w next)
-    (λ may. record { more = step.packets; packets = refl; are_true = invoked_true setting w brick (w.clocks brick.0) ask })
-    (λ isnt. adds_none w w refl)
-happens_adds setting w (Delivers number) first = delivered_adds setting w number (packet_of w.packets number) first
-happens_adds setting w (Sets brick time) first =
-    cond_both (is_brick setting.layout brick) _ w (λ (next : World). AddsTrue w next) (λ is. adds_none w _ refl) (λ isnt. adds_none w w refl)
-happens_adds setting w (Ticks brick) first =
-    cond_both (is_up setting.layout w brick) (world_ticked setting w brick) w (λ (next : World). AddsTrue w next)
-    (λ up. record {
-      more = ticked setting brick (w.nodes brick.0);
-      packets = refl;
-      are_true = ticked_true setting w brick (w.nodes brick.0).calls (w.nodes brick.0).seq;
-    })
-    (λ down. adds_none w w refl)
-happens_adds setting w (Stops brick during) first =
-    cond_both (is_up setting.layout w brick) (world_stopped setting w brick during) w (λ (next : World). AddsTrue w next)
-    (λ up. adds_none w (world_stopped setting w brick during) refl) (λ down. adds_none w w refl)
-happens_adds setting w (Starts brick openings found) first =
-    cond_both (may_start setting.layout w brick openings) (world_started (world_found w brick found) brick openings) w
-    (λ (next : World). AddsTrue w next) (λ may. found_adds w brick openings found) (λ cannot. adds_none w w refl)
+-- every event adds packets that refuse truly
+adds_cases : (setting : Setting) (w : World) → StampViews setting.layout w → EventCases setting w (AddsTrue w)
+unfolding ticked
+adds_cases setting w views = record {
+  begins = λ brick ask may.
+      record {
+        more = (invoked setting brick (w.clocks brick.0) (w.nodes brick.0) ask).packets;
+        packets = refl;
+        are_true = invoked_true setting w brick (w.clocks brick.0) ask;
+      };
+  handles = λ number packet at up.
+      record {
+        more = (step_on setting w packet).packets;
+        packets = refl;
+        are_true = received_true setting w (w.clocks packet.to.0) packet.from packet.to packet.message (views.nodes packet.to.0)
+            (let sent = packet_was_sent w number packet at in views.packets sent.0 packet sent.1);
+      };
+  sets = λ brick time is. adds_none w _ refl;
+  ticks = λ brick up.
+      record {
+        more = ticked setting brick (w.nodes brick.0);
+        packets = refl;
+        are_true = each_ticked (IsTrue w) setting brick (w.nodes brick.0).calls (w.nodes brick.0).seq (λ k c is seat to. tt);
+      };
+  stops = λ brick during up. adds_none w (world_stopped setting w brick during) refl;
+  starts = λ brick openings found may. started_each (AddsTrue w) w brick openings (adds_none w _ refl) (adds_none w _ refl) found;
+}
 
 -- an element of a list that grew is an old one, or one of those added, behind the old ones
 get_behind : (xs ys : List Packet) (k : ℕ) (x : Packet) → slice_get (xs ++ ys) k ≡ Some x
@@ -251,25 +199,20 @@ get_behind (y ∷ xs) ys (suc k) x is = ⊎_elim
     (λ (new : (length xs ≤ k) × ((j : ℕ) × (slice_get ys j ≡ Some x))). inr (omega (arith, new.0), new.1))
     (get_behind xs ys k x is)
 
--- a run of one event more
-run_more : (setting : Setting) (events : List Event) (event : Event) (w : World)
-    → run setting (events ++ (event ∷ [])) w ≡ happens setting (run setting events w) event
-run_more setting [] event w = refl
-run_more setting (first ∷ events) event w = run_more setting events event (happens setting w first)
-
 -- a packet of a place was sent at a moment when it was true
 abbrev WasTrue : Setting → World → ℕ → Packet → Type 0
 WasTrue setting w k packet = (sending : Sending setting w k) × RefusalIsTrue sending.moment packet.from packet.message
 
 -- each packet of a run that goes on from a moment was there, or was sent when it was true
 true_on : (setting : Setting) (earlier events : List Event) (w : World)
-    → ((moment : List Event) → AreInFirst setting.layout (run setting moment (first_world setting.layout))) → w ≡ run setting earlier (first_world setting.layout)
+    → w ≡ run setting earlier (first_world setting.layout)
     → (k : ℕ) (packet : Packet) → slice_get (run setting events w).packets k ≡ Some packet
     → (slice_get w.packets k ≡ Some packet) ⊎ WasTrue setting (run setting events w) k packet
-true_on setting earlier [] w first is k packet at = inl at
-true_on setting earlier (event ∷ events) w first is k packet at =
+true_on setting earlier [] w is k packet at = inl at
+true_on setting earlier (event ∷ events) w is k packet at =
     let next : World = happens setting w event in
-    let adds : AddsTrue w next = happens_adds setting w event (subst (λ (x : World). AreInFirst setting.layout x) (sym is) (first earlier)) in
+    let adds : AddsTrue w next = happens_each (AddsTrue w) setting w
+    (adds_cases setting w (subst (λ (x : World). StampViews setting.layout x) (sym is) (always_views setting earlier))) (adds_none w w refl) event in
     ⊎_elim
     (λ (was : slice_get next.packets k ≡ Some packet). ⊎_elim
     (λ (old : slice_get w.packets k ≡ Some packet). inl old)
@@ -288,13 +231,12 @@ true_on setting earlier (event ∷ events) w first is k packet at =
     ))
     (get_behind w.packets adds.more k packet (ap (λ (l : List Packet). slice_get l k) (sym adds.packets) ∙ was)))
     (λ (sent : WasTrue setting (run setting events next) k packet). inr sent)
-    (true_on setting (earlier ++ (event ∷ [])) events next first
-    (ap (λ (x : World). happens setting x event) is ∙ sym (run_more setting earlier event (first_world setting.layout))) k packet at)
+    (true_on setting (earlier ++ (event ∷ [])) events next
+    (ap (λ (x : World). happens setting x event) is ∙ sym (run-append setting (first_world setting.layout) earlier (event ∷ []))) k packet at)
 
 -- each refusal of a run was true when it was sent
-pub refusals_true : (setting : Setting) (events : List Event)
-    → ((moment : List Event) → AreInFirst setting.layout (run setting moment (first_world setting.layout))) → RefusalsWereTrue setting (run setting events (first_world setting.layout))
-refusals_true setting events first k packet at = ⊎_elim
+pub refusals_true : (setting : Setting) (events : List Event) → RefusalsWereTrue setting (run setting events (first_world setting.layout))
+refusals_true setting events k packet at = ⊎_elim
     (λ (none : slice_get [] k ≡ Some packet). absurd (let never : ⊥ = cc in never))
     (λ (sent : WasTrue setting (run setting events (first_world setting.layout)) k packet). sent)
-    (true_on setting [] events (first_world setting.layout) first refl k packet at)
+    (true_on setting [] events (first_world setting.layout) refl k packet at)

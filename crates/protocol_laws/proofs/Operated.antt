@@ -18,10 +18,11 @@ use Rattle.protocol.specs.Worlds.{World, Operation, with_held}
 use Rattle.protocol_laws.proofs.Books.{Books, IsOperation}
 use Rattle.protocol_laws.proofs.Said.{Stamping, Said, StampsSay, IsMadeOrFirst, PacketSays, OperationSays, CallSays, EndShows, IsInOrder, FloorsAtLeast}
 use Rattle.protocol_laws.proofs.Blocking.{LogsFit}
-use Rattle.protocol_laws.proofs.Tables.{put_each, get_grown}
+use Rattle.protocol.proofs.Tables.{put_each, get_grown}
 use Rattle.protocol_laws.proofs.Stampings.{StampsGrow}
 use Rattle.protocol_laws.proofs.Growth.{Grows, Continues, continues_same}
 use Rattle.protocol_laws.proofs.Steps.{KeepsStamps, keeps_same, parts_by, sent_by, calls_by, said_after, new_by, part_same}
+use Rattle.protocol_laws.proofs.Tops.{KeepsPlaces}
 
 -- the world after an operation changed
 abbrev pub operated : World → BrickId → Node → List Packet → List Mark → ℕ → Operation → (ℕ → ℕ → Stamp → List ℕ) → World
@@ -46,7 +47,7 @@ operated w me node more marks n p contents =
 -- what such a change keeps: operation n was o, is open, and goes on as p
 pub record OperatedKeeps (w : World) (me : BrickId) (node : Node) (marks : List Mark) (n : ℕ) (o p : Operation)
     (contents : ℕ → ℕ → Stamp → List ℕ) : Type 0 where
-  pub replicas : node.replicas ≡ (w.nodes me.0).replicas
+  pub places : KeepsPlaces (w.nodes me.0) node
   pub boot : node.boot ≡ (w.nodes me.0).boot
   pub is : IsOperation w n o
   pub continues : Continues o p
@@ -78,7 +79,7 @@ module _ (setting : Setting) (w : World) (stamps later : Stamping) (me : BrickId
 
   pub operated_grows : LogsFit w → StampsGrow stamps later → Grows w next stamps later
   operated_grows logged grow = record {
-    parts = parts_by w next me.0 node refl refl logged (keeps_same (w.nodes me.0) node keeps.replicas);
+    parts = parts_by w next me.0 node refl refl logged (keeps_same (w.nodes me.0) node keeps.places);
     fresh = new_by w next me.0 node refl refl;
     sent = sent_by w next more refl;
     operations = goes_on;
@@ -138,9 +139,9 @@ said_operated setting w stamps later me node more marks n o p contents books sai
     let after : World = operated w me node more marks n p contents in
     said_after setting w after stamps later books said (operated_grows setting w stamps later me node more marks n o p contents keeps said.logged grow) (record {
       stamps_say = owes.stamps_say;
-      tops = λ g s i. inl (ap (λ (r : Replica). top_of r) (part_same w after me.0 node refl keeps.replicas g 1 s i));
-      logs = λ g s i k version is. inl (k, ap (λ (r : Replica). slice_get r.log k) (sym (part_same w after me.0 node refl keeps.replicas g 1 s i)) ∙ is);
-      lowest = λ g s i x log is. inl (log, ap (λ (r : Replica). r.log) (sym (part_same w after me.0 node refl keeps.replicas g 1 s i)) ∙ is);
+      tops = λ g e s i. inl (ap (λ (r : Replica). top_of r) (part_same w after me.0 node refl keeps.places.2 g e s i));
+      logs = λ g e s i k version is. inl (k, ap (λ (r : Replica). slice_get r.log k) (sym (part_same w after me.0 node refl keeps.places.2 g e s i)) ∙ is);
+      lowest = λ g e s i x log is. inl (log, ap (λ (r : Replica). r.log) (sym (part_same w after me.0 node refl keeps.places.2 g e s i)) ∙ is);
       packets = λ k packet is. ⊎_elim
           (λ (old : slice_get w.packets k ≡ Some packet). inl old)
           (λ (new : (j : ℕ) × (slice_get more j ≡ Some packet)). inr (owes.packets new.0 packet new.1))

@@ -26,7 +26,7 @@ use Rattle.protocol_laws.specs.Laws.{WasSent, RequestSent, IsCallOf, stamp_asked
 use Rattle.protocol_laws.proofs.Books.{Books, OperationBooks, IsOperation, IsCall, CallBooks}
 use Rattle.protocol_laws.proofs.Said.{Stamping, Said, IsMadeOrFirst, IsBegun, IsStamped, IsCalled, FitsPhase, DescendsFrom, RequestSays, OrderSays, OrderReadSays, look_of, want_of}
 use Rattle.protocol_laws.proofs.Outcomes.{IsRound}
-use Rattle.protocol_laws.proofs.FirstViews.{IsOfFirst, above_floor, view_is}
+use Rattle.protocol_laws.proofs.FirstViews.{view_is}
 use Rattle.protocol_laws.proofs.Stampings.{not_first, begun_once}
 
 -- the phase in which an operation orders
@@ -81,14 +81,6 @@ module _ (setting : Setting) (w : World) (stamps : Stamping) (books : Books sett
   made_view g s t (inr made) =
       let stamp = maker_stamp made.0 made.1 t made.2 made.5 made.6 in
       view_is t (said.stamps_say.are made.1.brick.0 made.1.boot made.1.seq stamp.0 t stamp.1).view
-
-  -- and the first, or above the floor of the view
-  pub made_first : (g s : ℕ) (t : Stamp) → IsMadeOrFirst w g s t → IsOfFirst t
-  made_first g s t (inl first) = inl first
-  made_first g s t (inr made) =
-      let stamp = maker_stamp made.0 made.1 t made.2 made.5 made.6 in
-      let of = said.stamps_say.are made.1.brick.0 made.1.boot made.1.seq stamp.0 t stamp.1 in
-      inr (above_floor t of.view of.positive)
 
   -- a version that was made is not the first
   pub made_later : (n : ℕ) (o : Operation) (v : Stamp) → IsOperation w n o → o.made ≡ true → o.version ≡ Some v → v ≡ first_stamp → ⊥

@@ -23,13 +23,12 @@ use Rattle.protocol.specs.Happenings.{writes}
 use Rattle.fab_base.specs.Layouts.{brick_at}
 use Rattle.protocol_laws.specs.Laws.{ContentsAreMade, StoredIsHeld, FollowsRealTime, FullIsFull, BasesAreFound}
 use Rattle.protocol_laws.specs.Marked.{WordsFit}
-use Rattle.protocol_laws.proofs.FirstViews.{floor_at}
 use Rattle.protocol_laws.proofs.Books.{Books, OperationBooks, IsOperation}
 use Rattle.protocol_laws.proofs.Words.{words_fit}
 use Rattle.protocol_laws.proofs.Said.{Stamping, Said, IsStamped, IsMadeOrFirst, Stands, WritesWhole, ReadsBack, FloorsAtLeast, HasVersion, DataShown}
 use Rattle.protocol_laws.proofs.BasesFound.{bases_found}
 use Rattle.protocol_laws.proofs.Blocking.{blocked_never_stands}
-use Rattle.protocol_laws.proofs.Lives.{answered_has_end}
+use Rattle.reg_model.proofs.GrowingLives.{answered_has_end}
 use Rattle.protocol_laws.proofs.Stampings.{above_first}
 use Rattle.protocol_laws.proofs.OwnStamps.{maker_stamp, made_later, operation_unique}
 
@@ -79,9 +78,9 @@ pub record QuorumFacts (setting : Setting) (w : World) : Type 0 where
 module _ (setting : Setting) (sound : IsSound setting) (w : World) (stamps : Stamping) (books : Books setting w) (said : Said setting w stamps) where
   -- of two versions between which a quorum's floors lie, the lower is not above the other, nor equal to it where the later operation made it
   shared_floor : (b : ℕ) (later : Operation) (u v : Stamp) (i : ℕ) → IsOperation w b later → later.version ≡ Some v
-      → stamp_below (floor_at later i) u ≡ false → stamp_below v (floor_at later i) ≡ false → (stamp_below u v ≡ true) ⊎ ((u ≡ v) × (later.made ≡ false))
+      → stamp_below (later.floor i) u ≡ false → stamp_below v (later.floor i) ≡ false → (stamp_below u v ≡ true) ⊎ ((u ≡ v) × (later.made ≡ false))
   shared_floor b later u v i is version above below =
-      let not_above : stamp_below v u ≡ false = stamp_not_below_trans u (floor_at later i) v above below in
+      let not_above : stamp_below v u ≡ false = stamp_not_below_trans u (later.floor i) v above below in
       ⊎_elim (λ (less : stamp_below u v ≡ true). inl less)
       (λ (not_less : stamp_below u v ≡ false).
       let same : u ≡ v = stamp_neither_below u v not_less not_above in
@@ -89,8 +88,8 @@ module _ (setting : Setting) (sound : IsSound setting) (w : World) (stamps : Sta
       (λ (made : later.made ≡ true).
       let own : (p : ℕ) × IsStamped stamps later.brick.0 later.boot later.seq p v
       = maker_stamp setting w stamps books said b later v is made version in
-      let floor : floor_at later i ≡ v
-      = stamp_neither_below (floor_at later i) v (subst (λ (t : Stamp). stamp_below (floor_at later i) t ≡ false) same above) below in
+      let floor : later.floor i ≡ v
+      = stamp_neither_below (later.floor i) v (subst (λ (t : Stamp). stamp_below (later.floor i) t ≡ false) same above) below in
       absurd ((said.operations b later is).fresh i own.0
       (subst (λ (t : Stamp). IsStamped stamps later.brick.0 later.boot later.seq own.0 t) (sym floor) own.1)))
       (λ (unmade : later.made ≡ false). inr (same, unmade))
@@ -107,16 +106,16 @@ module _ (setting : Setting) (sound : IsSound setting) (w : World) (stamps : Sta
       ⊎_elim
       (λ (floors : (z : Group) → group_of setting.layout later.ask.group.0 ≡ Some z → FloorsAtLeast later z u).
       let share = quorums_share group.m (length group.members) limits.enough_seats
-      (λ seat. not (stamp_below (floor_at later (brick_at group seat)) u)) (λ seat. not (stamp_below v (floor_at later (brick_at group seat))))
+      (λ seat. not (stamp_below (later.floor (brick_at group seat)) u)) (λ seat. not (stamp_below v (later.floor (brick_at group seat))))
       (floors group b_books.group_is) (((said.operations b later b_is).version v b_version).floors group b_books.group_is) in
       let seat = count_some (length group.members)
-      (both (λ k. not (stamp_below (floor_at later (brick_at group k)) u)) (λ k. not (stamp_below v (floor_at later (brick_at group k)))))
+      (both (λ k. not (stamp_below (later.floor (brick_at group k)) u)) (λ k. not (stamp_below v (later.floor (brick_at group k)))))
       (omega (arith, share, limits.some_block)) in
-      let tests = and_parts (not (stamp_below (floor_at later (brick_at group seat.0)) u))
-      (not (stamp_below v (floor_at later (brick_at group seat.0)))) seat.2 in
+      let tests = and_parts (not (stamp_below (later.floor (brick_at group seat.0)) u))
+      (not (stamp_below v (later.floor (brick_at group seat.0)))) seat.2 in
       shared_floor b later u v (brick_at group seat.0) b_is b_version
-      (not-true (stamp_below (floor_at later (brick_at group seat.0)) u) tests.0)
-      (not-true (stamp_below v (floor_at later (brick_at group seat.0))) tests.1))
+      (not-true (stamp_below (later.floor (brick_at group seat.0)) u) tests.0)
+      (not-true (stamp_below v (later.floor (brick_at group seat.0))) tests.1))
       (λ (before : later.begin ≤ last_of (life_of w.marks a)). absurd (omega (arith, before, ended)))
       (said.order a b earlier later u a_is b_is
       (eqb-true earlier.ask.group.0 g a_at.0 ∙ sym (eqb-true later.ask.group.0 g b_at.0))

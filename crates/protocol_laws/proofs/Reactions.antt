@@ -16,7 +16,7 @@ use Rattle.protocol.specs.Settings.{Code}
 use Rattle.protocol.specs.Replicas.{Replica, Reaction, newest_of, is_held, stamp_max, top_of, is_wanted, told_version, stays, unless_full, promised, stored, ordered, written, looked_up, order_read, modified_block, modified_on, modified, handle, collected, ignored}
 use Rattle.protocol_laws.specs.Laws.{stamp_stored, stamp_asked}
 use Rattle.protocol_laws.proofs.Logs.{among_held, LogAscends, IsWithin, newest_greatest, ascends_more, held_more, among, IsKept, lowest_from, among_ascends, among_stands, at_least, kept_from, newest_kept, IsUnder, below_above}
-use Rattle.protocol_laws.proofs.Tables.{get_grown, get_one}
+use Rattle.protocol.proofs.Tables.{get_grown, get_one}
 
 -- neither of two stamps is above the greater
 pub max_left : (a b : Stamp) → stamp_below (stamp_max a b) a ≡ false
@@ -40,7 +40,7 @@ pub top_is : (replica : Replica) (version : Version) → newest_of replica.log �
 unfolding top_of
 top_is replica version is = rw is
 
-top_is_order : (replica : Replica) → newest_of replica.log ≡ None → top_of replica ≡ replica.order
+pub top_is_order : (replica : Replica) → newest_of replica.log ≡ None → top_of replica ≡ replica.order
 unfolding top_of
 top_is_order replica is = rw is
 
@@ -455,27 +455,44 @@ after_ascends code m seat replica request next (inr (inr (inl p))) ascends =
     (ascends_more replica.log (record { stamp = p.stamp; block = p.block }) ascends
     (λ d held. stamp_not_below_trans d (top_of replica) p.stamp (held_top replica d ascends held) p.above))
 
--- what is held after a request was held, or is at or above the top
-pub after_newer : (code : Code) (m seat : ℕ) (replica : Replica) (request : Request) (next : Replica) (t : Stamp) → IsAfter code m seat replica request next → is_held t next.log ≡ true
-    → (is_held t replica.log ≡ true) ⊎ (stamp_below t (top_of replica) ≡ false)
+-- an order asks for its stamp, and what has a block stored too
+pub order_asked : (request : Request) (t : Stamp) → IsOrder request t → stamp_asked request ≡ Some t
+order_asked request t (inl is) = ap stamp_asked is
+order_asked request t (inr (look, want, is)) = ap stamp_asked is
+
+pub store_asked : (code : Code) (m seat : ℕ) (replica : Replica) (request : Request) (t : Stamp) (block : List ℕ)
+    → StoresBlock code m seat replica request t block → stamp_asked request ≡ Some t
+store_asked code m seat replica request t block (inl is) = ap stamp_asked is
+store_asked code m seat replica request t block (inr (old, j, delta, is, newest, block_is)) = ap stamp_asked is
+
+-- what is held after a request was held, or it is what was asked for, and at or above the top
+pub after_newer : (code : Code) (m seat : ℕ) (replica : Replica) (request : Request) (next : Replica) (t : Stamp) → IsAfter code m seat replica request next
+    → is_held t next.log ≡ true
+    → (is_held t replica.log ≡ true) ⊎ ((stamp_asked request ≡ Some t) × (stamp_below t (top_of replica) ≡ false))
 after_newer code m seat replica request next t (inl same) held = inl (subst (λ (z : Replica). is_held t z.log ≡ true) same held)
 after_newer code m seat replica request next t (inr (inl p)) held = inl (subst (λ (z : Replica). is_held t z.log ≡ true) p.next_is held)
 after_newer code m seat replica request next t (inr (inr (inr p))) held =
     inl (among_held (at_least p.stamp) t replica.log (subst (λ (z : Replica). is_held t z.log ≡ true) p.next_is held))
 after_newer code m seat replica request next t (inr (inr (inl p))) held = ⊎_elim
     (λ (old : is_held t replica.log ≡ true). inl old)
-    (λ (new : p.stamp ≡ t). inr (subst (λ (z : Stamp). stamp_below z (top_of replica) ≡ false) new p.above))
+    (λ (new : p.stamp ≡ t). inr (
+      store_asked code m seat replica request p.stamp p.block p.request_is ∙ ap (λ (z : Stamp). Some z) new,
+      subst (λ (z : Stamp). stamp_below z (top_of replica) ≡ false) new p.above,
+    ))
     (held_more t replica.log (record { stamp = p.stamp; block = p.block }) (subst (λ (z : Replica). is_held t z.log ≡ true) p.next_is held))
 
--- an order asks for its stamp, and what has a block stored too
-order_asked : (request : Request) (t : Stamp) → IsOrder request t → stamp_asked request ≡ Some t
-order_asked request t (inl is) = ap stamp_asked is
-order_asked request t (inr (look, want, is)) = ap stamp_asked is
-
-store_asked : (code : Code) (m seat : ℕ) (replica : Replica) (request : Request) (t : Stamp) (block : List ℕ)
-    → StoresBlock code m seat replica request t block → stamp_asked request ≡ Some t
-store_asked code m seat replica request t block (inl is) = ap stamp_asked is
-store_asked code m seat replica request t block (inr (old, j, delta, is, newest, block_is)) = ap stamp_asked is
+-- the order stamp is as before, or what was asked for, and at or above the top
+pub after_order : (code : Code) (m seat : ℕ) (replica : Replica) (request : Request) (next : Replica) → IsAfter code m seat replica request next
+    → (next.order ≡ replica.order) ⊎ ((stamp_asked request ≡ Some next.order) × (stamp_below next.order (top_of replica) ≡ false))
+after_order code m seat replica request next (inl same) = inl (ap (λ (z : Replica). z.order) same)
+after_order code m seat replica request next (inr (inl p)) =
+    let order : next.order ≡ p.stamp = ap (λ (z : Replica). z.order) p.next_is in
+    inr (
+      order_asked request p.stamp p.request_is ∙ ap (λ (z : Stamp). Some z) (sym order),
+      subst (λ (z : Stamp). stamp_below z (top_of replica) ≡ false) (sym order) p.above,
+    )
+after_order code m seat replica request next (inr (inr (inl p))) = inl (ap (λ (z : Replica). z.order) p.next_is)
+after_order code m seat replica request next (inr (inr (inr p))) = inl (ap (λ (z : Replica). z.order) p.next_is)
 
 -- the top is as before, or the stamp that was asked for
 pub after_asked : (code : Code) (m seat : ℕ) (replica : Replica) (request : Request) (next : Replica) → LogAscends replica.log

@@ -16,7 +16,7 @@ use Rattle.quorum.proofs.Counts.{count_full, count_both, count_empty}
 use Rattle.fab_base.specs.Layouts.{Group, group_of}
 use Rattle.quorum.specs.Quorums.{quorum_of}
 use Rattle.protocol.specs.Settings.{Setting, IsSound}
-use Rattle.protocol.specs.Replicas.{Replica, top_of, is_wanted}
+use Rattle.protocol.specs.Replicas.{is_wanted}
 use Rattle.protocol.specs.declared.phases.Counted.{Counted}
 use Rattle.messages.specs.declared.requests.Look.{Look}
 use Rattle.messages.specs.declared.requests.Look.TheVariants.{Below, At}
@@ -27,16 +27,16 @@ use Rattle.protocol.specs.declared.phases.Phase.TheVariants.{Descends, Bases}
 use Rattle.protocol.specs.Coordinators.{Coordinator, told_in, told_stamp, finds, bytes_of, pieces_at, greater_stamp, greatest_found, greatest_refuser, lowest_full}
 use Rattle.protocol.specs.Worlds.{World, Operation}
 use Rattle.fab_base.specs.Layouts.{brick_at}
-use Rattle.protocol_laws.specs.Laws.{part_in, AtQuorum}
-use Rattle.protocol_laws.proofs.Parts.{part_of, PartsBlock}
+use Rattle.protocol_laws.specs.Laws.{AtQuorum, IsBlocked, top_in}
 use Rattle.protocol_laws.proofs.FirstViews.{view_below}
 use Rattle.protocol_laws.proofs.Books.{Books, CallBooks, IsCall}
 use Rattle.protocol_laws.proofs.Logs.{IsWithin, below_above}
 use Rattle.protocol_laws.proofs.Blocking.{twice_quorum, passes_by, passes, blocked_by, blocked_never_stands}
-use Rattle.protocol_laws.proofs.Said.{Stamping, Said, IsContent, IsMadeOrFirst, IsStampOf, CallSays, CountedSays, EachCounted, AreOnce, look_of, want_of, is_looked, MadeOn, base_in}
+use Rattle.protocol_laws.proofs.Said.{Stamping, Said, IsMadeOrFirst, IsStampOf, CallSays, CountedSays, EachCounted, AreOnce, look_of, want_of, is_looked, MadeOn, base_in}
 use Rattle.protocol_laws.proofs.Counting.{each_then, each_both, each_filter, once_filter, at_seats, TellsAtMost, found_most, found_one, finds_told, told_finds, IsPieceOf, are_pieces, pieces_length}
 use Rattle.protocol_laws.proofs.Stampings.{not_first, above_first}
 use Rattle.protocol_laws.proofs.Decisions.{quorum_enough, ReadsAt, told_version_is, content_formed, all_read, bound_cases}
+use Rattle.protocol.proofs.Blocks.{IsContent}
 
 -- nothing is told where nothing is found
 none_told : (found : Option Version) → option_map (λ (z : Version). z.stamp) found ≡ None → found ≡ None
@@ -163,8 +163,8 @@ module _ (setting : Setting) (sound : IsSound setting) (w : World) (stamps : Sta
   Reads x = ReadsAt setting sound w stamps me c books said is counted each once many (Below bound) x
 
   -- the part of the stripe at a seat
-  abbrev part : ℕ → Replica
-  part seat = part_of w o.ask.group.0 o.ask.stripe.0 (brick_at group seat)
+  abbrev come_to : ℕ → Stamp
+  come_to seat = top_in w o.ask.group.0 o.ask.stripe.0 (brick_at group seat)
 
   -- a version was held at a seat
   abbrev held_in : ℕ → Stamp → Bool
@@ -220,13 +220,13 @@ module _ (setting : Setting) (sound : IsSound setting) (w : World) (stamps : Sta
   pass_at x d reads less isnt = (
     reads.promises.within,
     passes w o.ask.group.0 o.ask.stripe.0 group d x.seat
-        (subst (λ (e : ℕ). stamp_below d (top_of (part_in w o.ask.group.0 e o.ask.stripe.0 (brick_at group x.seat))) ≡ true)
+        (subst (λ (e : ℕ). stamp_below d (top_in w o.ask.group.0 o.ask.stripe.0 (brick_at group x.seat)) ≡ true)
         (sym (view_below d c.stamp (omega (arith, its.stamp_view)) less))
-        (below_above d c.stamp (top_of (part x.seat)) less reads.promises.top)) isnt,
+        (below_above d c.stamp (come_to x.seat) less reads.promises.top)) isnt,
   )
 
   -- nothing that a quorum holds lies between v and the bound
-  under_bound : (d : Stamp) → stamp_below v d ≡ true → stamp_below d bound ≡ true → PartsBlock w o.ask.group.0 o.ask.stripe.0 group d
+  under_bound : (d : Stamp) → stamp_below v d ≡ true → stamp_below d bound ≡ true → IsBlocked w o.ask.group.0 o.ask.stripe.0 group d
   under_bound d above less =
       let seats : length counted ≤ count (length group.members) (passes_by w o.ask.group.0 o.ask.stripe.0 group d)
       = at_seats (length group.members) counted (passes_by w o.ask.group.0 o.ask.stripe.0 group d)
@@ -237,16 +237,16 @@ module _ (setting : Setting) (sound : IsSound setting) (w : World) (stamps : Sta
       blocked_by w o.ask.group.0 o.ask.stripe.0 group d limits (omega (arith, seats, many, limits.some_block))
 
   -- nor from the bound up to the recovery's stamp
-  from_bound : (d : Stamp) → stamp_below d bound ≡ false → stamp_below d c.stamp ≡ true → PartsBlock w o.ask.group.0 o.ask.stripe.0 group d
+  from_bound : (d : Stamp) → stamp_below d bound ≡ false → stamp_below d c.stamp ≡ true → IsBlocked w o.ask.group.0 o.ask.stripe.0 group d
   from_bound d not_less less = ⊎_elim
       (λ (own : bound ≡ c.stamp).
       absurd (false≢true (sym not_less ∙ subst (λ (t : Stamp). stamp_below d t ≡ true) (sym own) less)))
       (λ (lower : c.phase ≡ Descends bound).
-      subst (λ (a : Ask). PartsBlock w a.group.0 a.stripe.0 group d) its.ask (says.covered bound lower group group_is d (not_less, less)))
+      subst (λ (a : Ask). IsBlocked w a.group.0 a.stripe.0 group d) its.ask (says.covered bound lower group group_is d (not_less, less)))
       (bound_cases c.phase c.stamp bound looks)
 
   -- nothing that a quorum holds, or ever will, lies between the version and the recovery's stamp
-  pub between_blocked : (d : Stamp) → stamp_below v d ≡ true → stamp_below d c.stamp ≡ true → PartsBlock w o.ask.group.0 o.ask.stripe.0 group d
+  pub between_blocked : (d : Stamp) → stamp_below v d ≡ true → stamp_below d c.stamp ≡ true → IsBlocked w o.ask.group.0 o.ask.stripe.0 group d
   between_blocked d above less = ⊎_elim
       (λ (lower : stamp_below d bound ≡ true). under_bound d above lower)
       (λ (upper : stamp_below d bound ≡ false). from_bound d upper less)
@@ -269,7 +269,7 @@ module _ (setting : Setting) (sound : IsSound setting) (w : World) (stamps : Sta
           false≢true (sym (not-true (finds v x) isnt) ∙ finds_it)
 
   -- a version of which too few blocks were found no quorum holds, or ever will
-  pub too_few_blocked : length (pieces_at v counted) < group.m → PartsBlock w o.ask.group.0 o.ask.stripe.0 group v
+  pub too_few_blocked : length (pieces_at v counted) < group.m → IsBlocked w o.ask.group.0 o.ask.stripe.0 group v
   too_few_blocked few =
       let test : Counted → Bool = λ x. not (finds v x) in
       let others : List Counted = filter test counted in
@@ -289,7 +289,7 @@ module _ (setting : Setting) (sound : IsSound setting) (w : World) (stamps : Sta
   version_above few =
       above_first v (λ first.
       blocked_never_stands w o.ask.group.0 o.ask.stripe.0 group first_stamp
-      (subst (λ (t : Stamp). PartsBlock w o.ask.group.0 o.ask.stripe.0 group t) first (too_few_blocked few))
+      (subst (λ (t : Stamp). IsBlocked w o.ask.group.0 o.ask.stripe.0 group t) first (too_few_blocked few))
       (let full = count_full (length group.members) (λ seat. held_in seat first_stamp)
       (λ k below. said.first_held o.ask.group.0 o.ask.stripe.0 (brick_at group k)) in
       omega (arith, full)))

@@ -31,14 +31,13 @@ use Rattle.protocol.specs.Nodes.{Node, has_block, has_length, given_content, wit
 use Rattle.protocol.specs.Worlds.{World, Operation, number_of, world_stepped, content_on, is_answer}
 use Rattle.protocol.specs.Happenings.{writes}
 use Rattle.fab_base.specs.Layouts.{brick_at}
-use Rattle.protocol_laws.specs.Laws.{WasSent, AtQuorum}
-use Rattle.protocol_laws.proofs.Parts.{PartsGuard, PartsBlock}
+use Rattle.protocol_laws.specs.Laws.{WasSent, AtQuorum, IsGuarded, IsBlocked}
 use Rattle.protocol_laws.proofs.Books.{Books, OperationBooks, CallBooks, IsUnmade, IsMade, MadeInPhase, IsCall}
-use Rattle.protocol_laws.proofs.Said.{Stamping, Said, IsSaid, AreBlocked, IsContent, IsMadeOrFirst, IsStampOf, EachCounted, AreOnce, FitsPhase, FloorsAtMost, HasVersion, CountedSays, CallSays, DescendsFrom, MadeOn, look_of, want_of, base_in}
-use Rattle.protocol_laws.proofs.Tables.{put_each, put_same}
+use Rattle.protocol_laws.proofs.Said.{Stamping, Said, IsSaid, AreBlocked, IsMadeOrFirst, IsStampOf, EachCounted, AreOnce, FitsPhase, FloorsAtMost, HasVersion, CountedSays, CallSays, DescendsFrom, MadeOn, look_of, want_of, base_in}
+use Rattle.protocol.proofs.Tables.{put_each, put_same}
 use Rattle.protocol.proofs.CountsAt.{CountsAt, counts_facts}
 use Rattle.protocol_laws.proofs.Counting.{each_then, each_more, once_more, fast_at, common_at, common_each, common_greatest}
-use Rattle.protocol_laws.proofs.Blocks.{formed_after}
+use Rattle.protocol.proofs.Blocks.{formed_after, IsContent}
 use Rattle.protocol_laws.proofs.Stampings.{ComesFrom, ages_within, stamp_stays, stamps_same, later_unknown, not_first, above_first}
 use Rattle.protocol_laws.proofs.Growth.{Grows, stays_call}
 use Rattle.protocol_laws.proofs.Steps.{KeepsStamps, keeps_same, quiet, quiet_grows, said_quiet, stamps_stay_by}
@@ -53,14 +52,14 @@ pub said_known : (setting : Setting) (w : World) (stamps : Stamping) (me : Brick
     → (w.nodes me.0).known ≤ known → Said setting (quiet w me (with_known (w.nodes me.0) known) []) stamps
 said_known setting w stamps me known books said more =
     said_quiet setting w stamps stamps me (with_known (w.nodes me.0) known) [] books said (stamps_same stamps) (record {
-      keeps = keeps_same (w.nodes me.0) (with_known (w.nodes me.0) known) refl;
+      keeps = keeps_same (w.nodes me.0) (with_known (w.nodes me.0) known) (refl, refl, refl);
       boot = refl;
       stamps_say = stamps_stay_by setting w (quiet w me (with_known (w.nodes me.0) known) []) stamps me.0 (with_known (w.nodes me.0) known) said refl
           (ages_within (w.nodes me.0) (with_known (w.nodes me.0) known) refl more (omega arith));
       stamps_other = λ i b k other p. refl;
-      tops = λ g s. inl refl;
-      logs = λ g s k version is. inl (k, is);
-      lowest = λ g s x log is. inl (log, is);
+      tops = λ g e s. inl refl;
+      logs = λ g e s k version is. inl (k, is);
+      lowest = λ g e s x log is. inl (log, is);
       calls = λ k c is. inl (is, λ p. refl);
       packets = λ k packet is. cc;
     })
@@ -146,17 +145,17 @@ module _ (setting : Setting) (sound : IsSound setting) (w : World) (stamps : Sta
   said_waits d d_says =
       let node : Node = with_call (w.nodes me.0) known (w.nodes me.0).busy c.call.seq (Some d) in
       let grows : Grows w (quiet w me node []) stamps stamps
-      = quiet_grows w stamps stamps me node [] (stamps_same stamps) said.logged (keeps_same (w.nodes me.0) node refl) in (
+      = quiet_grows w stamps stamps me node [] (stamps_same stamps) said.logged (keeps_same (w.nodes me.0) node (refl, refl, refl)) in (
         stamps,
         said_quiet setting w stamps stamps me node [] books said (stamps_same stamps) (record {
-          keeps = keeps_same (w.nodes me.0) node refl;
+          keeps = keeps_same (w.nodes me.0) node (refl, refl, refl);
           boot = refl;
           stamps_say = stamps_stay_by setting w (quiet w me node []) stamps me.0 node said refl
               (ages_within (w.nodes me.0) node refl more_known (omega arith));
           stamps_other = λ i b k other p. refl;
-          tops = λ g s. inl refl;
-          logs = λ g s k version at. inl (k, at);
-          lowest = λ g s x log at. inl (log, at);
+          tops = λ g e s. inl refl;
+          logs = λ g e s k version at. inl (k, at);
+          lowest = λ g e s x log at. inl (log, at);
           calls = λ k e.
               put_each (λ j x. x ≡ Some e
               → (((w.nodes me.0).calls j ≡ Some e) × KeepsStamps stamps stamps me.0 (w.nodes me.0).boot j)
@@ -254,7 +253,7 @@ module _ (setting : Setting) (sound : IsSound setting) (w : World) (stamps : Sta
             reader = λ isnt. reads;
             guarded = λ other other_is.
                 let same : group ≡ other = (let e : Some group ≡ Some other = sym its_group ∙ other_is in cc) in
-                subst (λ (z : Group). PartsGuard w o.ask.group.0 o.ask.stripe.0 z v) same
+                subst (λ (z : Group). IsGuarded w o.ask.group.0 o.ask.stripe.0 z v) same
                 (fast_guards setting sound w stamps me c books said is d.counted each once many v fast);
             floors = λ other other_is.
                 let same : group ≡ other = (let e : Some group ≡ Some other = sym its_group ∙ other_is in cc) in
@@ -364,7 +363,7 @@ module _ (setting : Setting) (sound : IsSound setting) (w : World) (stamps : Sta
             positive = own.0.positive;
             bounded = λ now. omega arith;
           })
-          (inr (later_unknown w stamps said.stamps_say (with_known (w.nodes me.0) t.time) me.0 t own.0 own.1))
+          (inr (later_unknown w stamps said.stamps_say (with_known (w.nodes me.0) t.time) me.0 t own.0 own.1, own.0.positive))
           says.fits (subst (λ (p : Phase). MayBegin setting w c o t c.base c.content p) (sym same) (asks t))
           (level c.phase c.ask.op t (λ bound is. never bound (sym same ∙ is))))
           (λ all. said_aborts (Cause.Later r.brick r.stamp))
@@ -383,7 +382,7 @@ module _ (setting : Setting) (sound : IsSound setting) (w : World) (stamps : Sta
           = whole_formed writing.0
           (ap (λ (op : Op). has_length group.m setting.layout.block op) (sym (its_op ∙ writing.1)) ∙ has_its_length) in
           said_made setting sound w stamps me c known books said is more_known c.base Stores c.content (unmade.0, unmade.1)
-          (of_ask (λ a. PartsGuard w a.group.0 a.stripe.0 group c.stamp)
+          (of_ask (λ a. IsGuarded w a.group.0 a.stripe.0 group c.stamp)
           (promises_guard setting sound w stamps me c books said is d.counted each once many all))
           (promises_floors setting sound w stamps me c books said is d.counted each once many all)
           (inl (says.unbased orders, writing))
@@ -418,7 +417,7 @@ module _ (setting : Setting) (sound : IsSound setting) (w : World) (stamps : Sta
           blocked : AreBlocked setting w o.ask.group.0 o.ask.stripe.0 (λ e. (stamp_below v e ≡ true) × (stamp_below e c.stamp ≡ true))
           blocked other other_is e h =
               let same : group ≡ other = same_Some group other (sym its_group ∙ other_is) in
-              subst (λ (z : Group). PartsBlock w o.ask.group.0 o.ask.stripe.0 z e) same
+              subst (λ (z : Group). IsBlocked w o.ask.group.0 o.ask.stripe.0 z e) same
               (between_blocked setting sound w stamps me c books said is d.counted each once many bound looks all v greatest e h.0 h.1)
 
           -- with too few blocks nothing from v up to the stamp is held by a quorum
@@ -428,8 +427,8 @@ module _ (setting : Setting) (sound : IsSound setting) (w : World) (stamps : Sta
               (λ (not_above : stamp_below v e ≡ false).
               let same : v ≡ e = stamp_neither_below v e not_above h.0 in
               let group_same : group ≡ other = same_Some group other (sym its_group ∙ other_is) in
-              subst (λ (z : Group). PartsBlock w o.ask.group.0 o.ask.stripe.0 z e) group_same
-              (subst (λ (t : Stamp). PartsBlock w o.ask.group.0 o.ask.stripe.0 group t) same
+              subst (λ (z : Group). IsBlocked w o.ask.group.0 o.ask.stripe.0 z e) group_same
+              (subst (λ (t : Stamp). IsBlocked w o.ask.group.0 o.ask.stripe.0 group t) same
               (too_few_blocked setting sound w stamps me c books said is d.counted each once many bound looks all v greatest few)))
               (cases_Bool (stamp_below v e))
 
@@ -472,7 +471,7 @@ module _ (setting : Setting) (sound : IsSound setting) (w : World) (stamps : Sta
               → IsSaid setting (after (Makes (record (in_phase d phase) { base = Some v; content = content })))
           makes_next phase content sends =
               said_made setting sound w stamps me c known books said is more_known (Some v) phase content (unmade.0, unmade.1)
-              (of_ask (λ a. PartsGuard w a.group.0 a.stripe.0 group c.stamp)
+              (of_ask (λ a. IsGuarded w a.group.0 a.stripe.0 group c.stamp)
               (promises_guard setting sound w stamps me c books said is d.counted each once many promised))
               (promises_floors setting sound w stamps me c books said is d.counted each once many promised)
               (inr makes_on) made_formed sends

@@ -1,5 +1,5 @@
 -- A member handles a request: what its part of the stripe, and its reply, then say.
-use Rattle.std.proofs.Common.{◌≡◌, ℕ, ◌⊎◌, inl, inr, true, false, List, [], Option, Some, None, refl, sym, ap, ◌∙◌, subst, ⊎_elim, arith, ◌∷◌}
+use Rattle.std.proofs.Common.{◌≡◌, ℕ, ◌⊎◌, inl, inr, true, false, List, [], Option, Some, None, refl, sym, ap, ◌∙◌, subst, ⊎_elim, arith, ◌∷◌, ◌≤◌, Bool}
 use Rattle.std.specs.Prelude.{slice_get, nat_eq}
 use Rattle.std.proofs.lemmas.Bool.{cond_both, eqb-true, or_left, false≢true, cases_Bool}
 use Rattle.std.proofs.lemmas.Option.{same_Some}
@@ -12,7 +12,7 @@ use Rattle.messages.specs.declared.packets.Message.TheVariants as Message
 use Rattle.messages.specs.declared.packets.Packet.{Packet}
 use Rattle.messages.specs.declared.requests.Look.{Look}
 use Rattle.messages.specs.declared.requests.Look.TheVariants.{Below, At}
-use Rattle.fab_base.specs.Layouts.{Group, group_of, seat_in}
+use Rattle.fab_base.specs.Layouts.{Group, group_of, seat_in, Layout}
 use Rattle.messages.specs.declared.requests.Request.{Request}
 use Rattle.messages.specs.declared.requests.Version.{Version}
 use Rattle.messages.specs.declared.replies.Reply.{Reply}
@@ -20,35 +20,58 @@ use Rattle.protocol.specs.Settings.{Setting, Code}
 use Rattle.protocol.specs.Replicas.{Replica, Reaction, newest_of, top_of, is_held, stamp_max, looked_up, modified_block}
 use Rattle.protocol.specs.declared.phases.Phase.{Phase}
 use Rattle.protocol.specs.declared.phases.Phase.TheVariants.{Orders, Modifies, Stores}
-use Rattle.protocol.specs.Nodes.{Node, put, with_replica, replica_at, full_at, reply_packets}
+use Rattle.protocol.specs.Nodes.{Node, put, with_replica, replica_at, full_at, reply_packets, view_at, view_floor, top_at}
 use Rattle.protocol.specs.Worlds.{World, Operation}
-use Rattle.protocol_laws.specs.Laws.{WasSent, AskedAt, stamp_asked, stamp_stored}
+use Rattle.protocol_laws.specs.Laws.{WasSent, AskedAt, stamp_asked, stamp_stored, top_in, part_in}
 use Rattle.protocol_laws.proofs.Parts.{part_of}
-use Rattle.protocol_laws.proofs.Served.{parts_each}
-use Rattle.protocol_laws.proofs.FirstViews.{floor_at, part_floor, view_is, view_below}
+use Rattle.protocol.proofs.Served.{parts_each}
+use Rattle.protocol_laws.proofs.FirstViews.{view_is, view_below, view_first}
 use Rattle.protocol_laws.proofs.Books.{Books}
 use Rattle.protocol_laws.proofs.OwnStamps.{made_view}
 use Rattle.protocol_laws.proofs.Blocking.{held_in, was_kept}
 use Rattle.protocol_laws.proofs.Said.{Stamping, Said, IsStamped, IsMadeOrFirst, IsKnown, IsCalled, VersionSays, ToldSays, MakerSays, WriteSays, ChangesBlock, ModifySays, OrderSays, OrderReadSays, RequestSays, is_looked, OrderedSays, OrderedReadSays, FoundSays, ReplySays, PacketSays, IsPassedOver, WasCollected}
-use Rattle.protocol_laws.proofs.Tables.{put_same, get_one}
+use Rattle.protocol.proofs.Tables.{put_same, get_one}
 use Rattle.protocol_laws.proofs.Logs.{LogAscends, IsWithin, among, place_held, newest_stands, newest_held, newest_among, newest_stands_among, IsKept, IsUnder}
-use Rattle.protocol_laws.proofs.Reactions.{IsAfter, StoresBlock, IsTold, ReactionSays, SaysIf, with_order, top_promised, after_top, after_kept, after_lowest, after_newer, after_ascends, after_asked, after_log, top_is, held_top}
+use Rattle.protocol_laws.proofs.Reactions.{IsAfter, StoresBlock, IsTold, ReactionSays, SaysIf, with_order, top_promised, after_top, after_kept, after_lowest, after_newer, after_ascends, after_asked, after_log, top_is, held_top, after_order, top_order}
 use Rattle.protocol_laws.proofs.Stampings.{ages_within, stamps_same}
 use Rattle.protocol_laws.proofs.Growth.{Grows, Continues, stays_version, stays_told, stays_called, stays_found, stays_collected}
 use Rattle.protocol_laws.proofs.Steps.{KeepsParts, quiet, quiet_grows, said_quiet, stamps_stay_by}
+use Rattle.protocol_laws.proofs.Tops.{top_rises, top_most, top_above, view_above, time_rises}
+use Rattle.protocol_laws.proofs.StampViews.{StampViews, NodeViews, RequestIsOf, asks_above}
+use Rattle.protocol.specs.Views.{view_of}
 
--- a request lowers no part, and drops only what is below all that is left
-pub parts_keep : (code : Code) (m seat : ℕ) (node : Node) (call : Call) (request : Request) (reaction : Reaction)
+-- A request to the part in the view that a brick has learnt, which asks for nothing below that, lowers no brick, adds nothing below what it had come
+-- to, and drops only what is below all that is left.
+pub parts_keep : (layout : Layout) (code : Code) (m seat : ℕ) (node : Node) (call : Call) (request : Request) (reaction : Reaction)
     → LogAscends (replica_at node call).log → IsAfter code m seat (replica_at node call) request reaction.replica
+    → NodeViews layout node → RequestIsOf call request → call.view.0 ≡ view_at node call.group.0 → node.accepted call.group.0 ≡ false
     → KeepsParts node (with_replica node call reaction)
-parts_keep code m seat node call request reaction rises after = record {
-  tops = parts_each (λ g e s r. stamp_below (top_of r) (top_of (node.replicas g e s)) ≡ false) node call reaction
-      (after_top code m seat (replica_at node call) request reaction.replica rises after) (λ g e s. stamp_below_irrefl (top_of (node.replicas g e s)));
+parts_keep layout code m seat node call request reaction rises after has asks view free = record {
+  tops = λ g s.
+      top_rises node (with_replica node call reaction).live (with_replica node call reaction).replicas g s
+      (parts_each (λ h e r x. stamp_below (top_of x) (top_of (node.replicas h e r)) ≡ false) node call reaction
+      (after_top code m seat (replica_at node call) request reaction.replica rises after)
+      (λ h e r. stamp_below_irrefl (top_of (node.replicas h e r))) g (view_at node g) s);
+  orders = parts_each (λ g e s x. (node.replicas g e s).order.time ≤ x.order.time) node call reaction (⊎_elim
+      (λ (same : reaction.replica.order ≡ (replica_at node call).order). omega (arith, ap (λ (z : Stamp). z.time) same))
+      (λ (new : (stamp_asked request ≡ Some reaction.replica.order) × (stamp_below reaction.replica.order (top_of (replica_at node call)) ≡ false)).
+      ⊎_elim
+      (λ (first : (replica_at node call).order ≡ first_stamp). omega (arith, ap (λ (z : Stamp). z.time) first))
+      (λ (of : (replica_at node call).order.view.0 ≡ call.view.0).
+      time_rises reaction.replica.order (replica_at node call).order (asks reaction.replica.order new.0 ∙ sym of)
+      (stamp_not_below_trans (replica_at node call).order (top_of (replica_at node call)) reaction.replica.order (top_order (replica_at node call)) new.1))
+      (has.parts call.group.0 call.view.0 call.stripe.0).order)
+      (after_order code m seat (replica_at node call) request reaction.replica after)) (λ g e s. omega arith);
   kept = λ g e s t. parts_each (λ h v r x. IsKept t (node.replicas h v r).log → IsKept t x.log) node call reaction
       (λ kept. after_kept code m seat (replica_at node call) request reaction.replica t rises after kept) (λ h v r kept. kept) g e s;
-  newer = λ g e s t.
-      parts_each (λ h v r x. is_held t x.log ≡ true → (is_held t (node.replicas h v r).log ≡ true) ⊎ (stamp_below t (top_of (node.replicas h v r)) ≡ false))
-      node call reaction (λ held. after_newer code m seat (replica_at node call) request reaction.replica t after held)
+  newer = λ g e s t. parts_each
+      (λ h v r x. is_held t x.log ≡ true → (is_held t (node.replicas h v r).log ≡ true) ⊎ (stamp_below t (top_at node h r) ≡ false)) node call reaction
+      (λ held. ⊎_elim
+      (λ (was : is_held t (replica_at node call).log ≡ true). inl was)
+      (λ (new : (stamp_asked request ≡ Some t) × (stamp_below t (top_of (replica_at node call)) ≡ false)).
+      inr (top_most node call.group.0 call.stripe.0 t (asks_above layout node call request has asks view free t new.0)
+      (ap (λ (e : ℕ). stamp_below t (top_of (node.replicas call.group.0 e call.stripe.0))) (sym view) ∙ new.1)))
+      (after_newer code m seat (replica_at node call) request reaction.replica t after held))
       (λ h v r held. inl held) g e s;
   ascends = parts_each (λ g e s x. LogAscends (node.replicas g e s).log → LogAscends x.log) node call reaction
       (after_ascends code m seat (replica_at node call) request reaction.replica after) (λ g e s ascends. ascends);
@@ -81,7 +104,7 @@ in_first call =
     record { boot = call.boot; seq = call.seq; phase = call.phase; group = call.group; view = record { 0 = 1 }; stripe = call.stripe }
 
 module _ (setting : Setting) (w : World) (stamps : Stamping) (me from : BrickId) (given : Call) (request : Request) (books : Books setting w)
-    (group : Group) (seat : ℕ) (group_is : group_of setting.layout given.group.0 ≡ Some group) (seat_is : seat_in group.members me.0 ≡ Some seat)
+    (views : StampViews setting.layout w) (group : Group) (seat : ℕ) (group_is : group_of setting.layout given.group.0 ≡ Some group) (seat_is : seat_in group.members me.0 ≡ Some seat)
     (said : Said setting w stamps) (sent : WasSent w (record { from = from; to = me; message = Message.Request (in_first given) request })) where
   -- the call
   abbrev call : Call
@@ -99,6 +122,24 @@ module _ (setting : Setting) (w : World) (stamps : Stamping) (me from : BrickId)
   lowest_is =
       kept_some first_stamp before.log
       (was_kept w said.logged call.group.0 call.stripe.0 me.0 first_stamp refl (said.first_held call.group.0 call.stripe.0 me.0))
+
+  -- the view that the member has learnt, and accepted none to follow
+  in_view : view_at (w.nodes me.0) call.group.0 ≡ 1
+  in_view = view_first setting.layout (w.nodes me.0) call.group.0 (books.first me.0)
+
+  free : (w.nodes me.0).accepted call.group.0 ≡ false
+  free = ap (λ (f : ℕ → Bool). f call.group.0) (books.first me.0).accepted
+
+  -- what is of the view is not below what the member has learnt
+  over : (t : Stamp) → view_of t ≡ 1 → stamp_below t (view_floor (w.nodes me.0) call.group.0) ≡ false
+  over t view = view_above (w.nodes me.0) call.group.0 t free (view ∙ sym in_view)
+
+  -- a brick that has learnt it comes no less far than its part of it
+  above_part : (node : Node) → view_at node call.group.0 ≡ 1
+      → stamp_below (top_at node call.group.0 call.stripe.0) (top_of (replica_at node call)) ≡ false
+  above_part node view =
+      subst (λ (e : ℕ). stamp_below (top_at node call.group.0 call.stripe.0) (top_of (node.replicas call.group.0 e call.stripe.0)) ≡ false) view
+      (top_above node call.group.0 call.stripe.0)
 
   asks : RequestSays setting w stamps from.0 me.0 call request
   asks = said.packets sent.0 (record { from = from; to = me; message = Message.Request call request }) sent.1
@@ -126,6 +167,9 @@ module _ (setting : Setting) (w : World) (stamps : Stamping) (me from : BrickId)
   asked_view : (t : Stamp) → stamp_asked request ≡ Some t → t.view.0 ≡ 1
   asked_view t is = (said.stamps_say.are from.0 call.boot call.seq call.phase t (asked_stamped t is)).view
 
+  stamp_view : (t : Stamp) → IsStamped stamps from.0 call.boot call.seq call.phase t → view_of t ≡ 1
+  stamp_view t is = view_is t (said.stamps_say.are from.0 call.boot call.seq call.phase t is).view
+
   asked_known : (t : Stamp) → stamp_asked request ≡ Some t → IsKnown stamps t
   asked_known t is = inr (from.0, call.boot, call.seq, call.phase, asked_stamped t is)
 
@@ -149,19 +193,22 @@ module _ (setting : Setting) (w : World) (stamps : Stamping) (me from : BrickId)
     next = quiet w me (with_replica (w.nodes me.0) call reaction) more
 
     keeps : KeepsParts (w.nodes me.0) (with_replica (w.nodes me.0) call reaction)
-    keeps = parts_keep setting.code group.m seat (w.nodes me.0) call request reaction rises after
+    keeps =
+        parts_keep setting.layout setting.code group.m seat (w.nodes me.0) call request reaction rises after (views.nodes me.0)
+        (views.packets sent.0 (record { from = from; to = me; message = Message.Request call request }) sent.1)
+        (sym in_view) free
 
     grows : Grows w next stamps stamps
     grows = quiet_grows w stamps stamps me (with_replica (w.nodes me.0) call reaction) more (stamps_same stamps) said.logged keeps
 
-    tops : (g s : ℕ) → (top_of ((with_replica (w.nodes me.0) call reaction).replicas g 1 s) ≡ top_of ((w.nodes me.0).replicas g 1 s))
-        ⊎ IsKnown stamps (top_of ((with_replica (w.nodes me.0) call reaction).replicas g 1 s))
-    tops g s = parts_each (λ h e r x. (top_of x ≡ top_of ((w.nodes me.0).replicas h e r)) ⊎ IsKnown stamps (top_of x)) (w.nodes me.0) call reaction
+    tops : (g e s : ℕ) → (top_of ((with_replica (w.nodes me.0) call reaction).replicas g e s) ≡ top_of ((w.nodes me.0).replicas g e s))
+        ⊎ IsKnown stamps (top_of ((with_replica (w.nodes me.0) call reaction).replicas g e s))
+    tops = parts_each (λ h e r x. (top_of x ≡ top_of ((w.nodes me.0).replicas h e r)) ⊎ IsKnown stamps (top_of x)) (w.nodes me.0) call reaction
         (⊎_elim (λ (same : top_of part ≡ top_of before). inl same)
         (λ (asked : stamp_asked request ≡ Some (top_of part)).
         inr (asked_known (top_of part) asked))
         (after_asked setting.code group.m seat before request part rises after))
-        (λ h e r. inl refl) g 1 s
+        (λ h e r. inl refl)
 
     -- a version that is stored says what it should
     made_by : (phase : Phase) (t : Stamp) → MakerSays setting w stamps from.0 me.0 call phase t → IsMadeOrFirst w call.group.0 call.stripe.0 t
@@ -186,7 +233,7 @@ module _ (setting : Setting) (w : World) (stamps : Stamping) (me from : BrickId)
         = asks_as (Request.Modify version.stamp old.stamp j delta) is in
         let stands = newest_stands before.log old newest in
         let kept : VersionSays setting w call.group.0 call.stripe.0 me.0 old
-        = said.logs call.group.0 call.stripe.0 me.0 stands.0 old stands.1 in
+        = said.logs call.group.0 1 call.stripe.0 me.0 stands.0 old stands.1 in
         let change : ChangesBlock setting w call.group.0 call.stripe.0 version.stamp old.stamp j delta group seat = says.changes group seat group_is seat_is in
         let block : version.block ≡ setting.code.encode group.m (w.contents call.group.0 call.stripe.0 version.stamp) seat
         = block_is ∙ ap (λ (z : List ℕ). modified_block setting.code group.m j seat delta z) (kept.block group seat group_is seat_is) ∙ change.makes in
@@ -195,9 +242,9 @@ module _ (setting : Setting) (w : World) (stamps : Stamping) (me from : BrickId)
           block = at_hand (λ z k. version.block ≡ setting.code.encode z.m (w.contents call.group.0 call.stripe.0 version.stamp) k) block;
         }
 
-    logs : (g s k : ℕ) (version : Version) → slice_get ((with_replica (w.nodes me.0) call reaction).replicas g 1 s).log k ≡ Some version
-        → ((j : ℕ) × (slice_get ((w.nodes me.0).replicas g 1 s).log j ≡ Some version)) ⊎ VersionSays setting next g s me.0 version
-    logs g s k version = parts_each
+    logs : (g e s k : ℕ) (version : Version) → slice_get ((with_replica (w.nodes me.0) call reaction).replicas g e s).log k ≡ Some version
+        → ((j : ℕ) × (slice_get ((w.nodes me.0).replicas g e s).log j ≡ Some version)) ⊎ VersionSays setting next g s me.0 version
+    logs g e s k version = parts_each
         (λ h e r x. slice_get x.log k ≡ Some version
         → ((j : ℕ) × (slice_get ((w.nodes me.0).replicas h e r).log j ≡ Some version)) ⊎ VersionSays setting next h r me.0 version)
         (w.nodes me.0) call reaction
@@ -206,12 +253,12 @@ module _ (setting : Setting) (w : World) (stamps : Stamping) (me from : BrickId)
         (λ (new : StoresBlock setting.code group.m seat before request version.stamp version.block).
         inr (stays_version setting w next stamps stamps books grows call.group.0 call.stripe.0 me.0 version (stored_version version new)))
         (after_log setting.code group.m seat before request part k version after is))
-        (λ h e r is. inl (k, is)) g 1 s
+        (λ h v r is. inl (k, is)) g e s
 
     -- the lowest version is as before, or one that was collected
-    lowest : (g s : ℕ) (x : Version) (log : List Version) → ((with_replica (w.nodes me.0) call reaction).replicas g 1 s).log ≡ x ∷ log
-        → ((rest : List Version) × (((w.nodes me.0).replicas g 1 s).log ≡ x ∷ rest)) ⊎ WasCollected next g s x.stamp
-    lowest g s x log = parts_each
+    lowest : (g e s : ℕ) (x : Version) (log : List Version) → ((with_replica (w.nodes me.0) call reaction).replicas g e s).log ≡ x ∷ log
+        → ((rest : List Version) × (((w.nodes me.0).replicas g e s).log ≡ x ∷ rest)) ⊎ WasCollected next g s x.stamp
+    lowest g e s x log = parts_each
         (λ h e r y. y.log ≡ x ∷ log → ((rest : List Version) × (((w.nodes me.0).replicas h e r).log ≡ x ∷ rest)) ⊎ WasCollected next h r x.stamp)
         (w.nodes me.0) call reaction
         (λ is. ⊎_elim
@@ -226,21 +273,34 @@ module _ (setting : Setting) (w : World) (stamps : Stamping) (me from : BrickId)
           stripe = refl;
         }))
         (after_lowest setting.code group.m seat before request part lowest_is.0 x lowest_is.1 log rises after lowest_is.2 is))
-        (λ h e r is. inl (log, is)) g 1 s
+        (λ h v r is. inl (log, is)) g e s
 
     -- the member's part after the request
     now : part_of next call.group.0 call.stripe.0 me.0 ≡ part
     now = ap (λ node. replica_at node call) (put_same w.nodes me.0 (with_replica (w.nodes me.0) call reaction))
         ∙ part_now (w.nodes me.0) call reaction
 
-    -- the operation's floor at this member is not above its top
-    floor_below : (o : Operation) → IsCalled w from.0 call o → stamp_below (top_of before) (floor_at o me.0) ≡ false
-    floor_below o called =
-        let floors : stamp_below (top_of (part_of w o.ask.group.0 o.ask.stripe.0 me.0)) (floor_at o me.0) ≡ false
+    -- the member comes no less far than its part
+    part_stands : stamp_below (top_in next call.group.0 call.stripe.0 me.0) (top_of part) ≡ false
+    part_stands =
+        subst (λ (n : Node). stamp_below (top_at n call.group.0 call.stripe.0) (top_of part) ≡ false)
+        (sym (put_same w.nodes me.0 (with_replica (w.nodes me.0) call reaction)))
+        (subst (λ (r : Replica). stamp_below (top_at (with_replica (w.nodes me.0) call reaction) call.group.0 call.stripe.0) (top_of r) ≡ false)
+        (part_now (w.nodes me.0) call reaction) (above_part (with_replica (w.nodes me.0) call reaction) in_view))
+
+    -- the operation's floor at this member is at most what is of the view, and at or above its part
+    floor_below : (o : Operation) → IsCalled w from.0 call o → (t : Stamp) → stamp_below t (view_floor (w.nodes me.0) call.group.0) ≡ false
+        → stamp_below t (top_of before) ≡ false → stamp_below t (o.floor me.0) ≡ false
+    floor_below o called t over above =
+        let floors : stamp_below (top_in w o.ask.group.0 o.ask.stripe.0 me.0) (o.floor me.0) ≡ false
         = (said.operations (w.numbers from.0 call.boot call.seq) o called.is).floors me.0 in
-        let in_group : stamp_below (top_of (part_of w call.group.0 o.ask.stripe.0 me.0)) (floor_at o me.0) ≡ false
-        = subst (λ (g : ℕ). stamp_below (top_of (part_of w g o.ask.stripe.0 me.0)) (floor_at o me.0) ≡ false) called.group floors in
-        subst (λ (s : ℕ). stamp_below (top_of (part_of w call.group.0 s me.0)) (floor_at o me.0) ≡ false) called.stripe in_group
+        let in_group : stamp_below (top_in w call.group.0 o.ask.stripe.0 me.0) (o.floor me.0) ≡ false
+        = subst (λ (g : ℕ). stamp_below (top_in w g o.ask.stripe.0 me.0) (o.floor me.0) ≡ false) called.group floors in
+        let here : stamp_below (top_in w call.group.0 call.stripe.0 me.0) (o.floor me.0) ≡ false
+        = subst (λ (s : ℕ). stamp_below (top_in w call.group.0 s me.0) (o.floor me.0) ≡ false) called.stripe in_group in
+        stamp_not_below_trans (o.floor me.0) (top_in w call.group.0 call.stripe.0 me.0) t here
+        (top_most (w.nodes me.0) call.group.0 call.stripe.0 t over
+        (subst (λ (e : ℕ). stamp_below t (top_of (part_in w call.group.0 e call.stripe.0 me.0)) ≡ false) (sym in_view) above))
 
     -- a version that is told as it is kept, or without its bytes, says what it should
     told_says : (version : Version) (kept : Option Version) → IsTold (Some version) kept
@@ -249,7 +309,7 @@ module _ (setting : Setting) (w : World) (stamps : Stamping) (me from : BrickId)
     told_says version kept told place =
         let old : Version = told.0 in
         let at = place old told.1 in
-        let says : VersionSays setting w call.group.0 call.stripe.0 me.0 old = said.logs call.group.0 call.stripe.0 me.0 at.0 old at.1 in
+        let says : VersionSays setting w call.group.0 call.stripe.0 me.0 old = said.logs call.group.0 1 call.stripe.0 me.0 at.0 old at.1 in
         record {
           made = subst (λ (t : Stamp). IsMadeOrFirst w call.group.0 call.stripe.0 t) (sym told.2) says.made;
           block = ⊎_elim
@@ -274,34 +334,37 @@ module _ (setting : Setting) (w : World) (stamps : Stamping) (me from : BrickId)
         record {
           operation = says.0;
           called = says.1;
-          top = subst (λ (t : Stamp). stamp_below (top_of before) t ≡ false) top (stamp_below_irrefl (top_of before));
-          floor = subst (λ (t : Stamp). stamp_below t (floor_at says.0 me.0) ≡ false) top (floor_below says.0 says.1);
+          top = subst (λ (t : Stamp). stamp_below (top_in w call.group.0 call.stripe.0 me.0) t ≡ false) top (above_part (w.nodes me.0) in_view);
+          floor = subst (λ (t : Stamp). stamp_below t (says.0.floor me.0) ≡ false) top
+              (floor_below says.0 says.1 (top_of before)
+              (stamp_not_below_trans (view_floor (w.nodes me.0) call.group.0) old.stamp (top_of before)
+              (over old.stamp (((views.nodes me.0).parts call.group.0 1 call.stripe.0).log stands.0 old stands.1))
+              (held_top before old.stamp rises (newest_held before.log old newest)))
+              (stamp_below_irrefl (top_of before)));
           held = subst (λ (t : Stamp). w.held me.0 call.group.0 call.stripe.0 t ≡ true) (sym stamp)
               (held_in w said.logged call.group.0 call.stripe.0 me.0 old.stamp (made_view setting w stamps books said
-              call.group.0 call.stripe.0 old.stamp (said.logs call.group.0 call.stripe.0 me.0 stands.0 old stands.1).made)
+              call.group.0 call.stripe.0 old.stamp (said.logs call.group.0 1 call.stripe.0 me.0 stands.0 old stands.1).made)
               (newest_held before.log old newest));
           says = told_says version (newest_of before.log) told.2 (λ kept is. newest_stands before.log kept is);
         }
 
     -- a promise is at or above the operation's floor at this member
-    promise_above : (t : Stamp) (o : Operation) → IsCalled w from.0 call o → (p : Operation) → Continues o p → stamp_below t (top_of before) ≡ false
-        → stamp_below t (floor_at p me.0) ≡ false
-    promise_above t o called p on above =
-        subst (λ (f : ℕ → Stamp). stamp_below t (part_floor (f me.0)) ≡ false) (sym on.floor)
-        (stamp_not_below_trans (floor_at o me.0) (top_of before) t (floor_below o called) above)
+    promise_above : (t : Stamp) (o : Operation) → IsCalled w from.0 call o → (p : Operation) → Continues o p → view_of t ≡ 1
+        → stamp_below t (top_of before) ≡ false → stamp_below t (p.floor me.0) ≡ false
+    promise_above t o called p on view above =
+        subst (λ (f : ℕ → Stamp). stamp_below t (f me.0) ≡ false) (sym on.floor) (floor_below o called t (over t view) above)
 
     ordered_says : ReactionSays full before request part Reply.Ordered → OrderedSays next stamps me.0 from.0 call
     ordered_says told =
         let says : OrderSays w stamps from.0 call told.0 = asks_as (Request.Order told.0) told.1 in
         let goes = stays_called setting w next stamps stamps books grows from.0 call says.operation says.called in
-        let top : top_of (part_of next call.group.0 call.stripe.0 me.0) ≡ told.0 = ap (λ (r : Replica). top_of r) now ∙ told.3 in
         record {
           operation = goes.0;
           called = goes.1;
           stamp = told.0;
           stamp_is = says.begun;
-          promised = subst (λ (t : Stamp). stamp_below t told.0 ≡ false) (sym top) (stamp_below_irrefl told.0);
-          floor = promise_above told.0 says.operation says.called goes.0 goes.2 told.2;
+          promised = subst (λ (t : Stamp). stamp_below (top_in next call.group.0 call.stripe.0 me.0) t ≡ false) told.3 part_stands;
+          floor = promise_above told.0 says.operation says.called goes.0 goes.2 (stamp_view told.0 (Orders, says.begun)) told.2;
         }
 
     -- what is looked for in a log
@@ -341,7 +404,7 @@ module _ (setting : Setting) (w : World) (stamps : Stamping) (me from : BrickId)
           most = stamp_not_below_trans x.stamp (top_of before) t (held_top before x.stamp rises here) above;
           collected = stays_collected w next grows.sent call.group.0 call.stripe.0 x.stamp collected;
         }))
-        (said.lowest call.group.0 call.stripe.0 me.0 x lowest_is.1 lowest_is.2))
+        (said.lowest call.group.0 1 call.stripe.0 me.0 x lowest_is.1 lowest_is.2))
         (cases_Bool (is_looked look x.stamp))
 
     found_told : (found : Option Version) (kept : Option Version) (version : Version) → IsTold found kept → found ≡ Some version
@@ -358,8 +421,7 @@ module _ (setting : Setting) (w : World) (stamps : Stamping) (me from : BrickId)
         let kept : looked_up look before.log ≡ newest_of (among (is_looked look) before.log) = looked_is look before.log in
         let view : told.0.view.0 ≡ 1 = (said.stamps_say.are from.0 call.boot call.seq call.phase told.0 (says.phase, says.begun)).view in
         let promise : part_of next call.group.0 call.stripe.0 me.0 ≡ with_order before told.0 = now ∙ told.1.4 in
-        let top : top_of (part_of next call.group.0 call.stripe.0 me.0) ≡ told.0
-        = ap (λ (r : Replica). top_of r) promise ∙ top_promised before told.0 told.1.3 in
+        let top : top_of part ≡ told.0 = ap (λ (r : Replica). top_of r) told.1.4 ∙ top_promised before told.0 told.1.3 in
         record {
           operation = goes.0;
           called = goes.1;
@@ -370,8 +432,8 @@ module _ (setting : Setting) (w : World) (stamps : Stamping) (me from : BrickId)
           look_is = says.look_is;
           below = says.below;
           view = view;
-          promised = subst (λ (t : Stamp). stamp_below t told.0 ≡ false) (sym top) (stamp_below_irrefl told.0);
-          floor = promise_above told.0 says.operation says.called goes.0 goes.2 told.1.3;
+          promised = subst (λ (t : Stamp). stamp_below (top_in next call.group.0 call.stripe.0 me.0) t ≡ false) top part_stands;
+          floor = promise_above told.0 says.operation says.called goes.0 goes.2 (view_is told.0 view) told.1.3;
           newest = λ d held looked. ⊎_elim
               (λ (there : is_held d before.log ≡ true).
               inl (found_within found (looked_up look before.log) d told.1.5
@@ -386,7 +448,7 @@ module _ (setting : Setting) (w : World) (stamps : Stamping) (me from : BrickId)
               grows.parts.held call.group.0 call.stripe.0 me.0 version.stamp
               (subst (λ (t : Stamp). w.held me.0 call.group.0 call.stripe.0 t ≡ true) (sym tells.2)
               (held_in w said.logged call.group.0 call.stripe.0 me.0 tells.0.stamp (made_view setting w stamps books said
-              call.group.0 call.stripe.0 tells.0.stamp (said.logs call.group.0 call.stripe.0 me.0 at.0 tells.0 at.1).made)
+              call.group.0 call.stripe.0 tells.0.stamp (said.logs call.group.0 1 call.stripe.0 me.0 at.0 tells.0 at.1).made)
               (place_held before.log at.0 tells.0 at.1)));
           says = λ version is.
               stays_told setting w next stamps stamps books grows call.group.0 call.stripe.0 me.0 version

@@ -35,12 +35,12 @@ use Rattle.protocol.specs.Nodes.{Node, given_content}
 use Rattle.protocol.specs.Worlds.{World, Operation, zero_content}
 use Rattle.protocol.specs.Happenings.{writes}
 use Rattle.fab_base.specs.Layouts.{brick_at}
-use Rattle.protocol_laws.specs.Laws.{WasSent, RequestSent, AskedAt, AtQuorum, IsModified, stamp_stored}
-use Rattle.protocol_laws.proofs.Parts.{part_of, PartsGuard, PartsBlock}
+use Rattle.protocol_laws.specs.Laws.{WasSent, RequestSent, AskedAt, AtQuorum, IsModified, stamp_stored, IsGuarded, IsBlocked, top_in, part_in}
+use Rattle.protocol_laws.proofs.Parts.{part_of}
 use Rattle.protocol_laws.proofs.Books.{IsOperation, IsCall}
 use Rattle.protocol_laws.proofs.Blocking.{LogsFit}
-use Rattle.protocol_laws.proofs.FirstViews.{floor_at}
 use Rattle.protocol_laws.proofs.Logs.{IsWithin}
+use Rattle.protocol.proofs.Blocks.{IsContent}
 
 -- a phase that was begun: its stamp, and what it does
 pub record Begun : Type 0 where
@@ -85,11 +85,7 @@ Stands setting w g s v =
 
 -- no quorum holds a stamp of these, or ever will
 abbrev pub AreBlocked : Setting → World → ℕ → ℕ → (Stamp → Type 0) → Type 0
-AreBlocked setting w g s Q = (group : Group) → group_of setting.layout g ≡ Some group → (d : Stamp) → Q d → PartsBlock w g s group d
-
--- a stripe's content: the bytes of m blocks
-abbrev pub IsContent : ℕ → ℕ → List ℕ → Type 0
-IsContent m block content = (length content ≡ m * block) × (are_bytes content ≡ true)
+AreBlocked setting w g s Q = (group : Group) → group_of setting.layout g ≡ Some group → (d : Stamp) → Q d → IsBlocked w g s group d
 
 -- the version is the first one, or an operation of this stripe made it
 abbrev pub IsMadeOrFirst : World → ℕ → ℕ → Stamp → Type 0
@@ -118,11 +114,11 @@ pub record StampsSay (w : World) (stamps : Stamping) : Type 0 where
 
 -- at a quorum of seats the operation's floor is at most t
 abbrev pub FloorsAtMost : Operation → Group → Stamp → Type 0
-FloorsAtMost o group t = AtQuorum group (λ seat. not (stamp_below t (floor_at o (brick_at group seat))))
+FloorsAtMost o group t = AtQuorum group (λ seat. not (stamp_below t (o.floor (brick_at group seat))))
 
 -- at a quorum of seats the operation's floor is at least t
 abbrev pub FloorsAtLeast : Operation → Group → Stamp → Type 0
-FloorsAtLeast o group t = AtQuorum group (λ seat. not (stamp_below (floor_at o (brick_at group seat)) t))
+FloorsAtLeast o group t = AtQuorum group (λ seat. not (stamp_below (o.floor (brick_at group seat)) t))
 
 -- a request or reply's call is that of an operation of brick i, in view 1
 pub record IsCalled (w : World) (i : ℕ) (call : Call) (o : Operation) : Type 0 where
@@ -175,7 +171,7 @@ pub record MakerSays (setting : Setting) (w : World) (stamps : Stamping) (from t
   pub made : operation.made ≡ true
   pub version : operation.version ≡ Some t
   pub member : (group : Group) → group_of setting.layout call.group.0 ≡ Some group → (seat : ℕ) × (seat_in group.members to ≡ Some seat)
-  pub guarded : (group : Group) → group_of setting.layout call.group.0 ≡ Some group → PartsGuard w call.group.0 call.stripe.0 group t
+  pub guarded : (group : Group) → group_of setting.layout call.group.0 ≡ Some group → IsGuarded w call.group.0 call.stripe.0 group t
 
 -- a write of a version
 pub record WriteSays (setting : Setting) (w : World) (stamps : Stamping) (from to : ℕ) (call : Call) (t : Stamp) (block : List ℕ) : Type 0 where
@@ -257,8 +253,8 @@ pub record OrderedSays (w : World) (stamps : Stamping) (j i : ℕ) (call : Call)
   pub called : IsCalled w i call operation
   pub stamp : Stamp
   pub stamp_is : IsBegun stamps i call.boot call.seq call.phase Orders stamp
-  pub promised : stamp_below (top_of (part_of w call.group.0 call.stripe.0 j)) stamp ≡ false
-  pub floor : stamp_below stamp (floor_at operation j) ≡ false
+  pub promised : stamp_below (top_in w call.group.0 call.stripe.0 j) stamp ≡ false
+  pub floor : stamp_below stamp (operation.floor j) ≡ false
 
 -- what brick j found, when it promised the stamp of a phase that looks for a version: each version looked for that it has held is at most that, or is
 -- passed over
@@ -272,8 +268,8 @@ pub record OrderedReadSays (setting : Setting) (w : World) (stamps : Stamping) (
   pub look_is : look_of phase stamp ≡ Some look
   pub below : (d : Stamp) → is_looked look d ≡ true → stamp_below d stamp ≡ true
   pub view : stamp.view.0 ≡ 1
-  pub promised : stamp_below (top_of (part_of w call.group.0 call.stripe.0 j)) stamp ≡ false
-  pub floor : stamp_below stamp (floor_at operation j) ≡ false
+  pub promised : stamp_below (top_in w call.group.0 call.stripe.0 j) stamp ≡ false
+  pub floor : stamp_below stamp (operation.floor j) ≡ false
   pub newest : (d : Stamp) → w.held j call.group.0 call.stripe.0 d ≡ true → is_looked look d ≡ true
       → IsWithin found d ⊎ IsPassedOver w call.group.0 call.stripe.0 look stamp d
   pub held : (version : Version) → found ≡ Some version → w.held j call.group.0 call.stripe.0 version.stamp ≡ true
@@ -283,8 +279,8 @@ pub record OrderedReadSays (setting : Setting) (w : World) (stamps : Stamping) (
 pub record FoundSays (setting : Setting) (w : World) (j i : ℕ) (call : Call) (order : Stamp) (version : Version) : Type 0 where
   pub operation : Operation
   pub called : IsCalled w i call operation
-  pub top : stamp_below (top_of (part_of w call.group.0 call.stripe.0 j)) (stamp_max order version.stamp) ≡ false
-  pub floor : stamp_below (stamp_max order version.stamp) (floor_at operation j) ≡ false
+  pub top : stamp_below (top_in w call.group.0 call.stripe.0 j) (stamp_max order version.stamp) ≡ false
+  pub floor : stamp_below (stamp_max order version.stamp) (operation.floor j) ≡ false
   pub held : w.held j call.group.0 call.stripe.0 version.stamp ≡ true
   pub says : ToldSays setting w call.group.0 call.stripe.0 j version
 
@@ -312,7 +308,7 @@ PacketSays setting w stamps packet = MessageSays setting w stamps packet.from pa
 pub record HasVersion (setting : Setting) (w : World) (o : Operation) (v : Stamp) : Type 0 where
   pub made : IsMadeOrFirst w o.ask.group.0 o.ask.stripe.0 v
   pub reader : o.made ≡ false → writes o.ask.op ≡ false
-  pub guarded : (group : Group) → group_of setting.layout o.ask.group.0 ≡ Some group → PartsGuard w o.ask.group.0 o.ask.stripe.0 group v
+  pub guarded : (group : Group) → group_of setting.layout o.ask.group.0 ≡ Some group → IsGuarded w o.ask.group.0 o.ask.stripe.0 group v
   pub floors : (group : Group) → group_of setting.layout o.ask.group.0 ≡ Some group → FloorsAtMost o group v
 
 -- the operation made version v on a base, which it read back or modified
@@ -332,9 +328,9 @@ WritesWhole w o v = (o.base ≡ None) × (o.ask.op ≡ WriteStripe (w.contents o
 -- operation n
 pub record OperationSays (setting : Setting) (w : World) (stamps : Stamping) (n : ℕ) (o : Operation) : Type 0 where
   pub begin : o.begin ≤ length w.marks
-  pub floors : (i : ℕ) → stamp_below (top_of (part_of w o.ask.group.0 o.ask.stripe.0 i)) (floor_at o i) ≡ false
-  pub floors_known : (i : ℕ) → IsKnown stamps (floor_at o i)
-  pub fresh : (i p : ℕ) → IsStamped stamps o.brick.0 o.boot o.seq p (floor_at o i) → ⊥
+  pub floors : (i : ℕ) → stamp_below (top_in w o.ask.group.0 o.ask.stripe.0 i) (o.floor i) ≡ false
+  pub floors_known : (i : ℕ) → IsKnown stamps (o.floor i) ⊎ ((o.floor i).time ≡ 0)
+  pub fresh : (i p : ℕ) → IsStamped stamps o.brick.0 o.boot o.seq p (o.floor i) → ⊥
   pub made : o.made ≡ true → (v : Stamp) × (p : ℕ) × (o.version ≡ Some v) × IsStamped stamps o.brick.0 o.boot o.seq p v
   pub maker : (v : Stamp) → o.made ≡ true → o.version ≡ Some v → WritesWhole w o v ⊎ ReadsBack setting w o v
   pub content : (v : Stamp) → o.made ≡ true → o.version ≡ Some v → (group : Group) → group_of setting.layout o.ask.group.0 ≡ Some group
@@ -421,11 +417,11 @@ IsInOrder setting w =
 -- The invariant.
 pub record Said (setting : Setting) (w : World) (stamps : Stamping) : Type 0 where
   pub stamps_say : StampsSay w stamps
-  pub tops : (g s i : ℕ) → IsKnown stamps (top_of (part_of w g s i))
+  pub tops : (g e s i : ℕ) → IsKnown stamps (top_of (part_in w g e s i))
   pub first_held : (g s i : ℕ) → w.held i g s first_stamp ≡ true
-  pub logs : (g s i k : ℕ) (version : Version) → slice_get (part_of w g s i).log k ≡ Some version → VersionSays setting w g s i version
-  pub lowest : (g s i : ℕ) (x : Version) (log : List Version) → (part_of w g s i).log ≡ x ∷ log → (x.stamp ≡ first_stamp) ⊎ WasCollected w g s x.stamp
-  pub held_made : (g s i : ℕ) (t : Stamp) → view_of t ≡ 1 → w.held i g s t ≡ true → IsMadeOrFirst w g s t
+  pub logs : (g e s i k : ℕ) (version : Version) → slice_get (part_in w g e s i).log k ≡ Some version → VersionSays setting w g s i version
+  pub lowest : (g e s i : ℕ) (x : Version) (log : List Version) → (part_in w g e s i).log ≡ x ∷ log → (x.stamp ≡ first_stamp) ⊎ WasCollected w g s x.stamp
+  pub held_made : (g s i : ℕ) (t : Stamp) → w.held i g s t ≡ true → IsMadeOrFirst w g s t
   pub packets : (k : ℕ) (packet : Packet) → slice_get w.packets k ≡ Some packet → PacketSays setting w stamps packet
   pub operations : (n : ℕ) (o : Operation) → IsOperation w n o → OperationSays setting w stamps n o
   pub calls : (i k : ℕ) (c : Coordinator) → IsCall w i k c → CallSays setting w stamps i k c

@@ -1,9 +1,9 @@
 -- What is said is so in every world that a run reaches.
 use Rattle.protocol_laws.proofs.Blocking.{first_fits}
-use Rattle.std.proofs.Common.{◌≡◌, ℕ, ◌<◌, ◌≤◌, ◌+◌, inl, true, false, List, [], ◌∷◌, ◌++◌, length, replicate, Option, Some, None, refl, sym, ap, ◌∙◌, subst, ⊎_elim, arith}
-use Rattle.std.specs.Prelude.{slice_get}
+use Rattle.std.proofs.Common.{◌≡◌, ℕ, ◌<◌, ◌≤◌, ◌+◌, inl, true, false, List, [], ◌∷◌, ◌++◌, length, replicate, Option, Some, None, refl, sym, ap, ◌∙◌, subst, ⊎_elim, arith, ◌⊎◌}
+use Rattle.std.specs.Prelude.{slice_get, nat_eq}
 use Rattle.std.proofs.lemmas.List.{append-nil, length-append}
-use Rattle.std.proofs.lemmas.Bool.{cond_both, cond-false, false≢true, or_left, or_cases}
+use Rattle.std.proofs.lemmas.Bool.{cond-false, false≢true, or_left, or_cases, cond_both}
 use Rattle.fab_base.specs.declared.identities.BrickId.{BrickId}
 use Rattle.fab_base.specs.declared.identities.ViewNo.{ViewNo}
 use Rattle.fab_base.specs.declared.stamps.Stamp.{Stamp}
@@ -20,26 +20,29 @@ use Rattle.reg_model.specs.declared.marks.Mark.{Mark}
 use Rattle.reg_model.specs.declared.marks.Mark.TheVariants.{End, Crash}
 use Rattle.fab_base.specs.Layouts.{Group, group_of, seat_in}
 use Rattle.protocol.specs.Settings.{Setting, IsSound}
-use Rattle.protocol.specs.Replicas.{Reaction, first_replica, top_of, handle, is_held, fresh_replica}
+use Rattle.protocol.specs.Replicas.{Reaction, first_replica, top_of, handle, is_held, fresh_replica, Replica}
 use Rattle.protocol.specs.Coordinators.{Coordinator}
 use Rattle.protocol.specs.Nodes.{Node, NodeStep, put, with_known, with_replica, replica_at, reacted, full_at, reply_packets, absorbed, ticked, stopped, restarted, new_stamp, fresh_stamp, no_step, began, invoked, requested, known_after, replied_at, replied, received, group_at, view_at, seat_served}
-use Rattle.protocol.specs.Worlds.{World, Found, Before, After, Event, Invokes, Delivers, Sets, Ticks, Stops, Starts, replies_with, first_world, zero_content, is_brick, is_up, may_start, world_ticked, left_after, packet_during, world_stopped, world_found, world_started, may_begin, world_began, world_stepped, delivered, packet_of, happens, run, with_held, reached_during}
+use Rattle.protocol.specs.Worlds.{World, Found, Before, After, Event, replies_with, first_world, zero_content, world_ticked, left_after, packet_during, world_stopped, world_found, world_started, may_begin, world_began, world_stepped, run, with_held, reached_during}
 use Rattle.protocol_laws.specs.Laws.{WasSent}
 use Rattle.protocol_laws.proofs.FirstViews.{group_first, view_first}
 use Rattle.protocol_laws.proofs.Books.{Books, IsCall}
-use Rattle.protocol_laws.proofs.Left.{IsLeft, Leaves, always_leaves, leaves_happens, packet_was_sent}
-use Rattle.protocol_laws.proofs.Said.{Stamping, Said, IsSaid, IsStampOf, VersionSays}
-use Rattle.protocol_laws.proofs.BooksEvents.{known_grows, fresh_is, BeginFits, begin_fits, start_fits, books_found, books_run, books, books_beside}
-use Rattle.protocol_laws.proofs.Tables.{get_one, get_kept, get_grown}
-use Rattle.protocol_laws.proofs.Lives.{last_grows}
+use Rattle.protocol_laws.proofs.Left.{IsLeft, Leaves, always_leaves, packet_was_sent}
+use Rattle.protocol_laws.proofs.Said.{Stamping, Said, IsSaid, IsStampOf, VersionSays, WasCollected, IsMadeOrFirst}
+use Rattle.protocol_laws.proofs.BooksEvents.{known_grows, fresh_is, BeginFits, begin_fits, start_fits, books_found, books, books_beside}
+use Rattle.protocol.proofs.Tables.{get_one, get_kept, get_grown}
+use Rattle.reg_model.proofs.GrowingLives.{last_grows}
 use Rattle.protocol_laws.proofs.Stampings.{ages_within}
-use Rattle.protocol_laws.proofs.Reactions.{top_is, handle_after, handle_says}
+use Rattle.protocol_laws.proofs.Reactions.{top_is, handle_after, handle_says, top_is_order}
 use Rattle.protocol_laws.proofs.Steps.{quiet, said_beside, said_added, said_idle}
 use Rattle.protocol_laws.proofs.Requests.{in_first, said_after_request, reply_packets_say}
-use Rattle.protocol_laws.proofs.Served.{request_each, served_seat}
+use Rattle.protocol.proofs.Served.{request_each, served_seat}
 use Rattle.protocol_laws.proofs.Sends.{ticked_was_sent}
 use Rattle.protocol_laws.proofs.Replies.{said_known, said_after_reply}
 use Rattle.protocol_laws.proofs.Begins.{said_began}
+use Rattle.protocol.proofs.Events.{EventCases, world_handled, world_counting, always_where}
+use Rattle.protocol_laws.proofs.StampViews.{StampViews, always_views}
+use Rattle.protocol.specs.Views.{view_of}
 
 -- the world after a brick's step
 abbrev stepped : Setting → World → BrickId → NodeStep → World
@@ -57,8 +60,8 @@ in_view call v =
 
 -- a brick handles a request at its seat
 module _ (setting : Setting) (w : World) (stamps : Stamping) (me from : BrickId) (call : Call) (request : Request) (books : Books setting w)
-    (said : Said setting w stamps) (sent : WasSent w (record { from = from; to = me; message = Message.Request call request }))
-    (group : Group) (seat : ℕ) (here : group_at setting.layout (w.nodes me.0) call.group.0 ≡ Some group)
+    (views : StampViews setting.layout w) (said : Said setting w stamps)
+    (sent : WasSent w (record { from = from; to = me; message = Message.Request call request })) (group : Group) (seat : ℕ) (here : group_at setting.layout (w.nodes me.0) call.group.0 ≡ Some group)
     (at : seat_served setting.layout me (w.nodes me.0) call request group ≡ Some seat)
     (view : call.view.0 ≡ view_at (w.nodes me.0) call.group.0) where
   abbrev full : Option ℕ
@@ -88,8 +91,8 @@ module _ (setting : Setting) (w : World) (stamps : Stamping) (me from : BrickId)
       first_is (λ v. sent_in v → Said setting (stepped setting w me (reacted me from (w.nodes me.0) (in_view call v) (reaction (in_view call v)))) stamps)
       (λ sent.
       let after = handle_after setting.code group.m seat full (replica_at (w.nodes me.0) (in_first call)) request in
-      said_after_request setting w stamps me from call request books group seat group_is seat_is said sent (reaction (in_first call)) replies after
-      (reply_packets_say setting w stamps me from call request books group seat group_is seat_is said sent (reaction (in_first call)) replies after
+      said_after_request setting w stamps me from call request books views group seat group_is seat_is said sent (reaction (in_first call)) replies after
+      (reply_packets_say setting w stamps me from call request books views group seat group_is seat_is said sent (reaction (in_first call)) replies after
       (reaction (in_first call)).reply
       (handle_says setting.code group.m full seat (replica_at (w.nodes me.0) (in_first call)) request)))
       sent
@@ -98,27 +101,27 @@ module _ (setting : Setting) (w : World) (stamps : Stamping) (me from : BrickId)
   kept_said =
       first_is (λ v. sent_in v → Said setting (quiet w me (with_replica (w.nodes me.0) (in_view call v) (reaction (in_view call v))) []) stamps)
       (λ sent.
-      said_after_request setting w stamps me from call request books group seat group_is seat_is said sent (reaction (in_first call)) []
+      said_after_request setting w stamps me from call request books views group seat group_is seat_is said sent (reaction (in_first call)) []
       (handle_after setting.code group.m seat full (replica_at (w.nodes me.0) (in_first call)) request) (λ k packet at. cc))
       sent
 
 -- a request is delivered
-request_said : (setting : Setting) (w : World) (stamps : Stamping) (me from : BrickId) (call : Call) (request : Request) → Books setting w
+request_said : (setting : Setting) (w : World) (stamps : Stamping) (me from : BrickId) (call : Call) (request : Request) → Books setting w → StampViews setting.layout w
     → Said setting w stamps → WasSent w (record { from = from; to = me; message = Message.Request call request })
     → Said setting (stepped setting w me (requested setting me from (w.nodes me.0) call request)) stamps
-request_said setting w stamps me from call request books said sent =
+request_said setting w stamps me from call request books views said sent =
     request_each (λ step. Said setting (stepped setting w me step) stamps) setting me from (w.nodes me.0) call request
     (nothing_said setting w stamps me books said)
-    (handled_said setting w stamps me from call request books said sent)
+    (handled_said setting w stamps me from call request books views said sent)
 
 -- a request is handled, and its reply is lost
-request_kept : (setting : Setting) (w : World) (stamps : Stamping) (me from : BrickId) (call : Call) (request : Request) → Books setting w
+request_kept : (setting : Setting) (w : World) (stamps : Stamping) (me from : BrickId) (call : Call) (request : Request) → Books setting w → StampViews setting.layout w
     → Said setting w stamps → WasSent w (record { from = from; to = me; message = Message.Request call request })
     → Said setting (quiet w me (requested setting me from (w.nodes me.0) call request).node []) stamps
-request_kept setting w stamps me from call request books said sent =
+request_kept setting w stamps me from call request books views said sent =
     request_each (λ step. Said setting (quiet w me step.node []) stamps) setting me from (w.nodes me.0) call request
     (nothing_said setting w stamps me books said)
-    (kept_said setting w stamps me from call request books said sent)
+    (kept_said setting w stamps me from call request books views said sent)
 
 -- a fresh stamp is its brick's, and above all that it knows
 fresh_says : (setting : Setting) (w : World) (me : BrickId) (view : ViewNo) (now known : ℕ) (t : Stamp) → view.0 ≡ 1 → Books setting w
@@ -159,62 +162,58 @@ reply_said setting w stamps me from now call reply sound books said sent = at_ca
 
 -- a message is delivered
 message_said : (setting : Setting) (w : World) (stamps : Stamping) (me from : BrickId) (now : ℕ) (message : Message) → IsSound setting
-    → Books setting w → Said setting w stamps → WasSent w (record { from = from; to = me; message = message })
+    → Books setting w → StampViews setting.layout w
+    → Said setting w stamps → WasSent w (record { from = from; to = me; message = message })
     → IsSaid setting (stepped setting w me (received setting me now (w.nodes me.0) (record { from = from; to = me; message = message })))
 unfolding received
-message_said setting w stamps me from now (Message.Request call request) sound books said sent =
-    (stamps, request_said setting w stamps me from call request books said sent)
-message_said setting w stamps me from now (Message.Reply call reply) sound books said sent =
+message_said setting w stamps me from now (Message.Request call request) sound books views said sent =
+    (stamps, request_said setting w stamps me from call request books views said sent)
+message_said setting w stamps me from now (Message.Reply call reply) sound books views said sent =
     reply_said setting w stamps me from now call reply sound books said sent
-message_said setting w stamps me from now message sound books said sent = (stamps, nothing_said setting w stamps me books said)
+message_said setting w stamps me from now message sound books views said sent = (stamps, nothing_said setting w stamps me books said)
 
 -- a message is handled, and no reply is sent
-absorbed_said : (setting : Setting) (w : World) (stamps : Stamping) (me from to : BrickId) (message : Message) → Books setting w
+absorbed_said : (setting : Setting) (w : World) (stamps : Stamping) (me from to : BrickId) (message : Message) → Books setting w → StampViews setting.layout w
     → Said setting w stamps → WasSent w (record { from = from; to = me; message = message })
     → Said setting (quiet w me (absorbed setting me (w.nodes me.0) (record { from = from; to = to; message = message })) []) stamps
 unfolding absorbed
-absorbed_said setting w stamps me from to (Message.Request call request) books said sent =
-    request_kept setting w stamps me from call request books said sent
-absorbed_said setting w stamps me from to message books said sent = nothing_said setting w stamps me books said
+absorbed_said setting w stamps me from to (Message.Request call request) books views said sent =
+    request_kept setting w stamps me from call request books views said sent
+absorbed_said setting w stamps me from to message books views said sent = nothing_said setting w stamps me books said
 
-delivered_said : (setting : Setting) (w : World) (stamps : Stamping) (number : ℕ) (z : Option Packet) → IsSound setting → Books setting w → Said setting w stamps
-    → ((packet : Packet) → z ≡ Some packet → WasSent w packet) → IsSaid setting (delivered setting w number z)
-delivered_said setting w stamps number None sound books said sent = (stamps, said)
-delivered_said setting w stamps number (Some packet) sound books said sent =
-    let counted : World = record w { replies = replies_with setting w packet; reached = put w.reached number true } in
-    cond_both (is_up setting.layout w packet.to)
-    (stepped setting counted packet.to (received setting packet.to (w.clocks packet.to.0) (w.nodes packet.to.0) packet)) w
-    (λ (next : World). IsSaid setting next)
-    (λ is. message_said setting counted stamps packet.to packet.from (w.clocks packet.to.0) packet.message sound
+delivery_said : (setting : Setting) (w : World) (stamps : Stamping) (number : ℕ) (packet : Packet) → IsSound setting → Books setting w → StampViews setting.layout w
+    → Said setting w stamps → WasSent w packet → IsSaid setting (world_handled setting w number packet)
+delivery_said setting w stamps number packet sound books views said sent =
+    message_said setting (world_counting setting w number packet) stamps packet.to packet.from (w.clocks packet.to.0) packet.message sound
     (books_beside setting w (replies_with setting w packet) (put w.reached number true) books)
+    (record { nodes = views.nodes; after = views.after; packets = views.packets })
     (said_beside setting w stamps w.clocks (replies_with setting w packet) (put w.reached number true) books said)
-    (sent packet refl))
-    (λ isnt. (stamps, said))
+    sent
 
 -- what the store of a stopped brick may hold says what it should
-left_said : (setting : Setting) (w : World) (stamps : Stamping) (me : BrickId) (node : Node) → IsLeft setting w me.0 node → Books setting w
+left_said : (setting : Setting) (w : World) (stamps : Stamping) (me : BrickId) (node : Node) → IsLeft setting w me.0 node → Books setting w → StampViews setting.layout w
     → Said setting w stamps → Said setting (quiet w me node []) stamps
-left_said setting w stamps me node left books said = ⊎_elim
+left_said setting w stamps me node left books views said = ⊎_elim
     (λ (same : node ≡ w.nodes me.0).
     subst (λ (z : Node). Said setting (quiet w me z []) stamps) (sym same) (nothing_said setting w stamps me books said))
     (λ (handled : (packet : Packet) × (packet.to ≡ me) × WasSent w packet × (node ≡ absorbed setting me (w.nodes me.0) packet)).
     let packet : Packet = handled.0 in
     subst (λ (z : Node). Said setting (quiet w me z []) stamps) (sym handled.3)
-    (absorbed_said setting w stamps me packet.from packet.to packet.message books said
+    (absorbed_said setting w stamps me packet.from packet.to packet.message books views said
     (subst (λ (to : BrickId). WasSent w (record { from = packet.from; to = to; message = packet.message })) handled.1 handled.2)))
     left
 
 -- so does the brick that starts with it
-found_said : (setting : Setting) (w : World) (stamps : Stamping) (me : BrickId) (found : Found) → w.up me.0 ≡ false → Leaves setting w → Books setting w
+found_said : (setting : Setting) (w : World) (stamps : Stamping) (me : BrickId) (found : Found) → w.up me.0 ≡ false → Leaves setting w → Books setting w → StampViews setting.layout w
     → Said setting w stamps → Said setting (world_found w me found) stamps
-found_said setting w stamps me Before down leaves books said = said
-found_said setting w stamps me After down leaves books said =
+found_said setting w stamps me Before down leaves books views said = said
+found_said setting w stamps me After down leaves books views said =
     subst (λ (l : List Packet). Said setting (record w {
       nodes = put w.nodes me.0 (w.after me.0);
       held = with_held w.held me.0 (w.after me.0);
       packets = l;
     }) stamps) (append-nil w.packets)
-    (left_said setting w stamps me (w.after me.0) (leaves me.0 down) books said)
+    (left_said setting w stamps me (w.after me.0) (leaves me.0 down) books views said)
 
 -- a brick's clock ticks
 ticked_said : (setting : Setting) (w : World) (stamps : Stamping) (me : BrickId) → Books setting w → Said setting w stamps
@@ -237,7 +236,7 @@ stopped_said setting w stamps me during books said =
     let longer : length (w.marks ++ (crash ∷ [])) ≡ length w.marks + 1 = length-append w.marks (crash ∷ []) in
     said_idle setting w stamps me.0 (stopped (w.nodes me.0))
     (put w.after me.0 (left_after setting me (w.nodes me.0) (packet_during w.packets during))) (put w.up me.0 false) w.past (w.marks ++ (crash ∷ []))
-    (reached_during w me during) books said refl (λ k. refl)
+    (reached_during w me during) books said (refl, refl, refl) (λ k. refl)
     (ages_within (w.nodes me.0) (stopped (w.nodes me.0)) refl (omega arith) (omega arith)) (omega arith)
     (λ a. last_grows w.marks crash a (λ k mark at. let place = books.places k mark at in omega (arith, place)) refl)
     (λ k p n answer at. ⊎_elim
@@ -252,7 +251,7 @@ started_said : (setting : Setting) (w : World) (stamps : Stamping) (me : BrickId
 unfolding restarted
 started_said setting w stamps me openings books said some =
     said_idle setting w stamps me.0 (restarted openings (w.nodes me.0)) w.after (put w.up me.0 true)
-    (put w.past me.0 (put (w.past me.0) (w.nodes me.0).boot (w.nodes me.0).known)) w.marks w.reached books said refl (λ k. refl)
+    (put w.past me.0 (put (w.past me.0) (w.nodes me.0).boot (w.nodes me.0).known)) w.marks w.reached books said (refl, refl, refl) (λ k. refl)
     (record { boot = omega arith; known = λ same. absurd (omega arith); seq = λ same. absurd (omega arith) }) (omega arith) (λ a. omega arith)
     (λ k p n answer at. at)
 
@@ -267,38 +266,23 @@ invoked_said setting w stamps me ask books said may =
     (said_began setting w stamps me ask fits.group books said fits.group_is)
 
 -- every event keeps the invariant
-pub said_happens : (setting : Setting) (w : World) (event : Event) → IsSound setting → Leaves setting w → Books setting w → IsSaid setting w
-    → IsSaid setting (happens setting w event)
-unfolding happens
-said_happens setting w (Invokes brick ask) sound leaves books said =
-    cond_both (may_begin setting w brick ask) (world_began w brick ask (invoked setting brick (w.clocks brick.0) (w.nodes brick.0) ask)) w
-    (λ (next : World). IsSaid setting next)
-    (λ may. invoked_said setting w said.0 brick ask books said.1 may)
-    (λ isnt. said)
-said_happens setting w (Delivers number) sound leaves books said =
-    delivered_said setting w said.0 number (packet_of w.packets number) sound books said.1 (packet_was_sent w number)
-said_happens setting w (Sets brick time) sound leaves books said =
-    cond_both (is_brick setting.layout brick) (record w { clocks = put w.clocks brick.0 time }) w (λ (next : World). IsSaid setting next)
-    (λ is. (said.0, said_beside setting w said.0 (put w.clocks brick.0 time) w.replies w.reached books said.1))
-    (λ isnt. said)
-said_happens setting w (Ticks brick) sound leaves books said =
-    cond_both (is_up setting.layout w brick) (world_ticked setting w brick) w (λ (next : World). IsSaid setting next)
-    (λ up. (said.0, ticked_said setting w said.0 brick books said.1))
-    (λ down. said)
-said_happens setting w (Stops brick during) sound leaves books said =
-    cond_both (is_up setting.layout w brick) (world_stopped setting w brick during) w (λ (next : World). IsSaid setting next)
-    (λ up. (said.0, stopped_said setting w said.0 brick during books said.1))
-    (λ down. said)
-said_happens setting w (Starts brick openings found) sound leaves books said =
-    cond_both (may_start setting.layout w brick openings) (world_started (world_found w brick found) brick openings) w
-    (λ (next : World). IsSaid setting next)
-    (λ may.
-    let fits = start_fits setting w brick openings may in (
-      said.0,
-      started_said setting (world_found w brick found) said.0 brick openings (books_found setting w brick found fits.0 leaves books)
-          (found_said setting w said.0 brick found fits.0 leaves books said.1) fits.1,
-    ))
-    (λ cannot. said)
+said_cases : (setting : Setting) → IsSound setting → (w : World) → Leaves setting w × Books setting w × StampViews setting.layout w → IsSaid setting w
+    → EventCases setting w (IsSaid setting)
+said_cases setting sound w known said =
+    let books : Books setting w = known.1 in
+    record {
+      begins = λ brick ask may. invoked_said setting w said.0 brick ask books said.1 may;
+      handles = λ number packet at up. delivery_said setting w said.0 number packet sound books known.2 said.1 (packet_was_sent w number packet at);
+      sets = λ brick time is. (said.0, said_beside setting w said.0 (put w.clocks brick.0 time) w.replies w.reached books said.1);
+      ticks = λ brick up. (said.0, ticked_said setting w said.0 brick books said.1);
+      stops = λ brick during up. (said.0, stopped_said setting w said.0 brick during books said.1);
+      starts = λ brick openings found may.
+          (let fits = start_fits setting w brick openings may in (
+            said.0,
+            started_said setting (world_found w brick found) said.0 brick openings (books_found setting w brick found fits.0 known.0 books)
+                (found_said setting w said.0 brick found fits.0 known.0 books known.2 said.1) fits.1,
+          ));
+    }
 
 -- the first world
 first_top : (block : ℕ) → top_of (first_replica block) ≡ first_stamp
@@ -306,14 +290,18 @@ first_top block =
     top_is (first_replica block) (record { stamp = first_stamp; block = replicate block 0 }) refl
     ∙ cond-false (stamp_below first_stamp first_stamp) first_stamp first_stamp (stamp_below_irrefl first_stamp)
 
-pub said_first : (setting : Setting) → IsSound setting → IsSaid setting (first_world setting.layout)
+said_first : (setting : Setting) → IsSound setting → IsSaid setting (first_world setting.layout)
 said_first setting sound = (
   (λ i b k p. None),
   record {
     stamps_say = record { are = λ i b k p t is. cc; begun = λ i b k p t is. cc; apart = λ i b k l p q t is its. cc };
-    tops = λ g s i. inl (first_top setting.layout.block);
+    tops = λ g e s i. inl (cond_both (nat_eq e 1) (first_replica setting.layout.block) _ (λ (r : Replica). top_of r ≡ first_stamp)
+        (λ one. first_top setting.layout.block) (λ other. top_is_order _ refl));
     first_held = λ g s i. or_left (stamp_same first_stamp first_stamp) false (stamp_same_refl first_stamp);
-    logs = λ g s i k version is.
+    logs = λ g e s i k version.
+        cond_both (nat_eq e 1) (first_replica setting.layout.block) _
+        (λ (r : Replica). slice_get r.log k ≡ Some version → VersionSays setting (first_world setting.layout) g s i version)
+        (λ one is.
         let same : record { stamp = first_stamp; block = replicate setting.layout.block 0 } ≡ version
         = get_one (record { stamp = first_stamp; block = replicate setting.layout.block 0 }) version k is in
         subst (λ (z : Version). VersionSays setting (first_world setting.layout) g s i z) same (record {
@@ -321,40 +309,35 @@ said_first setting sound = (
           block = λ group seat group_is at.
               sym (sound.zero_blocks group.m (length group.members) seat (sound.limits g group group_is))
               ∙ ap (λ (z : Option Group). setting.code.encode group.m (zero_content setting.layout.block z) seat) (sym group_is);
-        });
+        }))
+        (λ other is. absurd (let never : None ≡ Some version = is in cc));
     packets = λ k packet is. cc;
     operations = λ n o is. cc;
     calls = λ i k c is. cc;
     ends = λ k p n answer is. cc;
     order = λ a b earlier late u earlier_is late_is groups stripes version. cc;
     first = λ g s. refl;
-    lowest = λ g s i x log is.
-        let same : record { stamp = first_stamp; block = replicate setting.layout.block 0 } ≡ x = cc in inl (ap (λ (z : Version). z.stamp) (sym same));
-    held_made = λ g s i t view held.
-        let there = subst (λ (e : ℕ). is_held t (fresh_replica setting.layout.block e).log ≡ true) view held in
-        ⊎_elim
+    lowest = λ g e s i x log.
+        cond_both (nat_eq e 1) (first_replica setting.layout.block) _
+        (λ (r : Replica). r.log ≡ x ∷ log → (x.stamp ≡ first_stamp) ⊎ WasCollected (first_world setting.layout) g s x.stamp)
+        (λ one is.
+        let same : record { stamp = first_stamp; block = replicate setting.layout.block 0 } ≡ x = cc in inl (ap (λ (z : Version). z.stamp) (sym same)))
+        (λ other is. absurd (let never : [] ≡ x ∷ log = is in cc));
+    held_made = λ g s i t.
+        cond_both (nat_eq (view_of t) 1) (first_replica setting.layout.block) _
+        (λ (r : Replica). is_held t r.log ≡ true → IsMadeOrFirst (first_world setting.layout) g s t)
+        (λ one there. ⊎_elim
         (λ (first : stamp_same first_stamp t ≡ true). inl (sym (stamp_same_true first_stamp t first)))
         (λ (none : false ≡ true). absurd (false≢true none))
-        (or_cases (stamp_same first_stamp t) false there);
+        (or_cases (stamp_same first_stamp t) false there))
+        (λ other there. absurd (false≢true there));
     logged = first_fits setting;
   },
 )
 
--- every run keeps the invariant
-pub said_run : (setting : Setting) (events : List Event) (w : World) → IsSound setting → Leaves setting w
-    → ((more : List Event) → Books setting (run setting more w)) → IsSaid setting w → IsSaid setting (run setting events w)
-said_run setting [] w sound leaves books said = said
-said_run setting (event ∷ events) w sound leaves books said =
-    said_run setting events (happens setting w event) sound (leaves_happens setting w event leaves) (λ more. books (event ∷ more))
-    (said_happens setting w event sound leaves (books []) said)
-
--- the invariant holds in every world that a run reaches, from any that one has reached
-pub said_on : (setting : Setting) (events more : List Event) → IsSound setting
-    → IsSaid setting (run setting more (run setting events (first_world setting.layout)))
-said_on setting events more sound =
-    let w : World = run setting events (first_world setting.layout) in
-    said_run setting more w sound (always_leaves setting events) (λ then'. books_run setting then' w (always_leaves setting events) (books setting events))
-    (said_run setting events (first_world setting.layout) sound (always_leaves setting []) (λ then'. books setting then') (said_first setting sound))
-
+-- the invariant holds in every world that a run reaches
 pub always_said : (setting : Setting) (events : List Event) → IsSound setting → IsSaid setting (run setting events (first_world setting.layout))
-always_said setting events sound = said_on setting [] events sound
+always_said setting events sound =
+    always_where (IsSaid setting) (λ w. Leaves setting w × Books setting w × StampViews setting.layout w) setting
+    (λ more. (always_leaves setting more, books setting more, always_views setting more))
+    (said_first setting sound) (said_cases setting sound) events

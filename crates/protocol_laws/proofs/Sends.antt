@@ -23,13 +23,12 @@ use Rattle.protocol.specs.declared.phases.Phase.TheVariants.{Looks, LooksAt, Ord
 use Rattle.protocol.specs.Coordinators.{Coordinator, next_phase, has_seat, request_of}
 use Rattle.protocol.specs.Nodes.{Node, with_known, with_call, phase_packets, given_content, resent_to, resent, resent_up_to, ticked}
 use Rattle.protocol.specs.Worlds.{World, Operation, number_of}
-use Rattle.protocol_laws.specs.Laws.{WasSent}
+use Rattle.protocol_laws.specs.Laws.{WasSent, IsGuarded}
 use Rattle.protocol_laws.proofs.Books.{Books, CallBooks, IsOperation, IsCall}
 use Rattle.protocol_laws.proofs.Said.{Begun, Stamping, Said, IsSaid, IsBegun, AreBlocked, IsStampOf, IsCalled, FitsPhase, RequestSays, PacketSays, CallSays, OrderReadSays, DescendsFrom, base_in, look_of, want_of, is_looked, IsMadeOrFirst, MadeOn, WriteSays}
 use Rattle.protocol_laws.proofs.Logs.{below_above}
-use Rattle.protocol_laws.proofs.Tables.{put_each, put_same, get_grown, sent_to_member}
+use Rattle.protocol.proofs.Tables.{put_each, put_same, get_grown, sent_to_member}
 use Rattle.protocol_laws.proofs.Stampings.{ComesFrom, StampsGrow, Ages, ages_within, with_stamp, stamp_now, stamps_other, stamp_last, stamps_grow, stamps_say}
-use Rattle.protocol_laws.proofs.Parts.{PartsGuard}
 use Rattle.protocol_laws.proofs.Growth.{Grows, stays_guarded, stays_made, stays_made_on, stay_blocked}
 use Rattle.protocol_laws.proofs.Steps.{KeepsStamps, keeps_same, ages_by, phase_asked, quiet, quiet_grows, said_quiet}
 
@@ -108,7 +107,7 @@ module _ (setting : Setting) (sound : IsSound setting) (w : World) (stamps : Sta
   grow = stamps_grow stamps me.0 boot c.call.seq (c.call.phase + 1) begun none from
 
   grows : Grows w next stamps later
-  grows = quiet_grows w stamps later me node more grow said.logged (keeps_same (w.nodes me.0) node refl)
+  grows = quiet_grows w stamps later me node more grow said.logged (keeps_same (w.nodes me.0) node (refl, refl, refl))
 
   begun_now : IsBegun later me.0 boot c.call.seq (c.call.phase + 1) phase t
   begun_now = stamp_now stamps me.0 boot c.call.seq (c.call.phase + 1) begun
@@ -171,9 +170,9 @@ module _ (setting : Setting) (sound : IsSound setting) (w : World) (stamps : Sta
       version = again.version;
       member = λ other other_is. (k, subst (λ (z : Group). seat_in z.members member.0 ≡ Some k) (group_same other other_is) (seat_of k member at));
       guarded = λ other other_is.
-          of_call (λ g s. PartsGuard next g s other t)
+          of_call (λ g s. IsGuarded next g s other t)
           (stays_guarded setting w next stamps later books grows c.ask.group.0 c.ask.stripe.0 other t
-          (subst (λ a. PartsGuard w a.group.0 a.stripe.0 other t) (sym its.ask)
+          (subst (λ a. IsGuarded w a.group.0 a.stripe.0 other t) (sym its.ask)
           (((said.operations (number_of w me.0 c.call.seq) o its.operation_is).version t again.version).guarded other
           (ap (λ a. group_of setting.layout a.group.0) (sym its.ask) ∙ ap (λ g. group_of setting.layout g.0) (sym its.call_group) ∙ other_is))));
     };
@@ -275,7 +274,7 @@ module _ (setting : Setting) (sound : IsSound setting) (w : World) (stamps : Sta
       = record { view = of.view; boot = of.boot; booted = of.booted; brick = of.brick; positive = of.positive; bounded = of.bounded } in (
         later,
         said_quiet setting w stamps later me node more books said grow (record {
-          keeps = keeps_same (w.nodes me.0) node refl;
+          keeps = keeps_same (w.nodes me.0) node (refl, refl, refl);
           boot = refl;
           stamps_say = stamps_say stamps me.0 boot c.call.seq (c.call.phase + 1) begun none from w next said.stamps_say
               (ages_by w next me.0 node refl ages)
@@ -285,9 +284,9 @@ module _ (setting : Setting) (sound : IsSound setting) (w : World) (stamps : Sta
               let seq : (next.nodes me.0).seq ≡ (w.nodes me.0).seq = ap (λ (x : Node). x.seq) (put_same w.nodes me.0 node) in
               omega arith);
           stamps_other = λ i b k other. stamps_other stamps me.0 boot c.call.seq (c.call.phase + 1) begun i b k (λ brick same. other brick);
-          tops = λ g s. inl refl;
-          logs = λ g s k version at. inl (k, at);
-          lowest = λ g s x log at. inl (log, at);
+          tops = λ g e s. inl refl;
+          logs = λ g e s k version at. inl (k, at);
+          lowest = λ g e s x log at. inl (log, at);
           calls = calls;
           packets = packets;
         }),

@@ -8,13 +8,12 @@ use Rattle.fab_base.proofs.StampOrder.{stamp_below_first, stamp_neither_below}
 use Rattle.protocol.specs.Nodes.{Node, put}
 use Rattle.protocol.specs.Worlds.{World}
 use Rattle.protocol.specs.declared.phases.Phase.{Phase}
-use Rattle.protocol_laws.proofs.FirstViews.{IsOfFirst, above_floor}
 use Rattle.protocol_laws.proofs.Said.{Begun, Stamping, IsBegun, IsStamped, IsKnown, IsStampOf, StampsSay}
-use Rattle.protocol_laws.proofs.Tables.{put_each, put_same}
+use Rattle.protocol.proofs.Tables.{put_each, put_same}
 
--- a stamp for call k of brick i's boot b: one that a phase of this call has, or one that nobody knows
+-- a stamp for call k of brick i's boot b: one that a phase of this call has, or one of some time that nobody knows
 abbrev pub ComesFrom : Stamping → ℕ → ℕ → ℕ → Stamp → Type 0
-ComesFrom stamps i b k t = ((q : ℕ) × IsStamped stamps i b k q t) ⊎ (IsKnown stamps t → ⊥)
+ComesFrom stamps i b k t = ((q : ℕ) × IsStamped stamps i b k q t) ⊎ ((IsKnown stamps t → ⊥) × (1 ≤ t.time))
 
 -- the stamps grow: where a phase was begun, it and the phases before it stay as they are
 pub record StampsGrow (stamps later : Stamping) : Type 0 where
@@ -177,8 +176,8 @@ module _ (stamps : Stamping) (i b k p : ℕ) (new : Begun) where
         say.apart i b l k q own.0 t
         (subst (λ (a : ℕ). IsStamped stamps i a l q t) boot (subst (λ (a : ℕ). IsStamped stamps a c l q t) brick is))
         (subst (λ (z : Stamp). IsStamped stamps i b k own.0 z) now own.1))
-        (λ (unknown : IsKnown stamps new.stamp → ⊥).
-        absurd (unknown (inr (j, c, l, q, subst (λ (z : Stamp). IsStamped stamps j c l q z) (sym now) is))))
+        (λ (unknown : (IsKnown stamps new.stamp → ⊥) × (1 ≤ new.stamp.time)).
+        absurd (unknown.0 (inr (j, c, l, q, subst (λ (z : Stamp). IsStamped stamps j c l q z) (sym now) is))))
         from
 
     -- what the stamps then say
@@ -212,14 +211,7 @@ module _ (stamps : Stamping) (i b k p : ℕ) (new : Begun) where
               j c l q one.1 other;
         }
 
--- what is known is the first stamp, or above the floor of view 1
-pub known_first : (w : World) (stamps : Stamping) (t : Stamp) → StampsSay w stamps → IsKnown stamps t → IsOfFirst t
-known_first w stamps t say (inl first) = inl first
-known_first w stamps t say (inr known) =
-    let of : IsStampOf (w.nodes known.0) known.0 known.1 t = say.are known.0 known.1 known.2 known.3 t known.4 in
-    inr (above_floor t of.view of.positive)
-
--- and of view 1, or the first
+-- what is known is of view 1, or the first
 pub known_view : (w : World) (stamps : Stamping) (t : Stamp) → StampsSay w stamps → IsKnown stamps t → t.view.0 ≤ 1
 known_view w stamps t say (inl first) = let view : t.view.0 ≡ 0 = ap (λ (z : Stamp). z.view.0) first in omega arith
 known_view w stamps t say (inr known) =

@@ -22,18 +22,19 @@ use Rattle.protocol.specs.Views.{view_of}
 use Rattle.protocol.specs.Replicas.{Replica, top_of, is_held}
 use Rattle.protocol.specs.declared.phases.Counted.{Counted}
 use Rattle.protocol.specs.Coordinators.{Coordinator, request_of}
-use Rattle.protocol.specs.Nodes.{Node, put, to_members, phase_packets}
+use Rattle.protocol.specs.Nodes.{Node, put, to_members, phase_packets, top_at}
 use Rattle.protocol.specs.Worlds.{World, Operation, with_held}
-use Rattle.protocol_laws.specs.Laws.{WasSent, part_in}
+use Rattle.protocol_laws.specs.Laws.{WasSent, part_in, top_in}
 use Rattle.protocol_laws.proofs.Parts.{part_of}
 use Rattle.protocol_laws.proofs.Books.{Books, IsOperation, IsCall}
 use Rattle.protocol_laws.proofs.Logs.{LogAscends, IsKept, held_stands}
 use Rattle.protocol_laws.proofs.Blocking.{PartsStay, LogsFit, LogsStay, NewIsLogged, parts_from}
 use Rattle.protocol_laws.proofs.Said.{Stamping, Said, StampsSay, IsKnown, VersionSays, PacketSays, OperationSays, CallSays, EndShows, IsInOrder, FloorsAtLeast, WasCollected, IsMadeOrFirst}
-use Rattle.protocol_laws.proofs.Tables.{put_each, get_kept, get_grown, get_added, put_same}
+use Rattle.protocol.proofs.Tables.{put_each, get_kept, get_grown, get_added, put_same}
 use Rattle.protocol_laws.proofs.Stampings.{StampsGrow, Ages, ages_within, stamps_same, stays_known, stamps_stay}
 use Rattle.protocol_laws.proofs.Growth.{Grows, continues_same, stays_version, stays_packet, stays_operation, stays_call, stays_end, stays_collected, stays_made}
-use Rattle.protocol_laws.proofs.Puts.{put_other}
+use Rattle.protocol.proofs.Puts.{put_other}
+use Rattle.protocol_laws.proofs.Tops.{KeepsPlaces, top_same}
 
 -- call k of brick i's boot b has the stamps that it had
 abbrev pub KeepsStamps : Stamping → Stamping → ℕ → ℕ → ℕ → Type 0
@@ -46,11 +47,11 @@ StaysOpen w stamps later i k c boot = IsCall w i k c × (boot ≡ (w.nodes i).bo
 -- what is new in the next world says what it should
 pub record Owes (setting : Setting) (w next : World) (stamps later : Stamping) : Type 0 where
   pub stamps_say : StampsSay next later
-  pub tops : (g s i : ℕ) → (top_of (part_of next g s i) ≡ top_of (part_of w g s i)) ⊎ IsKnown later (top_of (part_of next g s i))
-  pub logs : (g s i k : ℕ) (version : Version) → slice_get (part_of next g s i).log k ≡ Some version
-      → ((j : ℕ) × (slice_get (part_of w g s i).log j ≡ Some version)) ⊎ VersionSays setting next g s i version
-  pub lowest : (g s i : ℕ) (x : Version) (log : List Version) → (part_of next g s i).log ≡ x ∷ log
-      → ((more : List Version) × ((part_of w g s i).log ≡ x ∷ more)) ⊎ WasCollected next g s x.stamp
+  pub tops : (g e s i : ℕ) → (top_of (part_in next g e s i) ≡ top_of (part_in w g e s i)) ⊎ IsKnown later (top_of (part_in next g e s i))
+  pub logs : (g e s i k : ℕ) (version : Version) → slice_get (part_in next g e s i).log k ≡ Some version
+      → ((j : ℕ) × (slice_get (part_in w g e s i).log j ≡ Some version)) ⊎ VersionSays setting next g s i version
+  pub lowest : (g e s i : ℕ) (x : Version) (log : List Version) → (part_in next g e s i).log ≡ x ∷ log
+      → ((more : List Version) × ((part_in w g e s i).log ≡ x ∷ more)) ⊎ WasCollected next g s x.stamp
   pub packets : (k : ℕ) (packet : Packet) → slice_get next.packets k ≡ Some packet
       → (slice_get w.packets k ≡ Some packet) ⊎ PacketSays setting next later packet
   pub operations : (n : ℕ) (o : Operation) → IsOperation next n o → IsOperation w n o ⊎ OperationSays setting next later n o
@@ -66,24 +67,24 @@ pub said_after : (setting : Setting) (w next : World) (stamps later : Stamping) 
 said_after setting w next stamps later books said grows owes = record {
   stamps_say = owes.stamps_say;
   first_held = λ g s i. grows.parts.held g s i first_stamp (said.first_held g s i);
-  tops = λ g s i. ⊎_elim
-      (λ (same : top_of (part_of next g s i) ≡ top_of (part_of w g s i)).
-      subst (λ (t : Stamp). IsKnown later t) (sym same) (stays_known stamps later grows.grow (top_of (part_of w g s i)) (said.tops g s i)))
-      (λ (new : IsKnown later (top_of (part_of next g s i))). new)
-      (owes.tops g s i);
+  tops = λ g e s i. ⊎_elim
+      (λ (same : top_of (part_in next g e s i) ≡ top_of (part_in w g e s i)).
+      subst (λ (t : Stamp). IsKnown later t) (sym same) (stays_known stamps later grows.grow (top_of (part_in w g e s i)) (said.tops g e s i)))
+      (λ (new : IsKnown later (top_of (part_in next g e s i))). new)
+      (owes.tops g e s i);
   logs = logs;
-  lowest = λ g s i x log is. ⊎_elim
-      (λ (old : (more : List Version) × ((part_of w g s i).log ≡ x ∷ more)). ⊎_elim
+  lowest = λ g e s i x log is. ⊎_elim
+      (λ (old : (more : List Version) × ((part_in w g e s i).log ≡ x ∷ more)). ⊎_elim
       (λ (first : x.stamp ≡ first_stamp). inl first)
       (λ (was : WasCollected w g s x.stamp). inr (stays_collected w next grows.sent g s x.stamp was))
-      (said.lowest g s i x old.0 old.1))
+      (said.lowest g e s i x old.0 old.1))
       (λ (new : WasCollected next g s x.stamp). inr new)
-      (owes.lowest g s i x log is);
-  held_made = λ g s i t view held. ⊎_elim
-      (λ (was : w.held i g s t ≡ true). stays_made setting w next stamps later books grows g s t (said.held_made g s i t view was))
+      (owes.lowest g e s i x log is);
+  held_made = λ g s i t held. ⊎_elim
+      (λ (was : w.held i g s t ≡ true). stays_made setting w next stamps later books grows g s t (said.held_made g s i t was))
       (λ (new : is_held t (part_in next g (view_of t) s i).log ≡ true).
-      let at = held_stands t (part_of next g s i).log (ap (λ (e : ℕ). is_held t (part_in next g e s i).log) (sym view) ∙ new) in
-      subst (λ (z : Stamp). IsMadeOrFirst next g s z) at.3 (logs g s i at.0 at.1 at.2).made)
+      let at = held_stands t (part_in next g (view_of t) s i).log new in
+      subst (λ (z : Stamp). IsMadeOrFirst next g s z) at.3 (logs g (view_of t) s i at.0 at.1 at.2).made)
       (grows.fresh i g s t held);
   packets = λ k packet is. ⊎_elim
       (λ (old : slice_get w.packets k ≡ Some packet). stays_packet setting w next stamps later books grows packet (said.packets k packet old))
@@ -108,30 +109,31 @@ said_after setting w next stamps later books said grows owes = record {
   logged = grows.parts.logged;
 }
   where
-    logs : (g s i k : ℕ) (version : Version) → slice_get (part_of next g s i).log k ≡ Some version → VersionSays setting next g s i version
-    logs g s i k version is = ⊎_elim
-        (λ (old : (j : ℕ) × (slice_get (part_of w g s i).log j ≡ Some version)).
-        stays_version setting w next stamps later books grows g s i version (said.logs g s i old.0 version old.1))
+    logs : (g e s i k : ℕ) (version : Version) → slice_get (part_in next g e s i).log k ≡ Some version → VersionSays setting next g s i version
+    logs g e s i k version is = ⊎_elim
+        (λ (old : (j : ℕ) × (slice_get (part_in w g e s i).log j ≡ Some version)).
+        stays_version setting w next stamps later books grows g s i version (said.logs g e s i old.0 version old.1))
         (λ (new : VersionSays setting next g s i version). new)
-        (owes.logs g s i k version is)
+        (owes.logs g e s i k version is)
 
--- one brick's parts of stripes do not fall, keep what they kept, take nothing new below their stamps, and go on ascending
+-- one brick comes no less far than before, keeps what it kept, takes nothing new below what it had come to, and its logs go on ascending
 pub record KeepsParts (node next : Node) : Type 0 where
-  pub tops : (g e s : ℕ) → stamp_below (top_of (next.replicas g e s)) (top_of (node.replicas g e s)) ≡ false
+  pub tops : (g s : ℕ) → stamp_below (top_at next g s) (top_at node g s) ≡ false
+  pub orders : (g e s : ℕ) → (node.replicas g e s).order.time ≤ (next.replicas g e s).order.time
   pub kept : (g e s : ℕ) (t : Stamp) → IsKept t (node.replicas g e s).log → IsKept t (next.replicas g e s).log
   pub newer : (g e s : ℕ) (t : Stamp) → is_held t (next.replicas g e s).log ≡ true
-      → (is_held t (node.replicas g e s).log ≡ true) ⊎ (stamp_below t (top_of (node.replicas g e s)) ≡ false)
+      → (is_held t (node.replicas g e s).log ≡ true) ⊎ (stamp_below t (top_at node g s) ≡ false)
   pub ascends : (g e s : ℕ) → LogAscends (node.replicas g e s).log → LogAscends (next.replicas g e s).log
 
--- a brick that keeps its parts as they are
-pub keeps_same : (node next : Node) → next.replicas ≡ node.replicas → KeepsParts node next
+-- a brick that keeps its places as they are
+pub keeps_same : (node next : Node) → KeepsPlaces node next → KeepsParts node next
 keeps_same node next same = record {
-  tops = λ g e s.
-      subst (λ (r : ℕ → ℕ → ℕ → Replica). stamp_below (top_of (r g e s)) (top_of (node.replicas g e s)) ≡ false) (sym same)
-      (stamp_below_irrefl (top_of (node.replicas g e s)));
-  kept = λ g e s t kept. subst (λ (r : ℕ → ℕ → ℕ → Replica). IsKept t (r g e s).log) (sym same) kept;
-  newer = λ g e s t held. inl (subst (λ (r : ℕ → ℕ → ℕ → Replica). is_held t (r g e s).log ≡ true) same held);
-  ascends = λ g e s ascends. subst (λ (r : ℕ → ℕ → ℕ → Replica). LogAscends (r g e s).log) (sym same) ascends;
+  tops = λ g s.
+      subst (λ (t : Stamp). stamp_below t (top_at node g s) ≡ false) (sym (top_same node next same g s)) (stamp_below_irrefl (top_at node g s));
+  orders = λ g e s. subst (λ (r : ℕ → ℕ → ℕ → Replica). (node.replicas g e s).order.time ≤ (r g e s).order.time) (sym same.2) (omega arith);
+  kept = λ g e s t kept. subst (λ (r : ℕ → ℕ → ℕ → Replica). IsKept t (r g e s).log) (sym same.2) kept;
+  newer = λ g e s t held. inl (subst (λ (r : ℕ → ℕ → ℕ → Replica). is_held t (r g e s).log ≡ true) same.2 held);
+  ascends = λ g e s ascends. subst (λ (r : ℕ → ℕ → ℕ → Replica). LogAscends (r g e s).log) (sym same.2) ascends;
 }
 
 -- where one brick changes, and keeps its parts as they are, all parts are as they were
@@ -144,19 +146,23 @@ part_same w next me node nodes same g e s i =
 -- logs stay where one brick keeps its own
 logs_by : (w next : World) (me : ℕ) (node : Node) → next.nodes ≡ put w.nodes me node → KeepsParts (w.nodes me) node → LogsStay w next
 logs_by w next me node nodes keeps = record {
-  tops = λ g e s i.
-      subst (λ (f : ℕ → Node). stamp_below (top_of ((f i).replicas g e s)) (top_of ((w.nodes i).replicas g e s)) ≡ false) (sym nodes)
-      (put_each (λ j x. stamp_below (top_of (x.replicas g e s)) (top_of ((w.nodes j).replicas g e s)) ≡ false) w.nodes me node
-      (keeps.tops g e s) (λ j other. stamp_below_irrefl (top_of ((w.nodes j).replicas g e s))) i);
+  tops = λ g s i.
+      subst (λ (f : ℕ → Node). stamp_below (top_at (f i) g s) (top_at (w.nodes i) g s) ≡ false) (sym nodes)
+      (put_each (λ j x. stamp_below (top_at x g s) (top_at (w.nodes j) g s) ≡ false) w.nodes me node (keeps.tops g s)
+      (λ j other. stamp_below_irrefl (top_at (w.nodes j) g s)) i);
+  orders = λ g e s i.
+      subst (λ (f : ℕ → Node). ((w.nodes i).replicas g e s).order.time ≤ ((f i).replicas g e s).order.time) (sym nodes)
+      (put_each (λ j x. ((w.nodes j).replicas g e s).order.time ≤ (x.replicas g e s).order.time) w.nodes me node (keeps.orders g e s)
+      (λ j other. omega arith) i);
   kept = λ g e s i t.
       subst (λ (f : ℕ → Node). IsKept t ((w.nodes i).replicas g e s).log → IsKept t ((f i).replicas g e s).log) (sym nodes)
       (put_each (λ j x. IsKept t ((w.nodes j).replicas g e s).log → IsKept t (x.replicas g e s).log) w.nodes me node
       (keeps.kept g e s t) (λ j other kept. kept) i);
   newer = λ g e s i t.
       subst (λ (f : ℕ → Node). is_held t ((f i).replicas g e s).log ≡ true
-      → (is_held t ((w.nodes i).replicas g e s).log ≡ true) ⊎ (stamp_below t (top_of ((w.nodes i).replicas g e s)) ≡ false)) (sym nodes)
+      → (is_held t ((w.nodes i).replicas g e s).log ≡ true) ⊎ (stamp_below t (top_at (w.nodes i) g s) ≡ false)) (sym nodes)
       (put_each (λ j x. is_held t (x.replicas g e s).log ≡ true
-      → (is_held t ((w.nodes j).replicas g e s).log ≡ true) ⊎ (stamp_below t (top_of ((w.nodes j).replicas g e s)) ≡ false)) w.nodes me node
+      → (is_held t ((w.nodes j).replicas g e s).log ≡ true) ⊎ (stamp_below t (top_at (w.nodes j) g s) ≡ false)) w.nodes me node
       (keeps.newer g e s t) (λ j other held. inl held) i);
   ascends = λ g e s i.
       subst (λ (f : ℕ → Node). LogAscends ((w.nodes i).replicas g e s).log → LogAscends ((f i).replicas g e s).log) (sym nodes)
@@ -220,21 +226,22 @@ parts_by w next me node nodes helds fit keeps =
     (λ i g s t held. ap (λ (f : ℕ → ℕ → ℕ → Stamp → Bool). f i g s t) helds
     ∙ logs_held w me node fit i g s t (ap (λ (f : ℕ → Node). is_held t ((f i).replicas g (view_of t) s).log) (sym nodes) ∙ held))
 
--- and where its logs are as they were
+-- and where its places are as they were
 pub parts_kept : (w next : World) (me : ℕ) (node : Node) → next.nodes ≡ put w.nodes me node → next.held ≡ w.held → LogsFit w
-    → node.replicas ≡ (w.nodes me).replicas → PartsStay w next
+    → KeepsPlaces (w.nodes me) node → PartsStay w next
 parts_kept w next me node nodes helds fit same =
     parts_from w next (logs_by w next me node nodes (keeps_same (w.nodes me) node same)) fit
     (λ i g s t was. ap (λ (f : ℕ → ℕ → ℕ → Stamp → Bool). f i g s t) helds ∙ was) (new_none w next helds)
     (λ i g s t held. ap (λ (f : ℕ → ℕ → ℕ → Stamp → Bool). f i g s t) helds
-    ∙ fit.held i g s t (sym (ap (λ (r : Replica). is_held t r.log) (part_same w next me node nodes same g (view_of t) s i)) ∙ held))
+    ∙ fit.held i g s t (sym (ap (λ (r : Replica). is_held t r.log) (part_same w next me node nodes same.2 g (view_of t) s i)) ∙ held))
 
 -- a world whose bricks are the same
 pub parts_same : (w next : World) → next.nodes ≡ w.nodes → next.held ≡ w.held → LogsFit w → PartsStay w next
 parts_same w next nodes helds fit =
     parts_from w next
     (subst (λ (f : ℕ → Node). LogsStay w (record next { nodes = f })) (sym nodes) (record {
-      tops = λ g e s i. stamp_below_irrefl (top_of (part_in w g e s i));
+      tops = λ g s i. stamp_below_irrefl (top_in w g s i);
+      orders = λ g e s i. omega arith;
       kept = λ g e s i t kept. kept;
       newer = λ g e s i t held. inl held;
       ascends = λ g e s i ascends. ascends;
@@ -296,11 +303,11 @@ pub record QuietOwes (setting : Setting) (w : World) (stamps later : Stamping) (
   pub boot : node.boot ≡ (w.nodes me.0).boot
   pub stamps_say : StampsSay (quiet w me node more) later
   pub stamps_other : (i b k : ℕ) → i ≢ me.0 → KeepsStamps stamps later i b k
-  pub tops : (g s : ℕ) → (top_of (node.replicas g 1 s) ≡ top_of ((w.nodes me.0).replicas g 1 s)) ⊎ IsKnown later (top_of (node.replicas g 1 s))
-  pub logs : (g s k : ℕ) (version : Version) → slice_get (node.replicas g 1 s).log k ≡ Some version
-      → ((j : ℕ) × (slice_get ((w.nodes me.0).replicas g 1 s).log j ≡ Some version)) ⊎ VersionSays setting (quiet w me node more) g s me.0 version
-  pub lowest : (g s : ℕ) (x : Version) (log : List Version) → (node.replicas g 1 s).log ≡ x ∷ log
-      → ((rest : List Version) × (((w.nodes me.0).replicas g 1 s).log ≡ x ∷ rest)) ⊎ WasCollected (quiet w me node more) g s x.stamp
+  pub tops : (g e s : ℕ) → (top_of (node.replicas g e s) ≡ top_of ((w.nodes me.0).replicas g e s)) ⊎ IsKnown later (top_of (node.replicas g e s))
+  pub logs : (g e s k : ℕ) (version : Version) → slice_get (node.replicas g e s).log k ≡ Some version
+      → ((j : ℕ) × (slice_get ((w.nodes me.0).replicas g e s).log j ≡ Some version)) ⊎ VersionSays setting (quiet w me node more) g s me.0 version
+  pub lowest : (g e s : ℕ) (x : Version) (log : List Version) → (node.replicas g e s).log ≡ x ∷ log
+      → ((rest : List Version) × (((w.nodes me.0).replicas g e s).log ≡ x ∷ rest)) ⊎ WasCollected (quiet w me node more) g s x.stamp
   pub calls : (k : ℕ) (c : Coordinator) → node.calls k ≡ Some c
       → (((w.nodes me.0).calls k ≡ Some c) × KeepsStamps stamps later me.0 (w.nodes me.0).boot k)
       ⊎ CallSays setting (quiet w me node more) later me.0 k c
@@ -312,17 +319,17 @@ said_quiet setting w stamps later me node more books said grow owes =
     let next : World = quiet w me node more in
     said_after setting w next stamps later books said (quiet_grows w stamps later me node more grow said.logged owes.keeps) (record {
       stamps_say = owes.stamps_say;
-      tops = λ g s i.
-          put_each (λ j x. (top_of (x.replicas g 1 s) ≡ top_of ((w.nodes j).replicas g 1 s)) ⊎ IsKnown later (top_of (x.replicas g 1 s)))
-          w.nodes me.0 node (owes.tops g s) (λ j other. inl refl) i;
-      logs = λ g s i k version.
-          put_each (λ j x. slice_get (x.replicas g 1 s).log k ≡ Some version
-          → ((l : ℕ) × (slice_get ((w.nodes j).replicas g 1 s).log l ≡ Some version)) ⊎ VersionSays setting (quiet w me node more) g s j version)
-          w.nodes me.0 node (owes.logs g s k version) (λ j other is. inl (k, is)) i;
-      lowest = λ g s i x log.
-          put_each (λ j y. (y.replicas g 1 s).log ≡ x ∷ log
-          → ((rest : List Version) × (((w.nodes j).replicas g 1 s).log ≡ x ∷ rest)) ⊎ WasCollected (quiet w me node more) g s x.stamp)
-          w.nodes me.0 node (owes.lowest g s x log) (λ j other is. inl (log, is)) i;
+      tops = λ g e s i.
+          put_each (λ j x. (top_of (x.replicas g e s) ≡ top_of ((w.nodes j).replicas g e s)) ⊎ IsKnown later (top_of (x.replicas g e s)))
+          w.nodes me.0 node (owes.tops g e s) (λ j other. inl refl) i;
+      logs = λ g e s i k version.
+          put_each (λ j x. slice_get (x.replicas g e s).log k ≡ Some version
+          → ((l : ℕ) × (slice_get ((w.nodes j).replicas g e s).log l ≡ Some version)) ⊎ VersionSays setting (quiet w me node more) g s j version)
+          w.nodes me.0 node (owes.logs g e s k version) (λ j other is. inl (k, is)) i;
+      lowest = λ g e s i x log.
+          put_each (λ j y. (y.replicas g e s).log ≡ x ∷ log
+          → ((rest : List Version) × (((w.nodes j).replicas g e s).log ≡ x ∷ rest)) ⊎ WasCollected (quiet w me node more) g s x.stamp)
+          w.nodes me.0 node (owes.lowest g e s x log) (λ j other is. inl (log, is)) i;
       packets = λ k packet is. ⊎_elim
           (λ (old : slice_get w.packets k ≡ Some packet). inl old)
           (λ (new : (j : ℕ) × (slice_get more j ≡ Some packet)). inr (owes.packets new.0 packet new.1))
@@ -389,9 +396,9 @@ said_added setting w stamps clocks replies reached packets books said kept old =
     } in
     said_after setting w next stamps stamps books said grows (record {
       stamps_say = stamps_stay w next stamps said.stamps_say (λ i. ages_within (w.nodes i) (w.nodes i) refl (omega arith) (omega arith));
-      tops = λ g s i. inl refl;
-      logs = λ g s i k version is. inl (k, is);
-      lowest = λ g s i x log is. inl (log, is);
+      tops = λ g e s i. inl refl;
+      logs = λ g e s i k version is. inl (k, is);
+      lowest = λ g e s i x log is. inl (log, is);
       packets = λ k packet is.
           let was = old packet (k, is) in
           inr (stays_packet setting w next stamps stamps books grows packet (said.packets was.0 packet was.1));
@@ -411,7 +418,7 @@ said_beside setting w stamps clocks replies reached books said =
 -- last position comes forward
 pub said_idle : (setting : Setting) (w : World) (stamps : Stamping) (me : ℕ) (node : Node) (after : ℕ → Node) (up : ℕ → Bool) (past : ℕ → ℕ → ℕ)
     (marks : List Mark) (reached : ℕ → Bool)
-    → Books setting w → Said setting w stamps → node.replicas ≡ (w.nodes me).replicas → ((k : ℕ) → node.calls k ≡ None) → Ages (w.nodes me) node
+    → Books setting w → Said setting w stamps → KeepsPlaces (w.nodes me) node → ((k : ℕ) → node.calls k ≡ None) → Ages (w.nodes me) node
     → length w.marks ≤ length marks → ((a : ℕ) → last_of (life_of w.marks a) ≤ last_of (life_of marks a))
     → ((k p n : ℕ) (answer : Answer) → slice_get marks k ≡ Some (End p n answer) → slice_get w.marks k ≡ Some (End p n answer))
     → Said setting (record w { nodes = put w.nodes me node; after = after; up = up; past = past; marks = marks; reached = reached }) stamps
@@ -430,9 +437,9 @@ said_idle setting w stamps me node after up past marks reached books said same n
     })
     (record {
       stamps_say = stamps_stay_by setting w next stamps me node said refl ages;
-      tops = λ g s i. inl (ap (λ (r : Replica). top_of r) (part_same w next me node refl same g 1 s i));
-      logs = λ g s i k version is. inl (k, ap (λ (r : Replica). slice_get r.log k) (sym (part_same w next me node refl same g 1 s i)) ∙ is);
-      lowest = λ g s i x log is. inl (log, ap (λ (r : Replica). r.log) (sym (part_same w next me node refl same g 1 s i)) ∙ is);
+      tops = λ g e s i. inl (ap (λ (r : Replica). top_of r) (part_same w next me node refl same.2 g e s i));
+      logs = λ g e s i k version is. inl (k, ap (λ (r : Replica). slice_get r.log k) (sym (part_same w next me node refl same.2 g e s i)) ∙ is);
+      lowest = λ g e s i x log is. inl (log, ap (λ (r : Replica). r.log) (sym (part_same w next me node refl same.2 g e s i)) ∙ is);
       packets = λ k packet is. inl is;
       operations = λ n o is. inl is;
       calls = λ i k c.

@@ -24,14 +24,13 @@ use Rattle.protocol.specs.Coordinators.{Coordinator, next_phase, request_of, del
 use Rattle.protocol.specs.declared.tellings.Told.TheVariants.{Made}
 use Rattle.protocol.specs.Nodes.{Node, put, has_block, has_length, with_call, phase_packets}
 use Rattle.protocol.specs.Worlds.{World, Operation, number_of, world_stepped, with_made, with_content, with_held, content_on, content_by}
-use Rattle.protocol_laws.proofs.Parts.{PartsGuard}
 use Rattle.protocol_laws.proofs.Books.{Books, OperationBooks, CallBooks, IsOperation, IsCall}
-use Rattle.protocol_laws.proofs.Said.{Begun, Stamping, Said, IsSaid, StampsSay, IsStampOf, IsBegun, IsStamped, AreBlocked, Stands, IsContent, IsMadeOrFirst, FloorsAtMost, FitsPhase, MakerSays, WriteSays, ChangesBlock, ModifySays, MadeOn, RequestSays, base_in, PacketSays, HasVersion, WritesWhole, ReadsBack, OperationSays, CallSays}
-use Rattle.protocol_laws.specs.Laws.{IsModified}
+use Rattle.protocol_laws.proofs.Said.{Begun, Stamping, Said, IsSaid, StampsSay, IsStampOf, IsBegun, IsStamped, AreBlocked, Stands, IsMadeOrFirst, FloorsAtMost, FitsPhase, MakerSays, WriteSays, ChangesBlock, ModifySays, MadeOn, RequestSays, base_in, PacketSays, HasVersion, WritesWhole, ReadsBack, OperationSays, CallSays}
+use Rattle.protocol_laws.specs.Laws.{IsModified, IsGuarded}
 use Rattle.fab_base.proofs.Seats.{seat_of_member, seat_within}
-use Rattle.protocol_laws.proofs.Blocks.{block_room, block_same, block_other}
-use Rattle.protocol_laws.proofs.Tables.{put_each, put_same, sent_to_member}
-use Rattle.protocol_laws.proofs.Lives.{open_last}
+use Rattle.protocol.proofs.Blocks.{block_room, block_same, block_other, IsContent}
+use Rattle.protocol.proofs.Tables.{put_each, put_same, sent_to_member}
+use Rattle.reg_model.proofs.GrowingLives.{open_last}
 use Rattle.protocol_laws.proofs.Stampings.{ComesFrom, StampsGrow, Ages, ages_within, stamp_stays, stays_stamped, with_stamp, stamp_now, stamps_other, stamp_last, stamps_grow, stamps_say}
 use Rattle.protocol_laws.proofs.Steps.{KeepsStamps, ages_by, phase_asked}
 use Rattle.protocol_laws.proofs.Growth.{Grows, stays_guarded, stays_made, stays_standing, stay_blocked, stays_operation}
@@ -279,7 +278,7 @@ module _ (setting : Setting) (sound : IsSound setting) (w : World) (stamps : Sta
 
     keeps : OperatedKeeps w me node w.marks n o made contents
     keeps = record {
-      replicas = refl;
+      places = (refl, refl, refl);
       boot = refl;
       is = its.operation_is;
       continues = record {
@@ -307,13 +306,13 @@ module _ (setting : Setting) (sound : IsSound setting) (w : World) (stamps : Sta
     made_now : IsMadeOrFirst next o.ask.group.0 o.ask.stripe.0 c.stamp
     made_now = inr (n, made, put_same w.operations n (Some made), refl, refl, refl, refl)
 
-    module _ (guarded : PartsGuard w c.ask.group.0 c.ask.stripe.0 group c.stamp) (floors : FloorsAtMost o group c.stamp)
+    module _ (guarded : IsGuarded w c.ask.group.0 c.ask.stripe.0 group c.stamp) (floors : FloorsAtMost o group c.stamp)
         (makes : MakesVersion setting w c base) (formed : IsContent group.m setting.layout.block given)
         (sends : SendsVersion setting w c base phase content) where
-      guarded_by : (other : Group) → group_of setting.layout c.ask.group.0 ≡ Some other → PartsGuard next c.ask.group.0 c.ask.stripe.0 other c.stamp
+      guarded_by : (other : Group) → group_of setting.layout c.ask.group.0 ≡ Some other → IsGuarded next c.ask.group.0 c.ask.stripe.0 other c.stamp
       guarded_by other other_is =
           stays_guarded setting w next stamps later books grows c.ask.group.0 c.ask.stripe.0 other c.stamp
-          (subst (λ (z : Group). PartsGuard w c.ask.group.0 c.ask.stripe.0 z c.stamp) (same_group other other_is) guarded)
+          (subst (λ (z : Group). IsGuarded w c.ask.group.0 c.ask.stripe.0 z c.stamp) (same_group other other_is) guarded)
 
       -- the content that an operation makes of its base's
       given_on : (v : Stamp) → base ≡ Some v → given ≡ after_op setting.layout.block c.ask.op (w.contents c.ask.group.0 c.ask.stripe.0 v)
@@ -382,7 +381,7 @@ module _ (setting : Setting) (sound : IsSound setting) (w : World) (stamps : Sta
                   made = made_now;
                   reader = λ isnt. absurd (true≢false isnt);
                   guarded = λ other other_is.
-                      subst (λ (a : Ask). PartsGuard next a.group.0 a.stripe.0 other c.stamp) its.ask
+                      subst (λ (a : Ask). IsGuarded next a.group.0 a.stripe.0 other c.stamp) its.ask
                       (guarded_by other (ap (λ a. group_of setting.layout a.group.0) its.ask ∙ other_is));
                   floors = λ other other_is.
                       subst (λ (z : Group). FloorsAtMost o z c.stamp)
@@ -429,7 +428,7 @@ module _ (setting : Setting) (sound : IsSound setting) (w : World) (stamps : Sta
         member = λ other other_is.
             (k, subst (λ (z : Group). seat_in z.members member.0 ≡ Some k) (call_group_is other other_is) (seat_of k member at));
         guarded = λ other other_is.
-            of_call (λ g s. PartsGuard next g s other c.stamp) (guarded_by other (ap (group_of setting.layout) call_group ∙ other_is));
+            of_call (λ g s. IsGuarded next g s other c.stamp) (guarded_by other (ap (group_of setting.layout) call_group ∙ other_is));
       }
 
       -- a write to a member

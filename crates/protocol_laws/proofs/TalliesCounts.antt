@@ -35,8 +35,8 @@ use Rattle.protocol_laws.proofs.BooksEvents.{keeps_put, brick_of, look_first}
 use Rattle.protocol_laws.proofs.Outcomes.{IsRound, IsLook, first_round, ReordersFits, RecoversFits, RebuildsIn, RebuildsFits, SendsFits, MakesIn, NoRoundFits, LastFits, AbortFits, FullFits, AnswerFits, NextFits}
 use Rattle.protocol_laws.proofs.Said.{EachCounted}
 use Rattle.protocol_laws.proofs.Counting.{each_more, no_full, refuser_counted, full_counted}
-use Rattle.protocol_laws.proofs.Puts.{put_other}
-use Rattle.protocol_laws.proofs.Tables.{put_each, put_same, get_grown, get_one}
+use Rattle.protocol.proofs.Puts.{put_other}
+use Rattle.protocol.proofs.Tables.{put_each, put_same, get_grown, get_one}
 use Rattle.protocol_laws.proofs.Steps.{sent_by}
 use Rattle.protocol_laws.proofs.Tallies.{IsTally, CallTallied, CountedSent, AbortShown, Tallied, MessagesShow, GoesOn, Furthers}
 use Rattle.protocol_laws.proofs.TalliesKept.{call_tallied_on, known_kept, counted_on, asked_on, tallied_on}

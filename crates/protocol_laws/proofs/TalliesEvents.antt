@@ -1,7 +1,7 @@
 -- Every event keeps the history of replies.
 use Rattle.std.proofs.Common.{◌≡◌, ◌≢◌, ℕ, ◌+◌, ◌≤◌, inl, ⊎_elim, true, false, ap, Option, Some, None, List, [], ◌∷◌, ◌++◌, length, refl, sym, ◌∙◌, subst, arith, Bool}
 use Rattle.std.specs.Prelude.{slice_get}
-use Rattle.std.proofs.lemmas.Bool.{cond_both, cases_eq}
+use Rattle.std.proofs.lemmas.Bool.{cases_eq}
 use Rattle.std.proofs.lemmas.Option.{same_Some}
 use Rattle.fab_base.specs.declared.identities.BrickId.{BrickId}
 use Rattle.fab_base.specs.declared.asks.Ask.{Ask}
@@ -18,27 +18,28 @@ use Rattle.protocol.specs.Settings.{Setting, IsSound}
 use Rattle.protocol.specs.Replicas.{handle}
 use Rattle.protocol.specs.Coordinators.{Coordinator, with_reply, once_full, counted_at, counts_at, on_reply}
 use Rattle.protocol.specs.Nodes.{Node, NodeStep, ticked, new_coordinator, put, no_step, fresh_stamp, began_in, began, invoked, with_replica, replica_at, full_at, reply_packets, requested, known_after, with_known, carried_out, sending, replied_at, replied, received}
-use Rattle.protocol.specs.Worlds.{World, Found, Before, After, Event, Invokes, Delivers, Sets, Ticks, Stops, Starts, first_world, is_brick, is_up, may_begin, may_start, number_of, world_stopped, world_found, world_started, world_began, counted_after, replies_at, replies_with, delivered, packet_of, happens, run, with_held}
+use Rattle.protocol.specs.Worlds.{World, Found, Before, After, Event, first_world, may_begin, number_of, world_stopped, world_found, world_started, world_began, counted_after, replies_at, replies_with, run, with_held}
 use Rattle.protocol_laws.specs.Laws.{WasSent}
-use Rattle.protocol_laws.proofs.Served.{request_each, keeps_replica}
+use Rattle.protocol.proofs.Served.{request_each}
 use Rattle.protocol_laws.proofs.FirstViews.{group_first}
 use Rattle.protocol_laws.proofs.Books.{Books, IsCall}
-use Rattle.protocol_laws.proofs.Left.{Leaves, always_leaves, leaves_happens, found_down, packet_was_sent}
-use Rattle.protocol_laws.proofs.BooksKept.{KeepsNumbers, cases_call, keeps_all, keeps_known}
+use Rattle.protocol_laws.proofs.Left.{Leaves, always_leaves, found_down, packet_was_sent}
+use Rattle.protocol_laws.proofs.BooksKept.{KeepsNumbers, cases_call, keeps_all, keeps_known, keeps_replica}
 use Rattle.protocol_laws.proofs.BooksQuiet.{quiet_world, started_calls, unstarted, started_known}
 use Rattle.protocol_laws.proofs.BooksEnds.{stopped_keeps, stopped_calls, unstopped_calls}
 use Rattle.protocol_laws.proofs.BooksBegins.{call_is, other_calls, same_boots, call_number, other_number, other_operations, knows}
-use Rattle.protocol_laws.proofs.BooksEvents.{keeps_put, stepped, known_grows, BeginFits, begin_fits, begin_up, KeepsCalls, found_keeps, books_found, start_fits, books_beside}
+use Rattle.protocol_laws.proofs.BooksEvents.{keeps_put, stepped, known_grows, BeginFits, begin_fits, begin_up, KeepsCalls, found_keeps, books_found, start_fits, books_beside, books}
 use Rattle.protocol_laws.proofs.Outcomes.{first_round_above, once_full_fits}
 use Rattle.protocol_laws.proofs.Said.{Stamping, Said, IsSaid, CountedSays}
-use Rattle.protocol_laws.proofs.SaidAlways.{said_first, said_run}
+use Rattle.protocol_laws.proofs.SaidAlways.{always_said}
 use Rattle.protocol_laws.proofs.OwnStamps.{orders_alone, in_round}
 use Rattle.protocol_laws.proofs.Counting.{each_then}
 use Rattle.protocol.proofs.CountsAt.{CountsAt, counts_facts}
-use Rattle.protocol_laws.proofs.Tables.{put_each, get_kept, get_grown, get_one}
+use Rattle.protocol.proofs.Tables.{put_each, get_kept, get_grown, get_one}
 use Rattle.protocol_laws.proofs.Tallies.{CallTallied, Tallied, MessagesShow}
 use Rattle.protocol_laws.proofs.TalliesKept.{call_tallied_on, known_kept, tallied_on}
 use Rattle.protocol_laws.proofs.TalliesCounts.{tallied_counted}
+use Rattle.protocol.proofs.Events.{EventCases, world_handled, always_where}
 
 -- a step that changes no operation
 tallied_quiet : (setting : Setting) (w : World) (nodes : ℕ → Node) (held : ℕ → ℕ → ℕ → Stamp → Bool) (clocks : ℕ → ℕ) (packets : List Packet)
@@ -151,21 +152,15 @@ tallied_received setting w now from to message books tallied shows sent = tallie
 shows_reached : (w : World) (reached : ℕ → Bool) → MessagesShow w → MessagesShow (record w { reached = reached })
 shows_reached w reached shows = record { later = shows.later; orders_alone = shows.orders_alone; in_round = shows.in_round; counted = shows.counted }
 
-tallied_delivered : (setting : Setting) (w : World) (number : ℕ) (packet : Option Packet) → Books setting w → Tallied w → MessagesShow w
-    → ((sent : Packet) → packet ≡ Some sent → WasSent w sent) → MessagesShow (delivered setting w number packet)
-    → Tallied (delivered setting w number packet)
-tallied_delivered setting w number None books tallied shows sent shown = tallied
-tallied_delivered setting w number (Some packet) books tallied shows sent shown =
+tallied_handled : (setting : Setting) (w : World) (number : ℕ) (packet : Packet) → Books setting w → Tallied w → MessagesShow w → WasSent w packet
+    → MessagesShow (world_handled setting w number packet) → Tallied (world_handled setting w number packet)
+tallied_handled setting w number packet books tallied shows sent =
     let reached : ℕ → Bool = put w.reached number true in
     let noted : World = record w { reached = reached } in
     let noted_shows : MessagesShow noted = shows_reached w reached shows in
-    cond_both (is_up setting.layout w packet.to) _ _ (λ (x : World). MessagesShow x → Tallied x)
-    (λ member. tallied_received setting noted (w.clocks packet.to.0) packet.from packet.to packet.message
-    (books_beside setting w w.replies reached books)
+    tallied_received setting noted (w.clocks packet.to.0) packet.from packet.to packet.message (books_beside setting w w.replies reached books)
     (tallied_quiet setting w w.nodes w.held w.clocks w.packets reached books tallied noted_shows (λ i. keeps_all (w.nodes i)) (λ i k. refl)
-    (λ other was. was)) noted_shows (sent packet refl))
-    (λ stranger same. tallied)
-    shown
+    (λ other was. was)) noted_shows sent
 
 -- an operation begins
 tallied_began : (setting : Setting) (w : World) (brick : BrickId) (now : ℕ) (ask : Ask) (fits : BeginFits setting ask) → w.up brick.0 ≡ true
@@ -309,37 +304,34 @@ tallied_found setting w brick After down leaves books tallied shows =
     tallied_quiet setting w (put w.nodes brick.0 (w.after brick.0)) (with_held w.held brick.0 (w.after brick.0)) w.clocks w.packets w.reached books tallied
     (shows_found w brick (λ i. (keeps i).1) shows) (λ i. (keeps i).0) (λ i. (keeps i).1) (λ packet sent. sent)
 
+-- a world whose messages show what they should has its history of replies: so does the next
+abbrev IsTalliedThere : World → Type 0
+IsTalliedThere w = MessagesShow w → Tallied w
+
 -- every event keeps the history of replies
-tallied_happens : (setting : Setting) (w : World) (event : Event) → Leaves setting w → Books setting w → Tallied w → MessagesShow w
-    → MessagesShow (happens setting w event) → Tallied (happens setting w event)
-unfolding happens
-tallied_happens setting w (Invokes brick ask) leaves books tallied shows later =
-    cond_both (may_begin setting w brick ask) _ _ (λ (x : World). MessagesShow x → Tallied x)
-    (λ may. tallied_invoked setting w brick (w.clocks brick.0) ask books tallied may) (λ refused same. tallied) later
-tallied_happens setting w (Delivers number) leaves books tallied shows later =
-    tallied_delivered setting w number (packet_of w.packets number) books tallied shows (packet_was_sent w number) later
-tallied_happens setting w (Sets brick time) leaves books tallied shows later =
-    cond_both (is_brick setting.layout brick) _ _ (λ (x : World). MessagesShow x → Tallied x)
-    (λ member more. tallied_quiet setting w w.nodes w.held (put w.clocks brick.0 time) w.packets w.reached books tallied more
-    (λ i. keeps_all (w.nodes i)) (λ i k. refl) (λ packet sent. sent))
-    (λ stranger same. tallied) later
-tallied_happens setting w (Ticks brick) leaves books tallied shows later =
-    let more : List Packet = ticked setting brick (w.nodes brick.0) in
-    cond_both (is_up setting.layout w brick) _ _ (λ (x : World). MessagesShow x → Tallied x)
-    (λ up shown. tallied_quiet setting w w.nodes w.held w.clocks (w.packets ++ more) w.reached books tallied shown
-    (λ i. keeps_all (w.nodes i)) (λ i k. refl)
-    (λ packet sent. (sent.0, get_kept w.packets more sent.0 packet sent.1)))
-    (λ down same. tallied) later
-tallied_happens setting w (Stops brick during) leaves books tallied shows later =
-    cond_both (is_up setting.layout w brick) _ _ (λ (x : World). MessagesShow x → Tallied x)
-    (λ up. tallied_stopped setting w brick during books tallied) (λ down same. tallied) later
-tallied_happens setting w (Starts brick openings found) leaves books tallied shows later =
-    cond_both (may_start setting.layout w brick openings) _ _ (λ (x : World). MessagesShow x → Tallied x)
-    (λ may.
-    let fits = start_fits setting w brick openings may in
-    tallied_started setting (world_found w brick found) brick openings (found_down w brick found fits.0) fits.1
-    (books_found setting w brick found fits.0 leaves books) (tallied_found setting w brick found fits.0 leaves books tallied shows))
-    (λ cannot same. tallied) later
+tallied_cases : (setting : Setting) (w : World) → Leaves setting w × Books setting w × MessagesShow w → IsTalliedThere w
+    → EventCases setting w IsTalliedThere
+tallied_cases setting w known there =
+    let leaves : Leaves setting w = known.0 in
+    let books : Books setting w = known.1 in
+    let shows : MessagesShow w = known.2 in
+    let tallied : Tallied w = there shows in
+    record {
+      begins = λ brick ask may. tallied_invoked setting w brick (w.clocks brick.0) ask books tallied may;
+      handles = λ number packet at up. tallied_handled setting w number packet books tallied shows (packet_was_sent w number packet at);
+      sets = λ brick time is shown.
+          tallied_quiet setting w w.nodes w.held (put w.clocks brick.0 time) w.packets w.reached books tallied shown (λ i. keeps_all (w.nodes i))
+          (λ i k. refl) (λ packet sent. sent);
+      ticks = λ brick up shown.
+          (let more : List Packet = ticked setting brick (w.nodes brick.0) in
+          tallied_quiet setting w w.nodes w.held w.clocks (w.packets ++ more) w.reached books tallied shown (λ i. keeps_all (w.nodes i)) (λ i k. refl)
+          (λ packet sent. (sent.0, get_kept w.packets more sent.0 packet sent.1)));
+      stops = λ brick during up. tallied_stopped setting w brick during books tallied;
+      starts = λ brick openings found may.
+          (let fits = start_fits setting w brick openings may in
+          tallied_started setting (world_found w brick found) brick openings (found_down w brick found fits.0) fits.1
+          (books_found setting w brick found fits.0 leaves books) (tallied_found setting w brick found fits.0 leaves books tallied shows));
+    }
 
 -- at first no reply has counted
 tallied_first : (setting : Setting) → Tallied (first_world setting.layout)
@@ -349,14 +341,6 @@ tallied_first setting = record {
   counted = λ n phase k x is. absurd (let never : None ≡ Some x = is in cc);
   aborts = λ k p n cause is. absurd (let never : None ≡ Some (End p n (Aborted cause)) = is in cc);
 }
-
--- every run keeps the history of replies, where each of its worlds has its books and its messages show what they should
-tallied_run : (setting : Setting) (events : List Event) (w : World) → Leaves setting w → ((more : List Event) → Books setting (run setting more w))
-    → ((more : List Event) → MessagesShow (run setting more w)) → Tallied w → Tallied (run setting events w)
-tallied_run setting [] w leaves books shows tallied = tallied
-tallied_run setting (event ∷ events) w leaves books shows tallied =
-    tallied_run setting events (happens setting w event) (leaves_happens setting w event leaves) (λ more. books (event ∷ more))
-    (λ more. shows (event ∷ more)) (tallied_happens setting w event leaves (books []) tallied (shows []) (shows (event ∷ [])))
 
 -- what is said of a world is what its messages should show
 messages_show : (setting : Setting) (w : World) (stamps : Stamping) → Books setting w → Said setting w stamps → MessagesShow w
@@ -373,13 +357,13 @@ messages_show setting w stamps books said = record {
     at_call : (i k : ℕ) (c : Coordinator) → IsCall w i k c → IsCall w i c.call.seq c
     at_call i k c is = (let seq : c.call.seq ≡ k = (books.calls i k c is).call_seq in subst (λ (l : ℕ). IsCall w i l c) (sym seq) is)
 
--- the history of replies holds in every world that a run reaches, where the books do
-pub tallied : (setting : Setting) (events : List Event) → IsSound setting
-    → ((more : List Event) → Books setting (run setting more (first_world setting.layout)))
-    → Tallied (run setting events (first_world setting.layout))
-tallied setting events sound books =
-    let first : World = first_world setting.layout in
-    tallied_run setting events first (always_leaves setting []) books
-    (λ more. (let said : IsSaid setting (run setting more first) = said_run setting more first sound (always_leaves setting []) books (said_first setting sound) in
-    messages_show setting (run setting more first) said.0 (books more) said.1))
-    (tallied_first setting)
+-- the history of replies holds in every world that a run reaches
+pub tallied : (setting : Setting) (events : List Event) → IsSound setting → Tallied (run setting events (first_world setting.layout))
+tallied setting events sound =
+    always_where IsTalliedThere (λ w. Leaves setting w × Books setting w × MessagesShow w) setting
+    (λ more. (always_leaves setting more, books setting more, shows more)) (λ shown. tallied_first setting) (tallied_cases setting) events (shows events)
+  where
+    shows : (more : List Event) → MessagesShow (run setting more (first_world setting.layout))
+    shows more =
+        let said : IsSaid setting (run setting more (first_world setting.layout)) = always_said setting more sound in
+        messages_show setting (run setting more (first_world setting.layout)) said.0 (books setting more) said.1

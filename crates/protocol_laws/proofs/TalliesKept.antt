@@ -20,7 +20,7 @@ use Rattle.protocol.specs.Nodes.{has_later_time}
 use Rattle.protocol.specs.Worlds.{World, Operation, number_of, known_in}
 use Rattle.protocol_laws.specs.Laws.{WasSent, RequestSent, AskedAt, order_of, IsLastRound, LaterEvidence, FullEvidence, Evidence}
 use Rattle.protocol_laws.proofs.Books.{Replies, Books, IsOperation, IsCall}
-use Rattle.protocol_laws.proofs.Lives.{ended_not_open}
+use Rattle.reg_model.proofs.GrowingLives.{ended_not_open}
 use Rattle.protocol_laws.proofs.Tallies.{CallTallied, CountedSent, AbortShown, Tallied, MessagesShow, GoesOn, Furthers}
 
 -- an operation whose replies stay

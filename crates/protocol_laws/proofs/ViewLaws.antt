@@ -1,13 +1,13 @@
 -- The laws of members and quorums, for every assignment of members to views that a world follows.
-use Rattle.std.proofs.Common.{◌≡◌, ◌≢◌, ℕ, ◌≤◌, ◌⊎◌, inl, inr, Bool, true, false, not, ◌&&◌, List, [], ◌∷◌, ◌++◌, length, Some, None, refl, sym, ap, ◌∙◌, subst, ⊎_elim, arith}
+use Rattle.std.proofs.Common.{◌≡◌, ◌≢◌, ℕ, ◌≤◌, ◌⊎◌, inl, inr, Bool, true, not, ◌&&◌, List, [], ◌∷◌, ◌++◌, length, Some, None, refl, sym, ap, ◌∙◌, subst, ⊎_elim, arith}
 use Rattle.std.specs.Prelude.{slice_get}
-use Rattle.std.proofs.lemmas.Bool.{and_parts, and_from, cases_Bool, cases_eq, false≢true, not-true, not_from_false}
+use Rattle.std.proofs.lemmas.Bool.{and_parts, cases_eq, false≢true, not-true}
 use Rattle.std.proofs.lemmas.Option.{same_Some}
 use Rattle.fab_base.specs.declared.identities.BrickId.{BrickId}
 use Rattle.fab_base.specs.declared.stamps.Stamp.{Stamp}
 use Rattle.fab_base.specs.declared.asks.Op.TheVariants.{WriteStripe}
 use Rattle.fab_base.specs.Stamps.{stamp_below, first_stamp}
-use Rattle.fab_base.proofs.StampOrder.{stamp_below_asym, stamp_not_below_trans, stamp_below_first}
+use Rattle.fab_base.proofs.StampOrder.{stamp_below_first}
 use Rattle.fab_base.specs.Layouts.{Layout, Group, group_of, seat_in, brick_at}
 use Rattle.fab_base.proofs.Seats.{seat_within, brick_at_seat}
 use Rattle.messages.specs.declared.calls.Call.{Call}
@@ -15,83 +15,35 @@ use Rattle.messages.specs.declared.packets.Message.TheVariants as Message
 use Rattle.messages.specs.declared.requests.Request.{Request}
 use Rattle.messages.specs.declared.requests.Version.{Version}
 use Rattle.messages.specs.declared.replies.Reply.{Reply}
-use Rattle.quorum.specs.Quorums.{IsWithinLimits, quorum_of}
-use Rattle.quorum.proofs.Counts.{count_empty, count_monotone}
-use Rattle.protocol.specs.Settings.{Setting, IsSound}
-use Rattle.protocol.specs.Views.{Views, layout_views, view_of, floor_of, members_of, group_in, group_kept}
-use Rattle.protocol.specs.Replicas.{top_of, is_held, stamp_max}
+use Rattle.quorum.specs.Quorums.{IsWithinLimits}
+use Rattle.quorum.proofs.Counts.{count_monotone}
+use Rattle.protocol.specs.Settings.{Setting}
+use Rattle.protocol.specs.Views.{Views, layout_views, view_of, members_of, group_in, group_kept}
+use Rattle.protocol.specs.Replicas.{is_held}
 use Rattle.protocol.specs.declared.phases.Phase.{Phase}
 use Rattle.protocol.specs.declared.phases.Phase.TheVariants.{Modifies, Stores}
 use Rattle.protocol.specs.Coordinators.{told_in}
 use Rattle.protocol.specs.Nodes.{view_at}
 use Rattle.protocol.specs.Worlds.{World, Event, first_world, run, Operation}
-use Rattle.protocol_laws.specs.Laws.{part_in, top_in, Follows, EveryRunFollowsTheLayout, IsGuarded, IsBlocked, RequestSent, OneContent, BasesAreNewest, WritesAreGuarded, NeverFalls, AddsNothingBelow, NoEventLowers, IsLost, NeverSurfaces, CollectsStand, IsHeldByQuorum, DropsOnlyOlder}
-use Rattle.protocol_laws.proofs.Parts.{part_of, PartsGuard, PartsBlock}
-use Rattle.protocol_laws.proofs.FirstViews.{AreInFirst, own_members, view_first, view_below, top_first, others_empty}
+use Rattle.protocol_laws.specs.Laws.{part_in, top_in, Follows, EveryRunFollowsTheLayout, IsGuarded, IsBlocked, RequestSent, OneContent, BasesAreNewest, WritesAreGuarded, NoEventLowers, IsLost, NeverSurfaces, CollectsStand, IsHeldByQuorum, DropsOnlyOlder, NothingFalls}
+use Rattle.protocol_laws.proofs.Parts.{part_of}
+use Rattle.protocol_laws.proofs.FirstViews.{own_members, view_first, view_below, others_empty, IsInFirst}
 use Rattle.protocol_laws.proofs.Books.{Books}
-use Rattle.protocol_laws.proofs.BooksEvents.{books_run, books}
-use Rattle.protocol_laws.proofs.Logs.{below_above, held_stands, IsUnder, nothing_kept, IsKept, place_held}
-use Rattle.protocol_laws.proofs.Reactions.{max_left, max_right, max_most, under_top}
-use Rattle.protocol_laws.proofs.Blocking.{PartsStay, was_kept, passes_by, passes, blocked_by, blocked_stays, blocked_never_stands, count_split}
-use Rattle.protocol_laws.proofs.Said.{Stamping, Said, IsSaid, IsMadeOrFirst, IsBlockOf, ToldSays, MakerSays, WriteSays, ModifySays, RequestSays, ReplySays, WritesWhole, ReadsBack, WasCollected, Stands, CollectSays}
-use Rattle.protocol_laws.proofs.Stampings.{known_first, known_view}
-use Rattle.protocol_laws.proofs.OwnStamps.{made_view, made_first}
-use Rattle.protocol_laws.proofs.Decisions.{quorum_enough}
-use Rattle.protocol_laws.proofs.SaidAlways.{said_on, always_said}
-use Rattle.protocol_laws.proofs.Left.{always_leaves}
-use Rattle.protocol_laws.proofs.Falls.{parts_stay_on, always_logged}
+use Rattle.protocol_laws.proofs.BooksEvents.{books}
+use Rattle.protocol_laws.proofs.Logs.{below_above, IsUnder, nothing_kept, IsKept, place_held}
+use Rattle.protocol_laws.proofs.Blocking.{was_kept, passes_by, passes, blocked_by, blocked_stays, blocked_never_stands, count_split}
+use Rattle.protocol_laws.proofs.Said.{Stamping, Said, IsMadeOrFirst, IsBlockOf, ToldSays, MakerSays, WriteSays, ModifySays, RequestSays, ReplySays, WritesWhole, ReadsBack, WasCollected, Stands, CollectSays}
+use Rattle.protocol_laws.proofs.OwnStamps.{made_view}
+use Rattle.protocol_laws.proofs.Falls.{parts_stay}
 
--- the bricks of a world are in view 1, and so are its stamps
-pub in_first : (setting : Setting) (w : World) (stamps : Stamping) → Books setting w → Said setting w stamps → AreInFirst setting.layout w
-in_first setting w stamps books said =
-    record { bricks = books.first; tops = λ g s i. known_first w stamps (top_of (part_of w g s i)) said.stamps_say (said.tops g s i) }
-
-pub always_first : (setting : Setting) (events : List Event) → IsSound setting
-    → AreInFirst setting.layout (run setting events (first_world setting.layout))
-always_first setting events sound =
-    let said = always_said setting events sound in
-    in_first setting (run setting events (first_world setting.layout)) said.0 (books setting events) said.1
-
-module _ (setting : Setting) (w : World) (first : AreInFirst setting.layout w) where
-  -- how far a brick has come
-  top_is : (g s i : ℕ) → top_in w g s i ≡ stamp_max (floor_of 1) (top_of (part_of w g s i))
-  top_is g s i = top_first setting.layout (w.nodes i) g s (first.bricks i)
-
-  -- is no less than its part
-  top_above : (g s i : ℕ) → stamp_below (top_in w g s i) (top_of (part_of w g s i)) ≡ false
-  top_above g s i =
-      subst (λ (z : Stamp). stamp_below z (top_of (part_of w g s i)) ≡ false) (sym (top_is g s i)) (max_right (floor_of 1) (top_of (part_of w g s i)))
-
-  -- so what parts guard and block, bricks do
-  guards : (g s : ℕ) (group : Group) (t : Stamp) → PartsGuard w g s group t → IsGuarded w g s group t
-  guards g s group t guarded =
-      let more = count_monotone (length group.members) (λ seat. not (stamp_below (top_of (part_of w g s (brick_at group seat))) t))
-      (λ seat. not (stamp_below (top_in w g s (brick_at group seat)) t))
-      (λ k below is.
-      not_from_false (stamp_below (top_in w g s (brick_at group k)) t)
-      (stamp_not_below_trans t (top_of (part_of w g s (brick_at group k))) (top_in w g s (brick_at group k))
-      (not-true (stamp_below (top_of (part_of w g s (brick_at group k))) t) is) (top_above g s (brick_at group k)))) in
-      omega (arith, guarded, more)
-
-  blocks : (g s : ℕ) (group : Group) (d : Stamp) → view_of d ≡ 1 → PartsBlock w g s group d → IsBlocked w g s group d
-  blocks g s group d view blocked =
-      let more = count_monotone (length group.members) (passes_by w g s group d)
-      (λ seat. stamp_below d (top_in w g s (brick_at group seat)) && not (w.held (brick_at group seat) g s d))
-      (λ k below is.
-      let parts = and_parts (stamp_below d (top_of (part_in w g (view_of d) s (brick_at group k)))) (not (w.held (brick_at group k) g s d)) is in
-      and_from (stamp_below d (top_in w g s (brick_at group k))) (not (w.held (brick_at group k) g s d))
-      (below_above d (top_of (part_of w g s (brick_at group k))) (top_in w g s (brick_at group k))
-      (subst (λ (e : ℕ). stamp_below d (top_of (part_in w g e s (brick_at group k))) ≡ true) view parts.0) (top_above g s (brick_at group k)))
-      parts.1) in
-      omega (arith, blocked, more)
-
+module _ (setting : Setting) (w : World) (first : (i : ℕ) → IsInFirst setting.layout (w.nodes i)) where
   module _ (views : Views) (follows : Follows setting.layout views w) where
     -- the assignment has the layout's members in view 1
     views_first : (g : ℕ) → views g 1 ≡ members_of (group_of setting.layout g)
     views_first g =
-        ap (λ (e : ℕ). views g e) (sym (view_first setting.layout (w.nodes 0) g (first.bricks 0)))
+        ap (λ (e : ℕ). views g e) (sym (view_first setting.layout (w.nodes 0) g (first 0)))
         ∙ sym (follows.learnt 0 g)
-        ∙ ap (λ l. (l g).view.members) (first.bricks 0).learnt
+        ∙ ap (λ l. (l g).view.members) (first 0).learnt
 
     pub group_first : (g e : ℕ) (group : Group) → e ≡ 1 → group_in setting.layout views g e ≡ Some group → group_of setting.layout g ≡ Some group
     group_first g e group is found =
@@ -100,8 +52,8 @@ module _ (setting : Setting) (w : World) (first : AreInFirst setting.layout w) w
 
 module _ (setting : Setting) (views : Views) (w : World) (stamps : Stamping) (books : Books setting w) (said : Said setting w stamps)
     (follows : Follows setting.layout views w) where
-  first : AreInFirst setting.layout w
-  first = in_first setting w stamps books said
+  first : (i : ℕ) → IsInFirst setting.layout (w.nodes i)
+  first = books.first
 
   -- what a request that was sent says
   sent_says : (call : Call) (from to : BrickId) (request : Request) → RequestSent w call from to request
@@ -155,11 +107,11 @@ module _ (setting : Setting) (views : Views) (w : World) (stamps : Stamping) (bo
         says.0.block;
     kept = λ g e s i seat k version group found seat_is at. ⊎_elim
         (λ (one : e ≡ 1).
-        (said.logs g s i k version (ap (λ (x : ℕ). slice_get (part_in w g x s i).log k) (sym one) ∙ at)).block group seat
+        (said.logs g e s i k version at).block group seat
         (group_first setting w first views follows g e group one found) seat_is)
         (λ (other : e ≢ 1).
         absurd (let never : slice_get [] k ≡ Some version
-        = ap (λ (l : List Version). slice_get l k) (sym (others_empty setting.layout (w.nodes i) g e s (first.bricks i) other)) ∙ at in
+        = ap (λ (l : List Version). slice_get l k) (sym (others_empty setting.layout (w.nodes i) g e s (first i) other)) ∙ at in
         none_there k version never))
         (cases_eq e 1);
   }
@@ -180,8 +132,7 @@ module _ (setting : Setting) (views : Views) (w : World) (stamps : Stamping) (bo
         says.made,
         says.version,
       )) in
-      guards setting w first call.group.0 call.stripe.0 group t
-      (says.guarded group (group_first setting w first views follows call.group.0 (view_of t) group view found))
+      says.guarded group (group_first setting w first views follows call.group.0 (view_of t) group view found)
 
   pub writes_guarded : WritesAreGuarded setting views w
   writes_guarded call from to (Request.Write z block) t group found sent stores =
@@ -233,7 +184,7 @@ module _ (setting : Setting) (views : Views) (w : World) (stamps : Stamping) (bo
       subst (λ (e : ℕ). IsKeptOrOlder g s t (part_in w g e s i).log) (sym one)
       (by_log (part_of w g s i).log refl (was_kept w said.logged g s i t one held)))
       (λ (other : view_of t ≢ 1).
-      absurd (nothing_kept t (subst (λ (l : List Version). IsKept t l) (others_empty setting.layout (w.nodes i) g (view_of t) s (first.bricks i) other)
+      absurd (nothing_kept t (subst (λ (l : List Version). IsKept t l) (others_empty setting.layout (w.nodes i) g (view_of t) s (first i) other)
       (said.logged.kept i g s t held))))
       (cases_eq (view_of t) 1)
     where
@@ -251,7 +202,7 @@ module _ (setting : Setting) (views : Views) (w : World) (stamps : Stamping) (bo
             less,
             (λ group found. stands_in g s x.stamp group was found),
           ))
-          (said.lowest g s i x rest is)
+          (said.lowest g 1 s i x rest is)
 
   -- an operation's base is the one that it read back
   pub bases_newest : BasesAreNewest setting views w
@@ -267,8 +218,7 @@ module _ (setting : Setting) (views : Views) (w : World) (stamps : Stamping) (bo
         back.below,
         (λ d group found above less.
             let view : view_of d ≡ 1 = view_below d t (made_most t (inr (n, o, is, refl, refl, made, version))) less in
-            blocks setting w first o.ask.group.0 o.ask.stripe.0 group d view
-            (back.blocked group (group_first setting w first views follows o.ask.group.0 (view_of d) group view found) d (above, less))),
+            back.blocked group (group_first setting w first views follows o.ask.group.0 (view_of d) group view found) d (above, less)),
       ))
       ((said.operations n o is).maker t made version)
     where
@@ -292,158 +242,32 @@ follows_layout setting events sound earlier later is = record {
 pub layout_group : (layout : Layout) (g e : ℕ) → group_in layout (layout_views layout) g e ≡ group_of layout g
 layout_group layout g e = own_members (group_of layout g)
 
--- no further events of a run lower a brick, or add a version below what it had come to
-pub never_lowers : (setting : Setting) (events more : List Event) → IsSound setting
-    → (let w = run setting events (first_world setting.layout) in NeverFalls w (run setting more w) × AddsNothingBelow w (run setting more w))
-never_lowers setting events more sound = (falls, adds)
-  where
-    w : World
-    w = run setting events (first_world setting.layout)
-
-    next : World
-    next = run setting more w
-
-    stay : PartsStay w next
-    stay = parts_stay_on setting more w (always_leaves setting events) (always_logged setting events)
-
-    said : IsSaid setting w
-    said = always_said setting events sound
-
-    booked : Books setting next
-    booked = books_run setting more w (always_leaves setting events) (books setting events)
-
-    later : IsSaid setting next
-    later = said_on setting events more sound
-
-    before : AreInFirst setting.layout w
-    before = in_first setting w said.0 (books setting events) said.1
-
-    after : AreInFirst setting.layout next
-    after = in_first setting next later.0 booked later.1
-
-    falls : NeverFalls w next
-    falls g s i =
-        subst (λ (z : Stamp). stamp_below (top_in next g s i) z ≡ false) (sym (top_is setting w before g s i))
-        (max_most (floor_of 1) (top_of (part_of w g s i)) (top_in next g s i)
-        (subst (λ (z : Stamp). stamp_below z (floor_of 1) ≡ false) (sym (top_is setting next after g s i))
-        (max_left (floor_of 1) (top_of (part_of next g s i))))
-        (stamp_not_below_trans (top_of (part_of w g s i)) (top_of (part_of next g s i)) (top_in next g s i) (stay.tops g 1 s i)
-        (top_above setting next after g s i)))
-
-    -- a version that is added to a part of view 1
-    added : (g s i : ℕ) (t : Stamp) → is_held t (part_of next g s i).log ≡ true
-        → (is_held t (part_of w g s i).log ≡ true) ⊎ (stamp_below t (top_in w g s i) ≡ false)
-    added g s i t held = ⊎_elim
-        (λ (was : is_held t (part_of w g s i).log ≡ true). inl was)
-        (λ (new : stamp_below t (top_of (part_of w g s i)) ≡ false).
-        let at = held_stands t (part_of next g s i).log held in
-        let made : IsMadeOrFirst next g s t
-        = subst (λ (z : Stamp). IsMadeOrFirst next g s z) at.3 (later.1.logs g s i at.0 at.1 at.2).made in
-        ⊎_elim
-        (λ (first : t ≡ first_stamp). ⊎_elim
-        (λ (there : is_held first_stamp (part_of w g s i).log ≡ true).
-        inl (subst (λ (z : Stamp). is_held z (part_of w g s i).log ≡ true) (sym first) there))
-        (λ (under : IsUnder first_stamp (part_of w g s i).log).
-        absurd (false≢true (sym (subst (λ (z : Stamp). stamp_below z (top_of (part_of w g s i)) ≡ false) first new)
-        ∙ under_top (part_of w g s i) first_stamp (said.1.logged.ascends g 1 s i) under)))
-        (was_kept w said.1.logged g s i first_stamp refl (said.1.first_held g s i)))
-        (λ (above : stamp_below (floor_of 1) t ≡ true).
-        inr (subst (λ (z : Stamp). stamp_below t z ≡ false) (sym (top_is setting w before g s i))
-        (max_most (floor_of 1) (top_of (part_of w g s i)) t (stamp_below_asym (floor_of 1) t above) new)))
-        (made_first setting next later.0 booked later.1 g s t made))
-        (stay.adds g 1 s i t held)
-
-    adds : AddsNothingBelow w next
-    adds g e s i t held = ⊎_elim
-        (λ (one : e ≡ 1).
-        subst (λ (x : ℕ). is_held t (part_in next g x s i).log ≡ true
-        → (is_held t (part_in w g x s i).log ≡ true) ⊎ (stamp_below t (top_in w g s i) ≡ false)) (sym one) (added g s i t) held)
-        (λ (other : e ≢ 1).
-        absurd (false≢true
-        (ap (λ l. is_held t l) (sym (others_empty setting.layout (next.nodes i) g e s (after.bricks i) other)) ∙ held)))
-        (cases_eq e 1)
+-- no further events of a run lower a brick, add a version below what it had come to, or put an order stamp back
+pub never_lowers : (setting : Setting) (events more : List Event)
+    → (let w = run setting events (first_world setting.layout) in NothingFalls w (run setting more w))
+never_lowers setting events more =
+    let stay = parts_stay setting events more in record { tops = stay.tops; adds = stay.adds; orders = stay.orders }
 
 -- so does no event
 pub no_event_lowers : NoEventLowers
-no_event_lowers setting events event sound = never_lowers setting events (event ∷ []) sound
+no_event_lowers setting events event = never_lowers setting events (event ∷ [])
 
--- a lost version above the floor of view 1 is blocked: a quorum is above it, and fewer than m of it have held it
-lost_blocked : (setting : Setting) (w : World) (stamps : Stamping) → AreInFirst setting.layout w → Said setting w stamps → (g s : ℕ) (group : Group)
-    (v : Stamp)
-    → IsWithinLimits group.m (length group.members) → stamp_below (floor_of 1) v ≡ true → IsLost w g s group v → PartsBlock w g s group v
-lost_blocked setting w stamps first said g s group v limits over lost =
+-- a lost version is blocked: a quorum is above it, and fewer than m of it have held it
+lost_blocked : (w : World) (g s : ℕ) (group : Group) (v : Stamp) → IsWithinLimits group.m (length group.members) → IsLost w g s group v
+    → IsBlocked w g s group v
+lost_blocked w g s group v limits lost =
     let held : ℕ → Bool = λ seat. w.held (brick_at group seat) g s v in
     let split = count_split (length group.members) lost.seats held in
     let more = count_monotone (length group.members) (λ k. lost.seats k && not (held k)) (passes_by w g s group v)
     (λ k below is.
     let parts = and_parts (lost.seats k) (not (held k)) is in
-    passes w g s group v k (part_above (brick_at group k) (below_above v lost.stamp (top_in w g s (brick_at group k)) lost.above (lost.passed k parts.0)))
-    (not-true (held k) parts.1)) in
+    passes w g s group v k (below_above v lost.stamp (top_in w g s (brick_at group k)) lost.above (lost.passed k parts.0)) (not-true (held k) parts.1)) in
     blocked_by w g s group v limits (omega (arith, split, more, lost.quorum, lost.few))
-  where
-    part_above : (i : ℕ) → stamp_below v (top_in w g s i) ≡ true → stamp_below v (top_of (part_in w g (view_of v) s i)) ≡ true
-    part_above i above = ⊎_elim
-        (λ (under : stamp_below v (top_of (part_of w g s i)) ≡ true).
-        subst (λ (e : ℕ). stamp_below v (top_of (part_in w g e s i)) ≡ true)
-        (sym (view_below v (top_of (part_of w g s i)) (known_view w stamps (top_of (part_of w g s i)) said.stamps_say (said.tops g s i)) under)) under)
-        (λ (not_under : stamp_below v (top_of (part_of w g s i)) ≡ false).
-        absurd (false≢true (sym (subst (λ (z : Stamp). stamp_below v z ≡ false) (sym (top_is setting w first g s i))
-        (max_most (floor_of 1) (top_of (part_of w g s i)) v (stamp_below_asym (floor_of 1) v over) not_under)) ∙ above)))
-        (cases_Bool (stamp_below v (top_of (part_of w g s i))))
 
--- no quorum ever holds a lost version: the first one is not lost, any other that a brick ever holds is above the floor of view 1
+-- no quorum ever holds a lost version
 pub never_surfaces : NeverSurfaces
-never_surfaces setting views events more g s group v sound follows found lost held = ⊎_elim
-    (λ (over : stamp_below (floor_of 1) v ≡ true).
-    blocked_never_stands next g s group v
-    (blocked_stays w next (parts_stay_on setting more w (always_leaves setting events) (always_logged setting events)) g s group v
-    (lost_blocked setting w said.0 (in_first setting w said.0 (books setting events) said.1) said.1 g s group v limits over lost)) held)
-    (λ (not_over : stamp_below (floor_of 1) v ≡ false).
-    let none = count_empty (length group.members) (λ seat. next.held (brick_at group seat) g s v) (λ k below. ⊎_elim
-    (λ (is : next.held (brick_at group k) g s v ≡ true). absurd (unheld (brick_at group k) not_over is))
-    (λ (isnt : next.held (brick_at group k) g s v ≡ false). isnt)
-    (cases_Bool (next.held (brick_at group k) g s v))) in
-    omega (arith, none, held, enough, limits.some_block))
-    (cases_Bool (stamp_below (floor_of 1) v))
-  where
-    w : World
-    w = run setting events (first_world setting.layout)
-
-    next : World
-    next = run setting more w
-
-    said : IsSaid setting w
-    said = always_said setting events sound
-
-    later : IsSaid setting next
-    later = said_on setting events more sound
-
-    booked : Books setting next
-    booked = books_run setting more w (always_leaves setting events) (books setting events)
-
-    limits : IsWithinLimits group.m (length group.members)
-    limits = (follows [] (events ++ more) refl).limits g (view_of v) group found
-
-    enough : group.m ≤ quorum_of group
-    enough = quorum_enough group.m (length group.members) limits.enough_seats
-
-    -- the first version is held by all, and so is not lost
-    not_first : v ≡ first_stamp → ⊥
-    not_first is =
-        let all = count_monotone (length group.members) lost.seats (λ seat. lost.seats seat && w.held (brick_at group seat) g s v)
-        (λ k below in_seats.
-        and_from (lost.seats k) (w.held (brick_at group k) g s v) in_seats
-        (subst (λ (z : Stamp). w.held (brick_at group k) g s z ≡ true) (sym is) (said.1.first_held g s (brick_at group k)))) in
-        omega (arith, all, enough, lost.quorum, lost.few)
-
-    -- a brick that holds a version holds it in view 1, where it was made, or is the first
-    unheld : (i : ℕ) → stamp_below (floor_of 1) v ≡ false → next.held i g s v ≡ true → ⊥
-    unheld i not_over is = ⊎_elim
-        (λ (one : view_of v ≡ 1).
-        let made : IsMadeOrFirst next g s v = later.1.held_made g s i v one is in
-        ⊎_elim not_first (λ (over : stamp_below (floor_of 1) v ≡ true). false≢true (sym not_over ∙ over))
-        (made_first setting next later.0 booked later.1 g s v made))
-        (λ (other : view_of v ≢ 1).
-        nothing_kept v (subst (λ l. IsKept v l) (others_empty setting.layout (next.nodes i) g (view_of v) s (booked.first i) other)
-        (later.1.logged.kept i g s v is)))
-        (cases_eq (view_of v) 1)
+never_surfaces setting views events more g s group v sound follows found lost held =
+    let w : World = run setting events (first_world setting.layout) in
+    blocked_never_stands (run setting more w) g s group v
+    (blocked_stays w (run setting more w) (parts_stay setting events more) g s group v
+    (lost_blocked w g s group v ((follows [] (events ++ more) refl).limits g (view_of v) group found) lost)) held

@@ -31,12 +31,12 @@ use Rattle.protocol_laws.proofs.Books.{Books, OperationBooks, IsOperation}
 use Rattle.protocol_laws.proofs.Chains.{above_first, base_in, base_is, entries_ours, has_entry, stripe_of, maker_facts, one_maker, IsAnsweredVersion, base_facts, maker_swept, versions_effective, MadeVersion, maker_entry, maker_reads, complete, are_effective, version_made}
 use Rattle.protocol_laws.proofs.Effects.{IsSwept, answered_swept, told_all, told_pairs, told_told, told_versions}
 use Rattle.protocol_laws.proofs.Entries.{AreApart, IsEntryOf, entry_of, entries_apart, numbers_distinct, Contains-number}
-use Rattle.protocol_laws.proofs.Lives.{EndingStays, EndingStays-answered_before, LifeStays}
+use Rattle.reg_model.proofs.GrowingLives.{EndingStays, EndingStays-answered_before, LifeStays}
 use Rattle.protocol_laws.proofs.QuorumFacts.{QuorumFacts, MakerFacts, BaseSays}
-use Rattle.protocol_laws.proofs.RisingMarks.{RisesFrom, RisesFrom-increasing, RisesFrom-filter, NumbersRise, NumbersRise-increasing, NumbersRise-filter, life_within, begins_before_open, begins_in_order}
+use Rattle.reg_model.proofs.RisingMarks.{RisesFrom, RisesFrom-increasing, RisesFrom-filter, NumbersRise, NumbersRise-increasing, NumbersRise-filter, life_within, begins_before_open, begins_in_order}
 use Rattle.protocol_laws.proofs.Said.{WritesWhole}
 use Rattle.protocol_laws.proofs.Sorting.{InOrder, ascending_order, ascending_apart, IsSortedBy-from_order}
-use Rattle.protocol_laws.proofs.StripeLives.{life_filtered, none_filtered, others_filtered, numbers_from_one}
+use Rattle.reg_model.proofs.StripeLives.{life_filtered, none_filtered, others_filtered, numbers_from_one}
 
 -- what an answered operation was answered is what was to be read
 reads_data : (wanted : Option (List ℕ)) (ending : Ending)

@@ -16,7 +16,7 @@ use Rattle.protocol.specs.Worlds.{World, Operation, zero_content}
 use Rattle.protocol.specs.Happenings.{writes}
 use Rattle.protocol_laws.specs.Marked.{WordFits, WordsFit}
 use Rattle.protocol_laws.proofs.Books.{Books, OperationBooks, IsOperation}
-use Rattle.protocol_laws.proofs.Blocks.{block_room, block_long}
+use Rattle.protocol.proofs.Blocks.{block_room, block_long}
 use Rattle.protocol_laws.proofs.Said.{Stamping, Said, IsMadeOrFirst, EndShows}
 
 module _ (setting : Setting) (w : World) (stamps : Stamping) (books : Books setting w) (said : Said setting w stamps) where

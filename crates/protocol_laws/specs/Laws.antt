@@ -197,6 +197,10 @@ AddsNothingBelow old new =
     (g e s i : ℕ) (t : Stamp) → is_held t (part_in new g e s i).log ≡ true
     → (is_held t (part_in old g e s i).log ≡ true) ⊎ (stamp_below t (top_in old g s i) ≡ false)
 
+-- no order stamp is replaced by one of an earlier time
+abbrev pub OrdersRise : World → World → Type 0
+OrdersRise old new = (g e s i : ℕ) → (part_in old g e s i).order.time ≤ (part_in new g e s i).order.time
+
 -- a member says that it stored a version only where it was asked to, and has held it
 abbrev pub StoredIsHeld : World → Type 0
 StoredIsHeld w =
@@ -379,9 +383,15 @@ EveryRunKeepsTheLaws =
     (setting : Setting) (views : Views) (events : List Event) → IsSound setting → RunFollows setting views events
     → Laws setting views (run setting events (first_world setting.layout))
 
--- no event of any run lowers the stamp below which a brick takes nothing for a stripe, or adds a version below that
+-- What an event leaves of a world: the stamp below which a brick takes nothing for a stripe is no lower, no version was added below that, and no order
+-- stamp has an earlier time.
+pub record NothingFalls (old new : World) : Type 0 where
+  pub tops : NeverFalls old new
+  pub adds : AddsNothingBelow old new
+  pub orders : OrdersRise old new
+
+-- no event of any run lowers any of these, whatever the layout and the code are
 abbrev pub NoEventLowers : Type 0
 NoEventLowers =
-    (setting : Setting) (events : List Event) (event : Event) → IsSound setting
-    → (let w = run setting events (first_world setting.layout) in
-    NeverFalls w (happens setting w event) × AddsNothingBelow w (happens setting w event))
+    (setting : Setting) (events : List Event) (event : Event)
+    → (let w = run setting events (first_world setting.layout) in NothingFalls w (happens setting w event))

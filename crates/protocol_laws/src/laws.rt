@@ -58,7 +58,8 @@ pub fn every_run_keeps_the_laws()
 {}
 
 /// No event of any run lowers the stamp below which a brick takes nothing for a stripe: the greatest of what it has promised, what it
-/// has stored and what it has learnt of views never falls; and no event adds a version to a log below that (Frølund et al., DSN 2004).
+/// has stored and what it has learnt of views never falls; no event adds a version to a log below that (Frølund et al., DSN 2004); and
+/// none replaces an order stamp by one of an earlier time. This holds for every layout and every code.
 pub fn no_event_lowers()
     ensures { NoEventLowers }
 {}

@@ -1,9 +1,13 @@
+pub mod AddedMarks
 pub mod Bases
 pub mod Chains
 pub mod EntryOrder
 pub mod Fits
+pub mod GrowingLives
 pub mod MarkLists
 pub mod Places
+pub mod RisingMarks
+pub mod StripeLives
 pub mod Versions
 pub mod Walk
 pub mod WalkFacts

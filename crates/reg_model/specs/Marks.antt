@@ -55,6 +55,7 @@ IsUnended (Answered p answer) = ⊥
 IsUnended (Interrupted p) = ⊥
 IsUnended (Unended past) = Unit {0}
 
+-- an operation that has begun is unended
 abbrev pub IsOpen : Option Life → Type 0
 IsOpen None = ⊥
 IsOpen (Some life) = IsUnended life.ending

@@ -10,7 +10,7 @@ use Rattle.protocol.specs.Worlds.{World, run}
 use Rattle.world.specs.Runs.{Run, Step, world_of, all_events}
 use Rattle.world.specs.Steps.{Runs}
 use Rattle.world.specs.Texts.{step_text}
-use Rattle.calm_laws.proofs.Schedules.{run-append}
+use Rattle.protocol.proofs.Events.{run-append}
 use Rattle.printed.proofs.PrintedMarks.{after_step}
 use Rattle.printed.specs.Outputs.{steps_text}
 use Rattle.printed.specs.LineSteps.{LeadsTo, AreLinesOfSteps}

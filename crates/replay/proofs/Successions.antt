@@ -7,7 +7,7 @@ use Rattle.protocol.specs.Views.{layout_views, view_of}
 use Rattle.protocol.specs.Worlds.{World, Event, first_world, run}
 use Rattle.protocol_laws.proofs.ViewLaws.{never_lowers, never_surfaces, follows_layout, layout_group}
 use Rattle.world.specs.Runs.{Step, all_events}
-use Rattle.calm_laws.proofs.Schedules.{run-append}
+use Rattle.protocol.proofs.Events.{run-append}
 use Rattle.replay.specs.Histories.{Succeeds}
 use Rattle.printed.specs.Outputs.{left_by}
 
@@ -21,10 +21,11 @@ all_events-both (step ∷ steps) more =
 follows_events : (layout : Layout) → IsSound (coding layout) → (events more : List Event)
     → (let w = run (coding layout) events (first_world layout) in Succeeds layout w (run (coding layout) more w))
 follows_events layout sound events more =
-    let lowers = never_lowers (coding layout) events more sound in
+    let lowers = never_lowers (coding layout) events more in
     record {
-      never_falls = lowers.0;
-      adds_nothing_below = lowers.1;
+      never_falls = lowers.tops;
+      adds_nothing_below = lowers.adds;
+      orders_rise = lowers.orders;
       never_surfaces = λ g s group v here lost held.
           never_surfaces (coding layout) (layout_views layout) events more g s group v sound (follows_layout (coding layout) (events ++ more) sound)
           (layout_group layout g (view_of v) ∙ here) lost held;

@@ -3,11 +3,13 @@ use Rattle.std.specs.Prelude.{◌≡◌, ℕ, Some}
 use Rattle.fab_base.specs.declared.stamps.Stamp.{Stamp}
 use Rattle.fab_base.specs.Layouts.{Layout, Group, group_of}
 use Rattle.protocol.specs.Worlds.{World}
-use Rattle.protocol_laws.specs.Laws.{NeverFalls, AddsNothingBelow, IsLost, IsHeldByQuorum}
+use Rattle.protocol_laws.specs.Laws.{NeverFalls, AddsNothingBelow, OrdersRise, IsLost, IsHeldByQuorum}
 
--- No brick has lowered the stamp below which it takes nothing for a stripe, or added a version below that, and no version that was lost has surfaced.
+-- No brick has lowered the stamp below which it takes nothing for a stripe, added a version below that, or replaced an order stamp by one of an earlier
+-- time, and no version that was lost has surfaced.
 pub record Succeeds (layout : Layout) (earlier later : World) : Type 0 where
   pub never_falls : NeverFalls earlier later
   pub adds_nothing_below : AddsNothingBelow earlier later
+  pub orders_rise : OrdersRise earlier later
   pub never_surfaces : (g s : ℕ) (group : Group) (v : Stamp) → group_of layout g ≡ Some group → IsLost earlier g s group v
       → IsHeldByQuorum later g s group v → ⊥

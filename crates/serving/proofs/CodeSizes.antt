@@ -10,7 +10,7 @@ use Rattle.reg_model.specs.Registers.{after_op}
 use Rattle.rs_code.specs.Codewords.{weighted_sum}
 use Rattle.protocol.specs.Settings.{Piece, are_bytes}
 use Rattle.protocol.specs.Nodes.{has_block, has_length}
-use Rattle.protocol_laws.proofs.Blocks.{block_room, length_with}
+use Rattle.protocol.proofs.Blocks.{block_room, length_with}
 use Rattle.stripe_code.specs.Codes.{decoded, decoded_block, seat_of, byte_at}
 
 -- so many lists of so many numbers, one after the other

@@ -22,7 +22,7 @@ use Rattle.messages.specs.declared.packets.Packet.{Packet}
 use Rattle.node.specs.Running.{Running, state_of, shape_at}
 use Rattle.protocol.specs.Nodes.{NodeStep, put, refusal_of, invoked, received, ticked}
 use Rattle.protocol.specs.declared.tellings.Answered.{Answered}
-use Rattle.protocol_laws.proofs.Tables.{put_each}
+use Rattle.protocol.proofs.Tables.{put_each}
 use Rattle.stripe_code.specs.Codes.{coding}
 use Rattle.serving.specs.declared.clients.Client.{Client}
 use Rattle.serving.specs.declared.incomings.Incoming.{Incoming}

@@ -23,8 +23,8 @@ use Rattle.protocol.specs.Views.{kept_by}
 use Rattle.protocol.specs.Coordinators.{Coordinator, Next, Ignores, Waits, Sends, Makes, Ends, on_reply}
 use Rattle.protocol.specs.Nodes.{Node, put, no_step, has_block, has_length, refusal_in, refusal_of, first_phase, fresh_stamp, given_content, new_coordinator, began, invoked, replica_at, full_at, reply_packets, reacted, requested_at, is_served, fits_block, fitting_seat, seat_served, requested_in, requested, known_after, carried_out, replied_at, replied, received, ticked, most_open, is_spent}
 use Rattle.protocol.specs.Replicas.{Reaction, handle}
-use Rattle.protocol_laws.proofs.Served.{parts_each}
-use Rattle.protocol_laws.proofs.Tables.{put_each}
+use Rattle.protocol.proofs.Served.{parts_each}
+use Rattle.protocol.proofs.Tables.{put_each}
 use Rattle.stripe_code.specs.Codes.{block_code, coding}
 use Rattle.serving.specs.Spellings.{reply_fits, answer_fits, has_spelling}
 use Rattle.serving.proofs.Fitting.{AreBricks, AreShort, GroupFits, PhaseFits, CallFits, PacketsFit, NextFits, ReactionFits, NodeFits, StepFits}

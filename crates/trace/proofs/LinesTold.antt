@@ -24,7 +24,7 @@ use Rattle.replay.specs.declared.endings.Verdict.{Verdict}
 use Rattle.replay.specs.declared.endings.Verdict.TheVariants.{Whole, BadLayout, Refuted}
 use Rattle.replay.specs.declared.endings.Halt.{Halt}
 use Rattle.trace.specs.Told.{IsTold, indented, IsStepText}
-use Rattle.trace.specs.Tales.{Takes, WritesTold, TellsRun, TellsNothing, TellsLines, TellsRest, EndsAs}
+use Rattle.trace.specs.TextReport.{Takes, WritesTold, TellsRun, TellsNothing, TellsLines, TellsRest, EndsAs}
 use Rattle.trace.proofs.WholeTexts.{told-none, told-after, told-alone}
 use Rattle.trace.proofs.PrintedTexts.{step-told}
 

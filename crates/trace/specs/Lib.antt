@@ -1,3 +1,3 @@
 pub mod Told
-pub mod Tales
+pub mod TextReport
 pub mod Words

@@ -3,7 +3,7 @@ use Rattle.std.specs.Prelude.{◌≡◌, ℕ, List, Option, Result}
 use Rattle.replay.specs.declared.endings.Verdict.{Verdict}
 use Rattle.replay.specs.declared.endings.Halt.{Halt}
 use Rattle.replay.specs.Replays.{status_of}
-use Rattle.trace.specs.Tales.{Tells}
+use Rattle.trace.specs.TextReport.{Tells}
 
 -- a run ended with this status, as one of `replay` does, and its trace was written
 pub record TextEnds (source old new : Option (List ℕ)) (status : ℕ) : Type 0 where

@@ -4,7 +4,7 @@ use brick_store::State;
 use fab_base::{BrickId, Bytes, Stamp};
 use reg_model::{Happening, Mark};
 use std::alloc::Global;
-use trace_runs::{Course, Journal, Text, answer_of, op_of, put_answer, put_op};
+use trace_runs::{Journal, StripeHistory, Text, answer_of, op_of, put_answer, put_op};
 use world::World;
 
 /// Notes a happening: its operation and position, and what it read or wrote, by all marks.
@@ -56,15 +56,15 @@ pub(crate) fn stripe_notes(
     alloc: Global,
     world: &World,
     journal: &Journal,
-    course: &Course,
+    history: &StripeHistory,
 ) -> Text {
     let mut notes = Text::new(alloc);
-    for happening in course.happenings.as_slice() {
+    for happening in history.happenings.as_slice() {
         note_happening(&mut notes, world.marks(), journal, *happening);
     }
-    if let Some(found) = world.layout().group(course.group) {
+    if let Some(found) = world.layout().group(history.group) {
         for brick in found.members().as_slice() {
-            let log = world.log_of(*brick, course.group, course.stripe);
+            let log = world.log_of(*brick, history.group, history.stripe);
             note_log(&mut notes, *brick, log);
         }
     }

@@ -5,7 +5,7 @@ use fab_io::{Sink, Source};
 use lines::{Unread, content_of};
 use replay::{Halt, Verdict, write};
 use std::alloc::Global;
-use trace_runs::{Drawing, Journal, Text, courses_of};
+use trace_runs::{Drawing, Journal, Text, histories_of};
 use world::World;
 
 /// The most lines that are drawn.
@@ -59,15 +59,15 @@ fn draw_lines<S: Source>(
     let mut drawing = Drawing::new(alloc);
     for count in 0..u64::MAX {
         match take_turn(alloc, world, &mut journal, source, unread, count)? {
-            Turn::Ran(line, taken) => {
-                if count < MOST_DRAWN && taken.account.is_event {
+            Turn::Ran(line, run) => {
+                if count < MOST_DRAWN && run.effects.is_event {
                     let content = content_of(line.as_slice());
-                    drawing.add(world, count + 1, content, &taken.account);
+                    drawing.add(world, count + 1, content, &run.effects);
                 }
             }
             Turn::Ended => {
-                let courses = courses_of(alloc, world, &journal)?;
-                let picture = drawing.finish(world, &journal, courses.as_slice());
+                let histories = histories_of(alloc, world, &journal)?;
+                let picture = drawing.finish(world, &journal, histories.as_slice());
                 return Ok(drawn(alloc, picture, count));
             }
             Turn::Refused(verdict, why) => return Ok(refused(alloc, verdict, why.as_str())),

@@ -7,6 +7,6 @@ mod notes;
 mod pages;
 mod programs;
 mod schedules;
-mod tales;
+mod text_report;
 
 pub use programs::trace;

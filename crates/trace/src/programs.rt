@@ -5,7 +5,7 @@ ghost use Rattle.replay.specs.Replays.{is_word};
 ghost use Rattle.trace.specs.Words.{TextEnds};
 
 use crate::drawings::draw;
-use crate::tales::tell;
+use crate::text_report::tell;
 use fab_io::{Sink, Source};
 use replay::{is_word, status_of, write};
 use std::alloc::Global;
@@ -25,7 +25,7 @@ use std::alloc::Global;
 /// | 7 | no memory was left | |
 ///
 /// What is written with the word `text` tells what `replay` prints for the lines that were run, before it closes its output: it is the lines with
-/// exactly two spaces before, without these (`told_in`, `specs/Told.antt`; `TellsRun`, `specs/Tales.antt`).
+/// exactly two spaces before, without these (`told_in`, `specs/Told.antt`; `TellsRun`, `specs/TextReport.antt`).
 pub fn trace<S: Source, K: Sink, E: Sink>(
     alloc: Global,
     words: &[String],

@@ -2,7 +2,7 @@
 
 ghost use Rattle.std.specs.Prelude.{◌<◌, IfOk, slice_index};
 ghost use Rattle.std.specs.Io.KnownBytes.{prepend_known};
-ghost use Rattle.trace.specs.Tales.{IsNew, OpensLayout, IsRefused, Opens, IsRefusal, RunsLine, Turns};
+ghost use Rattle.trace.specs.TextReport.{IsNew, OpensLayout, IsRefused, Opens, IsRefusal, RunsLine, Turns};
 
 use fab_base::{Bytes, NoMem};
 use fab_io::Source;
@@ -10,7 +10,7 @@ use layout::{Layout, LayoutFault};
 use lines::{LINE_LIMIT, Piece, Unread, content_of};
 use replay::{Halt, Head, MOST_LINES, Verdict, next, read_head};
 use std::alloc::Global;
-use trace_runs::{Journal, Taken, take_line};
+use trace_runs::{Journal, LineRun, take_line};
 use world::World;
 
 /// What stands before a schedule.
@@ -26,7 +26,7 @@ pub(crate) enum Opening {
 #[derive(Drop)]
 pub(crate) enum Turn {
     /// A line, as it was read, which was run.
-    Ran(Bytes, Taken),
+    Ran(Bytes, LineRun),
     /// No line.
     Ended,
     /// What is no line, or one too many: how that ends the run, and what `replay` prints then, without its line feed.
@@ -102,7 +102,7 @@ fn run_line(
     ensures { IfOk result (RunsLine world.old world.new line) }
 {
     match take_line(alloc, world, journal, content_of(line.as_slice()))? {
-        Some(taken) => Ok(Turn::Ran(line, taken)),
+        Some(run) => Ok(Turn::Ran(line, run)),
         None => bad_line(alloc, number),
     }
 }

@@ -1,37 +1,34 @@
-//! A run as a picture: a lane for each brick, an arrow for each message, a bar for each operation, and a lane for each stripe.
+//! A run as a picture: time runs down, each brick has a line, messages are arrows, and operations are bars.
 
-use crate::accounts::{Account, Fate, is_up, packet_at};
-use crate::courses::Course;
-use crate::deeds::{answer_of, change, op_of};
 use crate::figures::{
-    LANE, NAMES, draw_answer, draw_bar, draw_delivery, draw_happening, draw_lanes, draw_names,
-    draw_power, draw_sent, draw_stripe, draw_stub, draw_title, lane_of,
+    draw_all_names, draw_bars, draw_delivery, draw_happening, draw_lines, draw_mark, draw_power,
+    draw_sent, draw_stub, draw_title, line_of, put_bar, top_of, width_of,
 };
 use crate::journals::{Journal, Operation, number_at, place_of};
+use crate::line_effects::{DeliveryOutcome, LineEffects, packet_at};
+use crate::operation_texts::{answer_of, change, op_of};
 use crate::pictures::Picture;
+use crate::stripe_histories::StripeHistory;
 use crate::texts::Text;
 use fab_base::{BrickId, GroupId, NoMem};
 use layout::Layout;
-use messages::Packet;
+use messages::{Message, Packet, Request};
 use reg_model::{Happening, Mark};
 use std::alloc::Global;
 use world::World;
 
-/// How high a bar is, with the gap below it.
-const ROW: u64 = 19;
-
-/// A run that is drawn, a line of its schedule after another. Where a column finds no memory to be noted, the picture is never whole.
+/// A run that is drawn, a line of its schedule after another. Where a row finds no memory to be noted, the picture is never whole.
 pub struct Drawing {
     alloc: Global,
     picture: Picture,
-    /// How many columns there are: one for a line, or for each delivery of it.
-    columns: usize,
-    /// The column in which each message was sent, by number from 1.
+    /// How many rows there are: one for a line, or for each delivery of it.
+    rows: usize,
+    /// The row in which each message was sent, by number from 1.
     senders: Vec<usize>,
-    /// The column in which each mark was made.
+    /// The row in which each mark was made.
     makers: Vec<usize>,
-    /// The last column that is taken of each row of bars.
-    rows: Vec<usize>,
+    /// The last row that is taken of each track of bars.
+    tracks: Vec<usize>,
 }
 
 impl Drop for Drawing {
@@ -39,17 +36,17 @@ impl Drop for Drawing {
         let Self {
             alloc: _,
             picture: _,
-            columns: _,
+            rows: _,
             senders: _,
             makers: _,
-            rows: _,
+            tracks: _,
         } = self;
     }
 }
 
-/// The column at this place, where there is one.
-fn column_at(columns: &[usize], place: usize) -> Option<usize> {
-    columns.get(place).copied()
+/// The row at this place, where there is one.
+fn row_at(rows: &[usize], place: usize) -> Option<usize> {
+    rows.get(place).copied()
 }
 
 /// Whether the happening at this place is the last of its position.
@@ -70,23 +67,47 @@ fn first_registers(alloc: Global, layout: &Layout, group: GroupId) -> Result<Vec
     Ok(vec![in alloc; 0u8; count]?)
 }
 
-/// The column in which a message was sent, of those of a line from this one on: the last in which its sender was handed an earlier one.
-fn sender_of(
-    sent: &[Packet],
-    account: &Account,
-    first: usize,
-    number: u64,
-    packet: &Packet,
-) -> usize {
-    let mut sender = first;
-    for (place, (delivered, _)) in account.deliveries.iter().enumerate() {
-        if let Some(handed) = packet_at(sent, *delivered) {
-            if *delivered < number && handed.to == packet.from {
-                sender = first.saturating_add(place);
+/// Whether a message that is delivered leads to another one: a request to its reply, and a reply to the requests of the next phase, or to the
+/// Collects that end its own.
+fn leads_to(delivered: &Packet, packet: &Packet) -> bool {
+    delivered.to == packet.from
+        && match (&delivered.message, &packet.message) {
+            (Message::Request(old, _), Message::Reply(new, _)) => old.phase == new.phase,
+            (Message::Reply(old, _), Message::Request(new, Request::Collect { .. })) => {
+                old.phase == new.phase
+            }
+            (Message::Reply(old, _), Message::Request(new, _)) => {
+                old.phase.saturating_add(1) == new.phase
+            }
+            _ => false,
+        }
+}
+
+/// How many messages have to be delivered that lead to a message: one request, or a quorum of replies.
+fn leaders_of(layout: &Layout, packet: &Packet) -> u8 {
+    match &packet.message {
+        Message::Request(call, _) => match layout.group(call.group) {
+            Some(group) => group.quorum(),
+            None => 1,
+        },
+        _ => 1,
+    }
+}
+
+/// Which delivery of a line, from this one on, sent a message.
+fn sender_of(world: &World, effects: &LineEffects, first: usize, packet: &Packet) -> usize {
+    let mut missing = leaders_of(world.layout(), packet);
+    for (place, (number, _)) in effects.deliveries.iter().enumerate() {
+        if let Some(delivered) = packet_at(world.sent(), *number) {
+            if leads_to(delivered, packet) {
+                missing = missing.saturating_sub(1);
+                if missing == 0 && first <= place {
+                    return place;
+                }
             }
         }
     }
-    sender
+    first
 }
 
 impl Drawing {
@@ -95,189 +116,181 @@ impl Drawing {
         Drawing {
             alloc,
             picture: Picture::new(alloc),
-            columns: 0,
+            rows: 0,
             senders: Vec::new(alloc),
             makers: Vec::new(alloc),
-            rows: Vec::new(alloc),
+            tracks: Vec::new(alloc),
         }
     }
 
     /// Draws a line that was just run.
-    pub fn add(&mut self, world: &World, number: u64, content: &[u8], account: &Account) {
-        let first = self.columns;
-        self.columns = first.saturating_add(account.deliveries.len().max(1));
-        let bottom = lane_of(BrickId(world.layout().bricks()));
-        draw_title(&mut self.picture, number, content, first, bottom);
-        self.add_marks(world.marks(), account.marks);
-        self.add_messages(world.sent(), account, first);
-        self.draw_messages(world.sent(), account.sent);
-        self.draw_deliveries(world.sent(), account, first);
-        draw_lanes(&mut self.picture, world, first, self.columns);
-        if let Some(brick) = account.started {
+    pub fn add(&mut self, world: &World, number: u64, content: &[u8], effects: &LineEffects) {
+        let first = self.rows;
+        self.rows = first.saturating_add(effects.deliveries.len().max(1));
+        let bricks = world.layout().bricks();
+        draw_title(&mut self.picture, number, content, first, width_of(bricks));
+        draw_lines(&mut self.picture, world, first, self.rows);
+        self.add_marks(world.marks(), effects.marks, line_of(BrickId(bricks)));
+        self.add_messages(world, effects, first);
+        self.draw_messages(world.sent(), effects.sent);
+        self.draw_deliveries(world.sent(), effects, first);
+        if let Some(brick) = effects.started {
             draw_power(&mut self.picture, "start", first, brick);
         }
     }
 
-    /// Notes the marks of a line, and draws the bricks that it stopped.
-    fn add_marks(&mut self, marks: &[Mark], first: usize) {
-        let column = self.columns.saturating_sub(1);
+    /// Notes the marks of a line, and draws them. What stands behind the bricks is there.
+    fn add_marks(&mut self, marks: &[Mark], first: usize, behind: u64) {
+        let row = self.rows.saturating_sub(1);
         for place in first..marks.len() {
-            if self.makers.push(column).is_err() {
+            if self.makers.push(row).is_err() {
                 self.picture.name.note_gap();
             }
-            if let Mark::Crash { brick, .. } = &marks[place] {
-                draw_power(&mut self.picture, "stop", column, *brick);
+            draw_mark(&mut self.picture, &marks[place], row, behind);
+        }
+    }
+
+    /// Notes where the messages of a line were sent, whose first row this is: each in the row of the last one, or below it.
+    fn add_messages(&mut self, world: &World, effects: &LineEffects, row: usize) {
+        let sent = world.sent();
+        let last = effects.deliveries.len().saturating_sub(1);
+        let mut sender = 0;
+        for place in effects.sent..sent.len() {
+            sender = sender_of(world, effects, sender, &sent[place]).min(last);
+            if self.senders.push(row.saturating_add(sender)).is_err() {
+                self.picture.name.note_gap();
+            }
+            // Whatever delivers a request sends one reply.
+            if matches!(sent[place].message, Message::Reply(..)) {
+                sender = sender.saturating_add(1);
             }
         }
     }
 
-    /// Notes where the messages of a line were sent.
-    fn add_messages(&mut self, sent: &[Packet], account: &Account, column: usize) {
-        for place in account.sent..sent.len() {
-            let number = number_at(place);
-            let sender = sender_of(sent, account, column, number, &sent[place]);
-            if self.senders.push(sender).is_err() {
-                self.picture.name.note_gap();
-            }
-        }
-    }
-
-    /// Draws how many messages of a line were sent in each column, of all from this one on.
+    /// Draws how many messages of a line were sent in each row, of all from this one on.
     fn draw_messages(&mut self, sent: &[Packet], first: usize) {
         let mut first = first;
         for place in first..sent.len() {
             let next = place.saturating_add(1);
-            let sender = column_at(&self.senders, place);
-            if let (Some(column), true) = (sender, column_at(&self.senders, next) != sender) {
-                draw_sent(&mut self.picture, &sent[place], first, place, column);
+            let sender = row_at(&self.senders, place);
+            if let (Some(row), true) = (sender, row_at(&self.senders, next) != sender) {
+                draw_sent(&mut self.picture, &sent[place], first, place, row);
                 first = next;
             }
         }
     }
 
     /// Draws the messages that a line was to deliver.
-    fn draw_deliveries(&mut self, sent: &[Packet], account: &Account, first: usize) {
-        for (place, (number, fate)) in account.deliveries.iter().enumerate() {
+    fn draw_deliveries(&mut self, sent: &[Packet], effects: &LineEffects, first: usize) {
+        for (place, (number, outcome)) in effects.deliveries.iter().enumerate() {
             if let Some(packet) = packet_at(sent, *number) {
-                let column = first.saturating_add(place);
-                let sender = column_at(&self.senders, place_of(*number)).unwrap_or(column);
-                let is_lost = matches!(fate, Fate::Down);
-                let columns = (sender, column);
-                draw_delivery(&mut self.picture, packet, *number, is_lost, columns);
+                let row = first.saturating_add(place);
+                let sender = row_at(&self.senders, place_of(*number)).unwrap_or(row);
+                let is_lost = matches!(outcome, DeliveryOutcome::Down);
+                draw_delivery(&mut self.picture, packet, *number, is_lost, (sender, row));
             }
         }
     }
 
-    /// The picture of the run, as the text of an SVG document, once all lines are drawn. The courses are those of its stripes.
-    pub fn finish(&mut self, world: &World, journal: &Journal, courses: &[Course]) -> Text {
+    /// The picture of the run, as the text of an SVG document, once all lines are drawn. The histories are those of its stripes.
+    pub fn finish(
+        &mut self,
+        world: &World,
+        journal: &Journal,
+        histories: &[StripeHistory],
+    ) -> Text {
         let layout = world.layout();
-        draw_names(&mut self.picture, layout.bricks());
+        let bricks = layout.bricks();
+        let height = top_of(self.rows);
+        draw_all_names(&mut self.picture, bricks, self.rows);
         self.draw_stubs(world);
-        let mut y = self.draw_bars(world.marks(), journal, lane_of(BrickId(layout.bricks())));
-        for course in courses {
-            draw_stripe(
-                &mut self.picture,
-                course.group.0,
-                course.stripe.0,
-                y,
-                self.columns,
-            );
-            match first_registers(self.alloc, layout, course.group) {
-                Ok(registers) => {
-                    let block = usize::from(layout.block());
-                    self.draw_course(world.marks(), journal, y, course, block, registers);
-                }
+        self.draw_operations(world.marks(), journal, bricks, height);
+        for history in histories {
+            match first_registers(self.alloc, layout, history.group) {
+                Ok(registers) => self.draw_history(world, journal, history, registers),
                 Err(NoMem::NoMemory) => self.picture.name.note_gap(),
             }
-            y = y.saturating_add(LANE);
         }
-        self.picture.text(self.columns, y)
+        self.picture.text(width_of(bricks).max(640), height)
     }
 
     /// Draws the messages that were never delivered.
     fn draw_stubs(&mut self, world: &World) {
         for (place, packet) in world.sent().iter().enumerate() {
             let number = number_at(place);
-            let sender = column_at(&self.senders, place);
+            let sender = row_at(&self.senders, place);
             if let (Some(sender), false) = (sender, world.was_delivered(number)) {
                 draw_stub(&mut self.picture, packet, sender);
             }
         }
     }
 
-    /// The column in which an operation ended. None where it did not, or is past what is drawn.
+    /// The row in which an operation ended. None where it did not, or is past what is drawn.
     fn end_of(&self, operation: &Operation) -> Option<usize> {
-        column_at(&self.makers, operation.end?)
+        row_at(&self.makers, operation.end?)
     }
 
-    /// The first row of bars that is free from this column on, which is taken up to the last.
-    fn take_row(&mut self, first: usize, last: usize) -> u64 {
-        for (row, end) in self.rows.iter_mut().enumerate() {
+    /// The first track of bars that is free from this row on, which is taken up to the last.
+    fn take_track(&mut self, first: usize, last: usize) -> u64 {
+        for (track, end) in self.tracks.iter_mut().enumerate() {
             if *end < first {
                 *end = last;
-                return row as u64;
+                return track as u64;
             }
         }
-        if self.rows.push(last).is_err() {
+        if self.tracks.push(last).is_err() {
             self.picture.name.note_gap();
         }
-        (self.rows.len() as u64).saturating_sub(1)
+        (self.tracks.len() as u64).saturating_sub(1)
     }
 
-    /// Draws the operations from this place on down, and answers where the first stripe's lane is.
-    fn draw_bars(&mut self, marks: &[Mark], journal: &Journal, top: u64) -> u64 {
-        for (place, operation) in journal.operations().iter().enumerate() {
-            if let Some(first) = column_at(&self.makers, operation.begin) {
-                let end = self.end_of(operation);
-                let last = end.unwrap_or(self.columns.saturating_sub(1));
-                let row = self.take_row(first, last);
-                let y = row.saturating_mul(ROW).saturating_add(top);
-                let number = number_at(place);
-                let answer = answer_of(marks, operation);
-                let op = op_of(marks, operation);
-                draw_bar(&mut self.picture, number, op, answer, (first, last), y);
-                if first < last && end.is_some() {
-                    draw_answer(&mut self.picture, answer, last, y);
-                }
+    /// Draws the operations as bars behind so many bricks, down to a place.
+    fn draw_operations(&mut self, marks: &[Mark], journal: &Journal, bricks: u16, height: u64) {
+        let mut bars = Text::new(self.alloc);
+        for operation in journal.operations() {
+            if let Some(first) = row_at(&self.makers, operation.begin) {
+                let last = self.end_of(operation);
+                let last = last.unwrap_or(self.rows.saturating_sub(1));
+                let track = self.take_track(first, last);
+                put_bar(&mut bars, answer_of(marks, operation), first, last, track);
             }
         }
-        let rows = (self.rows.len() as u64).saturating_mul(ROW);
-        rows.saturating_add(top).saturating_add(30)
+        let tracks = self.tracks.len() as u64;
+        draw_bars(&mut self.picture, &bars, tracks, bricks, height);
     }
 
-    /// Draws what the registers of a stripe hold, which are these at first, from each happening on. A block has so many bytes.
-    fn draw_course(
+    /// Draws what the registers of a stripe hold, which are these at first, from each happening on.
+    fn draw_history(
         &mut self,
-        marks: &[Mark],
+        world: &World,
         journal: &Journal,
-        y: u64,
-        course: &Course,
-        block: usize,
+        history: &StripeHistory,
         registers: Vec<u8>,
     ) {
         let mut registers = registers;
-        let happenings = course.happenings.as_slice();
-        self.picture.name.put_hex(registers.as_slice());
-        self.picture.label(NAMES, y.saturating_add(14), "", &[]);
+        let block = usize::from(world.layout().block());
+        let happenings = history.happenings.as_slice();
         for (place, happening) in happenings.iter().enumerate() {
             if let Some(operation) = journal.operation(happening.operation) {
-                change(op_of(marks, operation), block, &mut registers);
+                change(op_of(world.marks(), operation), block, &mut registers);
             }
             let is_last = is_last(happenings, place, happening.position);
-            self.draw_happening(*happening, is_last, y, registers.as_slice());
+            self.name_happening(history, happening.operation);
+            if is_last {
+                let row = row_at(&self.makers, happening.position as usize);
+                let behind = line_of(BrickId(world.layout().bricks()));
+                draw_happening(&mut self.picture, row, behind, registers.as_slice());
+            }
         }
     }
 
-    /// Draws a happening with those before it at the same position, once it is the last of them, and what a stripe's registers then hold.
-    fn draw_happening(&mut self, happening: Happening, is_last: bool, y: u64, registers: &[u8]) {
-        let picture = &mut self.picture;
-        if picture.name.pieces().is_empty() {
-            picture.name.put("op");
+    /// Names an operation that happened to a stripe, behind those that happened at the same position before it.
+    fn name_happening(&mut self, history: &StripeHistory, operation: u64) {
+        let name = &mut self.picture.name;
+        if name.pieces().is_empty() {
+            let numbers = [history.group.0.into(), history.stripe.0.into()];
+            name.fill("stripe % % op", &numbers);
         }
-        picture.name.fill(" %", &[happening.operation]);
-        if is_last {
-            let column = column_at(&self.makers, happening.position as usize);
-            draw_happening(picture, column, y, registers);
-        }
+        name.fill(" %", &[operation]);
     }
 }

@@ -1,59 +1,155 @@
-//! What a picture of a run is made of, each drawn at its place.
+//! What a picture of a run is made of, each drawn at its place: time runs down, a row for each step, and each brick has a line.
 
-use crate::accounts::is_up;
-use crate::deeds::{put_answer, put_op};
 use crate::journals::number_at;
+use crate::line_effects::is_up;
+use crate::operation_texts::{put_answer, put_op};
 use crate::packets::{kind_of, word_of};
-use crate::pictures::{Picture, left_of};
-use fab_base::{Answer, BrickId, Op};
+use crate::pictures::{Picture, TRACK};
+use crate::texts::Text;
+use fab_base::{Answer, BrickId};
 use messages::Packet;
+use reg_model::Mark;
 use world::World;
 
-/// How far the names stand from the left.
-pub(crate) const NAMES: u64 = 8;
+/// How far the numbers of the schedule's lines stand from the left.
+const NUMBERS: u64 = 8;
 
-/// How far the lines of the schedule are from the top.
-const HEADER: u64 = 44;
+/// How far what stands on them does.
+const CONTENTS: u64 = 36;
 
-/// How far the line of the first brick's lane is from the top.
-const BRICKS: u64 = 86;
+/// How far the line of the first brick is from the left.
+const BRICKS: u64 = 156;
 
-/// How high a lane is.
-pub(crate) const LANE: u64 = 66;
+/// How far the lines of two bricks are from each other.
+const BRICK: u64 = 116;
 
-/// How far the line of a brick's lane is from the top.
-pub(crate) fn lane_of(brick: BrickId) -> u64 {
+/// How wide the bars of all operations are, behind the bricks.
+const BARS: u64 = 36;
+
+/// How far labels of operations stand behind the bricks.
+const OPERATIONS: u64 = 46;
+
+/// How far the stripes do.
+const STRIPES: u64 = 196;
+
+/// How wide is what stands behind the bricks.
+const BEHIND: u64 = 348;
+
+/// How far the first names of the bricks are from the top.
+const HEADER: u64 = 46;
+
+/// How high a row is: two labels.
+const ROW: u64 = 32;
+
+/// After how many rows the bricks are named again, and how much room that takes.
+const NAMED_ROWS: usize = 20;
+
+const NAMES: u64 = 20;
+
+/// The most characters of a label between the lines of two bricks.
+const NARROW: usize = 16;
+
+/// The most characters of a label of what stands on a line.
+const CONTENT: usize = 17;
+
+/// The most characters of a label behind the bricks.
+const WIDE: usize = 20;
+
+/// How far a brick's line is from the left. What stands behind the bricks is there where one more would be.
+pub(crate) fn line_of(brick: BrickId) -> u64 {
     u64::from(brick.0)
-        .saturating_mul(LANE)
+        .saturating_mul(BRICK)
         .saturating_add(BRICKS)
 }
 
-/// Where a brick sends messages in a column.
-fn departure(column: usize, brick: BrickId) -> (u64, u64) {
-    (left_of(column).saturating_add(124), lane_of(brick))
+/// How wide a picture of so many bricks is.
+pub(crate) fn width_of(bricks: u16) -> u64 {
+    line_of(BrickId(bricks)).saturating_add(BEHIND)
 }
 
-/// Draws where a line begins, down to a place: its number, and what stands on it.
+/// How far a row is from the top.
+pub(crate) fn top_of(row: usize) -> u64 {
+    let names = (row / NAMED_ROWS) as u64;
+    (row as u64)
+        .saturating_mul(ROW)
+        .saturating_add(names.saturating_mul(NAMES))
+        .saturating_add(HEADER + NAMES)
+}
+
+/// The upper label of a row.
+fn upper(row: usize) -> u64 {
+    top_of(row).saturating_add(13)
+}
+
+/// The lower label of a row.
+fn lower(row: usize) -> u64 {
+    top_of(row).saturating_add(25)
+}
+
+/// Where messages arrive at a brick in a row.
+fn arrival(row: usize, brick: BrickId) -> (u64, u64) {
+    (line_of(brick), top_of(row).saturating_add(3))
+}
+
+/// Where messages are sent by a brick in a row.
+fn departure(row: usize, brick: BrickId) -> (u64, u64) {
+    (line_of(brick), top_of(row).saturating_add(29))
+}
+
+/// Where labels of a brick stand.
+fn beside(brick: BrickId) -> u64 {
+    line_of(brick).saturating_add(6)
+}
+
+/// Draws where a line begins: its number, and what stands on it in two parts.
 pub(crate) fn draw_title(
     picture: &mut Picture,
     number: u64,
     content: &[u8],
-    column: usize,
-    bottom: u64,
+    row: usize,
+    width: u64,
 ) {
-    let x = left_of(column);
-    picture.line("guide", false, (x, HEADER - 12), (x, bottom));
-    picture.name.fill("% ", &[number]);
-    picture.name.put_label(content);
-    picture.label(x.saturating_add(4), HEADER, "", &[]);
+    let y = top_of(row);
+    picture.line("guide", false, (NUMBERS, y), (width, y));
+    picture.name.fill("%", &[number]);
+    picture.label(NUMBERS, upper(row), NARROW);
+    let (first, second) = content.split_at(content.len().min(CONTENT));
+    picture.name.put_label(first, CONTENT);
+    picture.label(CONTENTS, upper(row), CONTENT);
+    if !second.is_empty() {
+        picture.name.put_label(second, CONTENT);
+        picture.label(CONTENTS, lower(row), CONTENT);
+    }
 }
 
 /// Draws a brick that starts, or stops.
-pub(crate) fn draw_power(picture: &mut Picture, word: &str, column: usize, brick: BrickId) {
-    let x = left_of(column).saturating_add(4);
-    let y = lane_of(brick);
-    picture.dot(word, x, y);
-    picture.label(x.saturating_add(6), y.saturating_add(26), word, &[]);
+pub(crate) fn draw_power(picture: &mut Picture, word: &str, row: usize, brick: BrickId) {
+    let y = lower(row);
+    picture.dot(word, line_of(brick), y.saturating_sub(4));
+    picture.name.put(word);
+    picture.label(beside(brick), y, NARROW);
+}
+
+/// Draws a mark: an operation that begins, how one ends, or a brick that stops. What stands behind the bricks is there.
+pub(crate) fn draw_mark(picture: &mut Picture, mark: &Mark, row: usize, behind: u64) {
+    let x = behind.saturating_add(OPERATIONS);
+    match mark {
+        Mark::Begin { operation, ask, .. } => {
+            picture.name.fill("% ", &[*operation]);
+            put_op(&mut picture.name, &ask.op);
+            picture.label(x, upper(row), WIDE);
+        }
+        Mark::End {
+            operation,
+            answer,
+            ..
+        } => {
+            picture.name.fill("% ", &[*operation]);
+            put_answer(&mut picture.name, answer);
+            picture.label(x, lower(row), WIDE);
+        }
+        Mark::Crash { brick, .. } => draw_power(picture, "stop", row, *brick),
+    }
 }
 
 /// Draws that messages were sent, from one place to another among all, the last of which is this.
@@ -62,122 +158,129 @@ pub(crate) fn draw_sent(
     packet: &Packet,
     first: usize,
     last: usize,
-    column: usize,
+    row: usize,
 ) {
-    let x = left_of(column).saturating_add(10);
-    let y = lane_of(packet.from).saturating_add(14);
-    picture.name.put("+#");
+    picture.name.put("+");
     if first < last {
         picture.name.fill("%-", &[number_at(first)]);
     }
     picture.name.fill("% ", &[number_at(last)]);
-    picture.label(x, y, word_of(&packet.message), &[]);
+    picture.name.put(word_of(&packet.message));
+    picture.label(beside(packet.from), lower(row), NARROW);
 }
 
-/// Draws a message that was to be delivered: an arrow from the column in which it was sent to another one.
+/// Draws a message that was to be delivered: an arrow from the row in which it was sent to another one.
 pub(crate) fn draw_delivery(
     picture: &mut Picture,
     packet: &Packet,
     number: u64,
     is_lost: bool,
-    columns: (usize, usize),
+    rows: (usize, usize),
 ) {
-    let x = left_of(columns.1).saturating_add(4);
-    let y = lane_of(packet.to);
-    let from = departure(columns.0, packet.from);
-    picture.line(kind_of(&packet.message), is_lost, from, (x, y));
+    let from = departure(rows.0, packet.from);
+    let to = arrival(rows.1, packet.to);
+    let kind = kind_of(&packet.message);
+    if packet.from == packet.to {
+        picture.turn(kind, is_lost, from, to.1);
+    } else {
+        picture.line(kind, is_lost, from, to);
+    }
     picture.name.fill("#% ", &[number]);
-    let word = word_of(&packet.message);
-    picture.label(x.saturating_add(6), y.saturating_sub(6), word, &[]);
+    picture.name.put(word_of(&packet.message));
+    picture.label(beside(packet.to), upper(rows.1), NARROW);
 }
 
-/// Draws the lanes of the bricks that are up, from one column to another.
-pub(crate) fn draw_lanes(picture: &mut Picture, world: &World, first: usize, end: usize) {
-    let (left, right) = (left_of(first), left_of(end));
+/// Draws the lines of the bricks that are up, from one row to another.
+pub(crate) fn draw_lines(picture: &mut Picture, world: &World, first: usize, end: usize) {
+    let (top, bottom) = (top_of(first), top_of(end));
     for number in 0..world.layout().bricks() {
         let brick = BrickId(number);
         if is_up(world, brick) {
-            let y = lane_of(brick);
-            picture.line("lane", false, (left, y), (right, y));
+            let x = line_of(brick);
+            picture.line("up", false, (x, top), (x, bottom));
         }
     }
 }
 
-/// Draws the names of so many bricks.
-pub(crate) fn draw_names(picture: &mut Picture, bricks: u16) {
+/// Writes the names of so many bricks above a row, and of what stands beside them.
+fn draw_names(picture: &mut Picture, bricks: u16, row: usize) {
+    let y = top_of(row).saturating_sub(6);
+    let behind = line_of(BrickId(bricks));
     for number in 0..bricks {
-        let y = lane_of(BrickId(number)).saturating_add(4);
-        picture.label(NAMES, y, "brick %", &[u64::from(number)]);
+        picture.name.fill("brick %", &[u64::from(number)]);
+        picture.label(beside(BrickId(number)), y, NARROW);
+    }
+    picture.name.put("line");
+    picture.label(NUMBERS, y, NARROW);
+    picture.name.put("operations");
+    picture.label(behind.saturating_add(OPERATIONS), y, WIDE);
+    picture.name.put("stripes");
+    picture.label(behind.saturating_add(STRIPES), y, WIDE);
+}
+
+/// Writes the names of so many bricks above the first of so many rows, and again below every 20th.
+pub(crate) fn draw_all_names(picture: &mut Picture, bricks: u16, rows: usize) {
+    let last = rows.saturating_sub(1) / NAMED_ROWS;
+    for block in 0..last.saturating_add(1) {
+        draw_names(picture, bricks, block.saturating_mul(NAMED_ROWS));
     }
 }
 
-/// Draws a message that was never delivered as a stub, up or down as its receiver is.
+/// Draws a message that was never delivered as a stub, to the left or right as its receiver is.
 pub(crate) fn draw_stub(picture: &mut Picture, packet: &Packet, sender: usize) {
     let (x, y) = departure(sender, packet.from);
-    let lanes = u64::from(packet.to.0.abs_diff(packet.from.0).min(3));
-    let rise = lanes.saturating_mul(6);
-    let end = if packet.to.0 < packet.from.0 {
-        y.saturating_sub(rise)
+    let lines = u64::from(packet.to.0.abs_diff(packet.from.0).min(3));
+    let run = lines.saturating_mul(6).saturating_add(10);
+    let end = if packet.to.0 <= packet.from.0 {
+        x.saturating_sub(run)
     } else {
-        y.saturating_add(rise)
+        x.saturating_add(run)
     };
     let kind = kind_of(&packet.message);
-    picture.line(kind, true, (x, y), (x.saturating_add(16), end));
+    picture.line(kind, true, (x, y), (end, y.saturating_add(5)));
 }
 
-/// Draws an operation, what it is asked to do and whether it was done, over the columns from one to another.
-pub(crate) fn draw_bar(
-    picture: &mut Picture,
-    number: u64,
-    op: Option<&Op>,
+/// Writes the bar of an operation that was given this answer, over the rows from one to another.
+pub(crate) fn put_bar(
+    bars: &mut Text,
     answer: Option<&Answer>,
-    columns: (usize, usize),
-    y: u64,
+    first: usize,
+    last: usize,
+    track: u64,
 ) {
-    let class = match answer {
+    bars.put("<rect class=\"");
+    bars.put(match answer {
         Some(Answer::Data(_) | Answer::Done) => "done",
         _ => "undone",
-    };
-    picture.bar(class, columns.0, columns.1, y);
-    if let Some(op) = op {
-        picture.name.fill("% ", &[number]);
-        put_op(&mut picture.name, op);
-        let x = left_of(columns.0).saturating_add(6);
-        picture.label(x, y.saturating_add(11), "", &[]);
-    }
+    });
+    let y = top_of(first).saturating_add(2);
+    let height = top_of(last).saturating_add(ROW - 2).saturating_sub(y);
+    bars.fill(
+        "\" x=\"%\" y=\"%\" width=\"8\" height=\"%\" rx=\"3\"/>\n",
+        &[track.saturating_mul(TRACK), y, height],
+    );
 }
 
-/// Writes how an operation ended, in the last column of its bar.
-pub(crate) fn draw_answer(picture: &mut Picture, answer: Option<&Answer>, column: usize, y: u64) {
-    match answer {
-        Some(answer) => put_answer(&mut picture.name, answer),
-        None => picture.name.put("cut off"),
-    }
-    let x = left_of(column).saturating_add(6);
-    picture.label(x, y.saturating_add(11), "", &[]);
+/// Draws the bars of operations, so many beside each other, behind so many bricks and down to a place.
+pub(crate) fn draw_bars(picture: &mut Picture, bars: &Text, tracks: u64, bricks: u16, height: u64) {
+    let x = line_of(BrickId(bricks)).saturating_add(4);
+    picture.strip(bars, tracks, x, BARS, height);
 }
 
-/// Draws the lane of a stripe, up to a column.
-pub(crate) fn draw_stripe(picture: &mut Picture, group: u32, stripe: u32, y: u64, end: usize) {
-    let numbers = [u64::from(group), u64::from(stripe)];
-    picture.label(NAMES, y.saturating_sub(6), "stripe % %", &numbers);
-    picture.line("lane", false, (left_of(0), y), (left_of(end), y));
-}
-
-/// Draws that the operations that the name lists happened in a column, and what a stripe's registers hold from there on.
+/// Draws that what the name says happened in a row, and what a stripe's registers hold from there on. What stands behind the bricks is there.
 pub(crate) fn draw_happening(
     picture: &mut Picture,
-    column: Option<usize>,
-    y: u64,
+    row: Option<usize>,
+    behind: u64,
     registers: &[u8],
 ) {
-    if let Some(column) = column {
-        let x = left_of(column).saturating_add(4);
-        picture.dot("happening", x, y);
-        let x = x.saturating_add(6);
-        picture.label(x, y.saturating_sub(6), "", &[]);
+    if let Some(row) = row {
+        let x = behind.saturating_add(STRIPES);
+        picture.dot("happening", x, top_of(row).saturating_add(9));
+        let x = x.saturating_add(8);
+        picture.label(x, upper(row), WIDE);
         picture.name.put_hex(registers);
-        picture.label(x, y.saturating_add(14), "", &[]);
+        picture.label(x, lower(row), WIDE);
     }
     picture.name.clear();
 }

@@ -1,6 +1,6 @@
 //! What is known of the operations of a run, from its marks and messages.
 
-use crate::accounts::Fate;
+use crate::line_effects::DeliveryOutcome;
 use fab_base::{BrickId, NoMem};
 use messages::{Call, Message, Packet, Request};
 use reg_model::Mark;
@@ -132,25 +132,34 @@ impl Journal {
 
     /// What came of the message of a number, which was delivered to a brick that was up, where no message or mark tells it. A reply that was
     /// counted is noted: an operation counts the first reply of each brick in its newest phase.
-    pub(crate) fn note_delivery(&mut self, number: u64, packet: &Packet) -> Result<Fate, NoMem> {
+    pub(crate) fn note_delivery(
+        &mut self,
+        number: u64,
+        packet: &Packet,
+    ) -> Result<DeliveryOutcome, NoMem> {
         match &packet.message {
             Message::Reply(call, _) => self.note_reply(number, call.phase, packet.from),
-            Message::Request(_, Request::Collect { .. }) => Ok(Fate::Told),
-            _ => Ok(Fate::Ignored),
+            Message::Request(_, Request::Collect { .. }) => Ok(DeliveryOutcome::Told),
+            _ => Ok(DeliveryOutcome::Ignored),
         }
     }
 
     /// Notes that the message of a number was delivered, a brick's reply in a phase, and answers whether it was counted.
-    fn note_reply(&mut self, number: u64, phase: u32, brick: BrickId) -> Result<Fate, NoMem> {
+    fn note_reply(
+        &mut self,
+        number: u64,
+        phase: u32,
+        brick: BrickId,
+    ) -> Result<DeliveryOutcome, NoMem> {
         let operation = self.operation_of(number).unwrap_or(0);
         let is_due = match self.operation(operation) {
             Some(found) => found.end.is_none() && found.phase == phase,
             None => false,
         };
         if is_due && self.counted.insert((brick.0, phase, operation))? {
-            return Ok(Fate::Counted);
+            return Ok(DeliveryOutcome::Counted);
         }
-        Ok(Fate::NotCounted)
+        Ok(DeliveryOutcome::NotCounted)
     }
 
     /// Lists the messages of an operation that were delivered as it ran alone: none of its messages was delivered before.
@@ -158,7 +167,7 @@ impl Journal {
         &self,
         world: &World,
         operation: u64,
-        deliveries: &mut Vec<(u64, Fate)>,
+        deliveries: &mut Vec<(u64, DeliveryOutcome)>,
     ) -> Result<(), NoMem> {
         let first = match self.operation(operation) {
             Some(found) => found.sent,
@@ -168,7 +177,7 @@ impl Journal {
             let number = number_at(place);
             let is_own = self.operation_of(number) == Some(operation);
             if is_own && world.was_delivered(number) {
-                deliveries.push((number, Fate::Told))?;
+                deliveries.push((number, DeliveryOutcome::Told))?;
             }
         }
         Ok(())

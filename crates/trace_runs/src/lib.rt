@@ -3,22 +3,22 @@
 //! It stands on what the world tells: its marks, its messages in the order of sending, and which of them were delivered.
 #![tactic(auto)]
 
-mod accounts;
-mod courses;
-mod deeds;
 mod drawing;
 mod figures;
 mod journals;
+mod line_effects;
+mod line_runs;
+mod operation_texts;
 mod packets;
 mod pictures;
-mod taking;
+mod stripe_histories;
 mod texts;
 
-pub use accounts::{Account, Fate, Stop, packet_at};
-pub use courses::{Course, courses_of};
-pub use deeds::{answer_of, op_of, put_answer, put_op};
 pub use drawing::Drawing;
 pub use journals::{Journal, Operation, number_at};
+pub use line_effects::{DeliveryOutcome, FaultOutcome, LineEffects, packet_at};
+pub use line_runs::{LineRun, take_line};
+pub use operation_texts::{answer_of, op_of, put_answer, put_op};
 pub use packets::put_message;
-pub use taking::{Taken, take_line};
+pub use stripe_histories::{StripeHistory, histories_of};
 pub use texts::Text;

@@ -1,16 +1,12 @@
 //! A picture in SVG 1.1. All places are in pixels, from the upper left corner.
 
-use crate::texts::{CHARACTERS, Text};
+use crate::texts::Text;
 use std::alloc::Global;
 
-/// How wide a character is drawn at most.
-const CHARACTER: u64 = 7;
-
-/// How wide a column is: a label, and the room from which messages are sent.
-const COLUMN: u64 = 148;
-
-/// How far the first column is from the left: the names of the lanes stand there.
-const MARGIN: u64 = 164;
+/// How wide so many characters are drawn.
+fn width_of_characters(count: usize) -> u64 {
+    (count as u64).saturating_mul(67) / 10
+}
 
 /// How shapes are drawn, in the colours of Okabe and Ito, which people with any sight can tell apart.
 const STYLE: &str = "<defs>
@@ -31,7 +27,8 @@ line { stroke-width: 1.4 }
 .reply { stroke: #009E73; marker-end: url(#reply) }
 .refusal { stroke: #D55E00; marker-end: url(#refusal) }
 .lost { stroke-dasharray: 4,3; marker-end: url(#lost) }
-.lane { stroke: #000000; stroke-width: 2; stroke-opacity: 0.7 }
+.turn { fill: none; stroke-width: 1.4 }
+.up { stroke: #000000; stroke-width: 2; stroke-opacity: 0.7 }
 .guide { stroke: #000000; stroke-width: 1; stroke-opacity: 0.12 }
 .done { fill: #F0E442; fill-opacity: 0.6 }
 .undone { fill: #D55E00; fill-opacity: 0.45 }
@@ -42,7 +39,7 @@ line { stroke-width: 1.4 }
 </style>
 ";
 
-/// The keys of the colours.
+/// The keys of the colours and of the labels.
 const LEGEND: &str =
     "<line class=\"order\" x1=\"8\" y1=\"14\" x2=\"30\" y2=\"14\"/><text x=\"36\" y=\"18\">order</text>
 <line class=\"read\" x1=\"108\" y1=\"14\" x2=\"130\" y2=\"14\"/><text x=\"136\" y=\"18\">read</text>
@@ -50,6 +47,7 @@ const LEGEND: &str =
 <line class=\"collect\" x1=\"308\" y1=\"14\" x2=\"330\" y2=\"14\"/><text x=\"336\" y=\"18\">collect</text>
 <line class=\"reply\" x1=\"408\" y1=\"14\" x2=\"430\" y2=\"14\"/><text x=\"436\" y=\"18\">reply</text>
 <line class=\"refusal\" x1=\"508\" y1=\"14\" x2=\"530\" y2=\"14\"/><text x=\"536\" y=\"18\">refusal</text>
+<text x=\"8\" y=\"36\">#7: message 7 arrives; +9: message 9 is sent; dashed: not handled; a brick's line: it is up</text>
 ";
 
 /// What stands at the front of a picture of this width and height.
@@ -59,6 +57,9 @@ const FRONT: &str = "<?xml version=\"1.0\" encoding=\"UTF-8\"?>
 
 /// What is drawn below all else.
 const GROUND: &str = "<rect width=\"100%\" height=\"100%\" fill=\"#FFFFFF\"/>\n";
+
+/// How far bars are from each other.
+pub(crate) const TRACK: u64 = 10;
 
 /// A picture.
 #[derive(Drop)]
@@ -78,13 +79,6 @@ fn front(alloc: Global, width: u64, height: u64) -> Text {
     text.put(GROUND);
     text.put(LEGEND);
     text
-}
-
-/// The left end of a column.
-pub(crate) fn left_of(column: usize) -> u64 {
-    (column as u64)
-        .saturating_mul(COLUMN)
-        .saturating_add(MARGIN)
 }
 
 impl Picture {
@@ -110,16 +104,28 @@ impl Picture {
         );
     }
 
-    /// Draws a bar over the columns from one to another.
-    pub(crate) fn bar(&mut self, class: &str, first: usize, last: usize, y: u64) {
-        let x = left_of(first).saturating_add(2);
-        let width = left_of(last).saturating_add(COLUMN - 2).saturating_sub(x);
-        self.shapes.put("<rect class=\"");
+    /// Draws a turn of a class, of two where it is lost, from one place to another below it, over what is left of both.
+    pub(crate) fn turn(&mut self, class: &str, is_lost: bool, from: (u64, u64), end: u64) {
+        let (x, y) = from;
+        let left = x.saturating_sub(16);
+        self.shapes.put("<path class=\"turn ");
         self.shapes.put(class);
+        self.shapes.put(if is_lost { " lost" } else { "" });
         self.shapes.fill(
-            "\" x=\"%\" y=\"%\" width=\"%\" height=\"16\" rx=\"4\"/>\n",
-            &[x, y, width],
+            "\" d=\"M%,% C%,% %,% %,%\"/>\n",
+            &[x, y, left, y, left, end, x, end],
         );
+    }
+
+    /// Draws bars, which are so many beside each other, in a strip: where its upper left corner is, how wide it is, and where it ends.
+    pub(crate) fn strip(&mut self, bars: &Text, tracks: u64, x: u64, width: u64, height: u64) {
+        let inner = tracks.saturating_mul(TRACK).max(width);
+        self.shapes.fill(
+            "<svg x=\"%\" y=\"0\" width=\"%\" height=\"%\" viewBox=\"0 0 % %\" preserveAspectRatio=\"none\">\n",
+            &[x, width, height, inner, height],
+        );
+        self.shapes.put_text(bars);
+        self.shapes.put("</svg>\n");
     }
 
     /// Draws a moment.
@@ -130,23 +136,21 @@ impl Picture {
             .fill("\" cx=\"%\" cy=\"%\" r=\"4\"/>\n", &[x, y]);
     }
 
-    /// Writes a form, with a number in place of each `%`, behind what the next label says already, as that label.
-    pub(crate) fn label(&mut self, x: u64, y: u64, form: &str, numbers: &[u64]) {
-        self.name.fill(form, numbers);
+    /// Writes the name as a label, its first characters alone where it has more than so many.
+    pub(crate) fn label(&mut self, x: u64, y: u64, most: usize) {
         let name = self.name.pieces().as_bytes();
-        let width = (name.len().min(CHARACTERS) as u64).saturating_mul(CHARACTER);
+        let width = width_of_characters(name.len().min(most));
         self.labels.fill(
             "<rect class=\"ground\" x=\"%\" y=\"%\" width=\"%\" height=\"12\"/><text x=\"%\" y=\"%\">",
             &[x, y.saturating_sub(9), width, x, y],
         );
-        self.labels.put_label(name);
+        self.labels.put_label(name, most);
         self.labels.put("</text>\n");
         self.name.clear();
     }
 
-    /// The text of the picture, up to the end of so many columns and down to a place.
-    pub(crate) fn text(&self, columns: usize, height: u64) -> Text {
-        let width = left_of(columns).max(640);
+    /// The text of the picture, of this width and height.
+    pub(crate) fn text(&self, width: u64, height: u64) -> Text {
         let mut text = front(self.alloc, width, height);
         text.put_text(&self.shapes);
         text.put_text(&self.labels);

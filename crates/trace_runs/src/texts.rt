@@ -6,9 +6,6 @@ use std::alloc::Global;
 /// The most bytes of a block that are shown.
 const SHOWN_BYTES: usize = 8;
 
-/// The most characters of a label.
-pub(crate) const CHARACTERS: usize = 20;
-
 /// The character that stands for a byte of a label.
 fn shown_as(byte: u8) -> char {
     match byte {
@@ -99,9 +96,9 @@ impl Text {
         }
     }
 
-    /// Adds the first characters of a label, with `?` for what is no printable ASCII or has a meaning in SVG.
-    pub(crate) fn put_label(&mut self, label: &[u8]) {
-        let shown = label.len().min(CHARACTERS);
+    /// Adds the first characters of a label, at most so many, with `?` for what is no printable ASCII or has a meaning in SVG.
+    pub(crate) fn put_label(&mut self, label: &[u8], most: usize) {
+        let shown = label.len().min(most);
         for byte in &label[..shown] {
             if self.text.push(shown_as(*byte)).is_err() {
                 self.has_gap = true;

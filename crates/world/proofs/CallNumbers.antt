@@ -16,6 +16,7 @@ use Rattle.protocol.specs.declared.tellings.Told.TheVariants.{Made, Seen}
 use Rattle.protocol.specs.Nodes.{NodeStep, put, invoked, received}
 use Rattle.protocol.specs.Worlds.{World, Operation, Event, Invokes, Delivers, Sets, Ticks, Stops, Starts, Before, After, first_world, is_brick, is_up, may_begin, may_start, delivered, number_of, packet_of, replies_with, with_made, with_seen, with_answer, world_began, world_told, world_tells, world_answered, world_answers, world_stepped, world_ticked, world_stopped, world_found, world_started, happens, run}
 use Rattle.world.proofs.Places.{value_here, value_elsewhere}
+use Rattle.protocol.proofs.Events.{EventCases, step_on, world_counting, world_handled, handled_or_not, stepped_each, started_each, always}
 
 -- the operation is of this call
 abbrev pub IsOfCallAt : ℕ → ℕ → ℕ → Operation → Type 0
@@ -105,19 +106,14 @@ stepped_same setting w brick step =
     (same_calls heard (world_stepped setting w brick step) refl refl refl)
 
 -- so a delivery, of a message that there is or is not
-delivered_same : (setting : Setting) (w : World) (number : ℕ) (found : Option Packet) → SameCalls w (delivered setting w number found)
-delivered_same setting w number None = same_calls w w refl refl refl
-delivered_same setting w number (Some packet) =
-    cond_both (is_up setting.layout w packet.to) _ w (λ (v : World). SameCalls w v)
-    (λ up.
-    let v : World = record w { replies = replies_with setting w packet; reached = put w.reached number true } in
-    same_trans w v _ (same_calls w v refl refl refl)
-    (stepped_same setting v packet.to (received setting packet.to (w.clocks packet.to.0) (w.nodes packet.to.0) packet)))
-    (λ down. same_calls w w refl refl refl)
+handled_same : (setting : Setting) (w : World) (number : ℕ) (packet : Packet) → SameCalls w (world_handled setting w number packet)
+handled_same setting w number packet =
+    same_trans w (world_counting setting w number packet) (world_handled setting w number packet) (same_calls w _ refl refl refl)
+    (stepped_same setting (world_counting setting w number packet) packet.to (step_on setting w packet))
 
 pub deliver_same : (setting : Setting) (w : World) (number : ℕ) → SameCalls w (happens setting w (Delivers number))
-unfolding happens
-deliver_same setting w number = delivered_same setting w number (packet_of w.packets number)
+deliver_same setting w number =
+    handled_or_not (SameCalls w) setting w (same_calls w w refl refl refl) number (λ packet at up. handled_same setting w number packet)
 
 -- the same operations keep what the numbers say
 numbers_kept : (w v : World) → SameCalls w v → NumbersSay w → NumbersSay v
@@ -173,51 +169,24 @@ numbers_began w brick ask step says i b k = by_brick (nat_eq i brick.0) refl
     by_brick true same = by_boot (nat_eq b step.node.boot) refl (eqb-true i brick.0 same)
     by_brick false other = older
 
--- an event
-numbers_event : (setting : Setting) (w : World) (event : Event) → NumbersSay w → NumbersSay (happens setting w event)
-unfolding happens
-numbers_event setting w (Invokes brick ask) says =
-    cond_both (may_begin setting w brick ask) (world_began w brick ask (invoked setting brick (w.clocks brick.0) (w.nodes brick.0) ask)) w NumbersSay
-    (λ may. numbers_began w brick ask (invoked setting brick (w.clocks brick.0) (w.nodes brick.0) ask) says) (λ not. says)
-numbers_event setting w (Delivers number) says =
-    numbers_kept w (delivered setting w number (packet_of w.packets number)) (delivered_same setting w number (packet_of w.packets number)) says
-numbers_event setting w (Sets brick time) says =
-    cond_both (is_brick setting.layout brick) (record w { clocks = put w.clocks brick.0 time }) w NumbersSay (λ may. says) (λ not. says)
-numbers_event setting w (Ticks brick) says =
-    cond_both (is_up setting.layout w brick) (world_ticked setting w brick) w NumbersSay (λ may. says) (λ not. says)
-numbers_event setting w (Stops brick during) says =
-    cond_both (is_up setting.layout w brick) (world_stopped setting w brick during) w NumbersSay (λ may. says) (λ not. says)
-numbers_event setting w (Starts brick openings Before) says =
-    cond_both (may_start setting.layout w brick openings) (world_started (world_found w brick Before) brick openings) w NumbersSay (λ may. says) (λ not. says)
-numbers_event setting w (Starts brick openings After) says =
-    cond_both (may_start setting.layout w brick openings) (world_started (world_found w brick After) brick openings) w NumbersSay (λ may. says) (λ not. says)
-
-numbers_run : (setting : Setting) (events : List Event) (w : World) → NumbersSay w → NumbersSay (run setting events w)
-numbers_run setting [] w says = says
-numbers_run setting (event ∷ events) w says = numbers_run setting events (happens setting w event) (numbers_event setting w event says)
+-- every event
+numbers_cases : (setting : Setting) (w : World) → NumbersSay w → EventCases setting w NumbersSay
+numbers_cases setting w says = record {
+  begins = λ brick ask may. numbers_began w brick ask (invoked setting brick (w.clocks brick.0) (w.nodes brick.0) ask) says;
+  handles = λ number packet at up. numbers_kept w (world_handled setting w number packet) (handled_same setting w number packet) says;
+  sets = λ brick time is. says;
+  ticks = λ brick up. says;
+  stops = λ brick during up. says;
+  starts = λ brick openings found may. started_each NumbersSay w brick openings says says found;
+}
 
 -- every world that a schedule reaches
 pub numbers_say : (layout : Layout) (events : List Event) → NumbersSay (run (coding layout) events (first_world layout))
-numbers_say layout events = numbers_run (coding layout) events (first_world layout) (λ i b k some. absurd (some refl))
+numbers_say layout = always NumbersSay (coding layout) (λ i b k some. absurd (some refl)) (numbers_cases (coding layout))
 
 -- each operation is of a brick of the layout
 abbrev pub AreOfBricks : Layout → World → Type 0
 AreOfBricks layout w = (n : ℕ) (o : Operation) → w.operations n ≡ Some o → is_brick layout o.brick ≡ true
-
--- an operation of the world after is one of the world before, where the same are there
-pub record SameOperations (w v : World) : Type 0 where
-  pub each : (n : ℕ) (p : Operation) → v.operations n ≡ Some p → (o : Operation) × (w.operations n ≡ Some o) × SameCall o p
-
-same_operations : (w v : World) → v.operations ≡ w.operations → SameOperations w v
-same_operations w v same = record { each = λ n p is. (p, ap (λ (f : ℕ → Option Operation). f n) (sym same) ∙ is, (refl, refl, refl)) }
-
-operations_trans : (w v u : World) → SameOperations w v → SameOperations v u → SameOperations w u
-operations_trans w v u first second = record {
-  each = λ n p is.
-      (let mid = second.each n p is in
-      let old = first.each n mid.0 mid.1 in
-      (old.0, old.1, (mid.2.0 ∙ old.2.0, mid.2.1 ∙ old.2.1, mid.2.2 ∙ old.2.2)));
-}
 
 -- one operation changed, but not its call
 one_before : (operations : ℕ → Option Operation) (at : ℕ) (change : Option Operation → Option Operation)
@@ -243,42 +212,21 @@ answer_before : (answer : Answer) (found : Option Operation) (p : Operation) →
 answer_before answer None p is = absurd (let never : None ≡ Some p = is in cc)
 answer_before answer (Some o) p is = (o, refl, subst (SameCall o) (same_Some _ p is) (refl, refl, refl))
 
-tells_before : (setting : Setting) (w : World) (brick : BrickId) (told : List Told) → SameOperations w (world_tells setting w brick told)
-tells_before setting w brick [] = same_operations w w refl
-tells_before setting w brick (Made seq t base ∷ more) =
-    operations_trans w (world_told setting w brick (Made seq t base)) (world_tells setting w brick (Made seq t base ∷ more))
-    (record { each = one_before w.operations (number_of w brick.0 seq) (with_made t base) (made_before t base) })
-    (tells_before setting (world_told setting w brick (Made seq t base)) brick more)
-tells_before setting w brick (Seen seq v ∷ more) =
-    operations_trans w (world_told setting w brick (Seen seq v)) (world_tells setting w brick (Seen seq v ∷ more))
-    (record { each = one_before w.operations (number_of w brick.0 seq) (with_seen v) (seen_before v) })
-    (tells_before setting (world_told setting w brick (Seen seq v)) brick more)
+-- a change of an operation that keeps its call keeps the bricks
+bricks_put : (layout : Layout) (w : World) (at : ℕ) (change : Option Operation → Option Operation)
+    → ((found : Option Operation) (p : Operation) → change found ≡ Some p → (o : Operation) × (found ≡ Some o) × SameCall o p) → AreOfBricks layout w
+    → (n : ℕ) (o : Operation) → put w.operations at (change (w.operations at)) n ≡ Some o → is_brick layout o.brick ≡ true
+bricks_put layout w at change same are n p is =
+    let was = one_before w.operations at change same n p is in ap (is_brick layout) was.2.0 ∙ are n was.0 was.1
 
-answers_before : (w : World) (brick : BrickId) (answers : List Answered) → SameOperations w (world_answers w brick answers)
-answers_before w brick [] = same_operations w w refl
-answers_before w brick (one ∷ more) =
-    operations_trans w (world_answered w brick one) (world_answers w brick (one ∷ more))
-    (record { each = one_before w.operations (number_of w brick.0 one.seq) (with_answer one.answer) (answer_before one.answer) })
-    (answers_before (world_answered w brick one) brick more)
-
-bricks_kept : (layout : Layout) (w v : World) → SameOperations w v → AreOfBricks layout w → AreOfBricks layout v
-bricks_kept layout w v same are n p is =
-    let was = same.each n p is in ap (is_brick layout) was.2.0 ∙ are n was.0 was.1
-
-bricks_delivered : (setting : Setting) (w : World) (number : ℕ) (found : Option Packet) → AreOfBricks setting.layout w
-    → AreOfBricks setting.layout (delivered setting w number found)
-bricks_delivered setting w number None are = are
-bricks_delivered setting w number (Some packet) are =
-    let v : World = record w { replies = replies_with setting w packet; reached = put w.reached number true } in
-    let step : NodeStep = received setting packet.to (w.clocks packet.to.0) (w.nodes packet.to.0) packet in
-    let told : World = world_tells setting v packet.to step.told in
-    let heard : World = world_answers told packet.to step.answers in
-    cond_both (is_up setting.layout w packet.to) (world_stepped setting v packet.to step) w (λ (u : World). AreOfBricks setting.layout u)
-    (λ up. bricks_kept setting.layout v (world_stepped setting v packet.to step)
-    (operations_trans v heard (world_stepped setting v packet.to step)
-    (operations_trans v told heard (tells_before setting v packet.to step.told) (answers_before told packet.to step.answers))
-    (same_operations heard (world_stepped setting v packet.to step) refl)) are)
-    (λ down. are)
+bricks_handled : (setting : Setting) (w : World) (number : ℕ) (packet : Packet) → AreOfBricks setting.layout w
+    → AreOfBricks setting.layout (world_handled setting w number packet)
+bricks_handled setting w number packet are =
+    stepped_each (AreOfBricks setting.layout) setting packet.to (step_on setting w packet)
+    (λ x seq t base. bricks_put setting.layout x (number_of x packet.to.0 seq) (with_made t base) (made_before t base))
+    (λ x seq v. bricks_put setting.layout x (number_of x packet.to.0 seq) (with_seen v) (seen_before v))
+    (λ x one. bricks_put setting.layout x (number_of x packet.to.0 one.seq) (with_answer one.answer) (answer_before one.answer))
+    (λ x nodes held packets holds. holds) (world_counting setting w number packet) are
 
 bricks_began : (layout : Layout) (w : World) (brick : BrickId) (ask : Ask) (step : NodeStep) → is_brick layout brick ≡ true → AreOfBricks layout w
     → AreOfBricks layout (world_began w brick ask step)
@@ -287,29 +235,19 @@ bricks_began layout w brick ask step there are n o =
     (λ here is. subst (λ (x : Operation). is_brick layout x.brick ≡ true) (same_Some _ o is) there)
     (λ elsewhere is. are n o is)
 
-bricks_event : (setting : Setting) (w : World) (event : Event) → AreOfBricks setting.layout w → AreOfBricks setting.layout (happens setting w event)
-unfolding happens
-bricks_event setting w (Invokes brick ask) are =
-    cond_both (may_begin setting w brick ask) (world_began w brick ask (invoked setting brick (w.clocks brick.0) (w.nodes brick.0) ask)) w
-    (AreOfBricks setting.layout)
-    (λ may. bricks_began setting.layout w brick ask (invoked setting brick (w.clocks brick.0) (w.nodes brick.0) ask)
-    (and_parts (is_brick setting.layout brick) (w.up brick.0) (and_parts (is_up setting.layout w brick) _ may).0).0 are) (λ not. are)
-bricks_event setting w (Delivers number) are = bricks_delivered setting w number (packet_of w.packets number) are
-bricks_event setting w (Sets brick time) are =
-    cond_both (is_brick setting.layout brick) (record w { clocks = put w.clocks brick.0 time }) w (AreOfBricks setting.layout) (λ may. are) (λ not. are)
-bricks_event setting w (Ticks brick) are =
-    cond_both (is_up setting.layout w brick) (world_ticked setting w brick) w (AreOfBricks setting.layout) (λ may. are) (λ not. are)
-bricks_event setting w (Stops brick during) are =
-    cond_both (is_up setting.layout w brick) (world_stopped setting w brick during) w (AreOfBricks setting.layout) (λ may. are) (λ not. are)
-bricks_event setting w (Starts brick openings Before) are =
-    cond_both (may_start setting.layout w brick openings) (world_started (world_found w brick Before) brick openings) w (AreOfBricks setting.layout) (λ may. are) (λ not. are)
-bricks_event setting w (Starts brick openings After) are =
-    cond_both (may_start setting.layout w brick openings) (world_started (world_found w brick After) brick openings) w (AreOfBricks setting.layout) (λ may. are) (λ not. are)
-
-bricks_run : (setting : Setting) (events : List Event) (w : World) → AreOfBricks setting.layout w → AreOfBricks setting.layout (run setting events w)
-bricks_run setting [] w are = are
-bricks_run setting (event ∷ events) w are = bricks_run setting events (happens setting w event) (bricks_event setting w event are)
+bricks_cases : (setting : Setting) (w : World) → AreOfBricks setting.layout w → EventCases setting w (AreOfBricks setting.layout)
+bricks_cases setting w are = record {
+  begins = λ brick ask may.
+      bricks_began setting.layout w brick ask (invoked setting brick (w.clocks brick.0) (w.nodes brick.0) ask)
+      (and_parts (is_brick setting.layout brick) (w.up brick.0) (and_parts (is_up setting.layout w brick) _ may).0).0 are;
+  handles = λ number packet at up. bricks_handled setting w number packet are;
+  sets = λ brick time is. are;
+  ticks = λ brick up. are;
+  stops = λ brick during up. are;
+  starts = λ brick openings found may. started_each (AreOfBricks setting.layout) w brick openings are are found;
+}
 
 -- so in every world that a schedule reaches
 pub of_bricks : (layout : Layout) (events : List Event) → AreOfBricks layout (run (coding layout) events (first_world layout))
-of_bricks layout events = bricks_run (coding layout) events (first_world layout) (λ n o is. absurd (let never : None ≡ Some o = is in cc))
+of_bricks layout =
+    always (AreOfBricks layout) (coding layout) (λ n o is. absurd (let never : None ≡ Some o = is in cc)) (bricks_cases (coding layout))

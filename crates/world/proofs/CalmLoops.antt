@@ -38,11 +38,11 @@ use Rattle.world.proofs.CallNumbers.{NumbersSay, AreOfBricks, deliver_same, of_b
 use Rattle.world.proofs.CalmLemmas.{noted_at}
 use Rattle.world.proofs.CalmRuns.{begins_more, begins_run, runs_ended, runs_stuck, keeps_more, left_as, next_found, next_none}
 use Rattle.world.proofs.LedgerLemmas.{KnowsCalls, told_reached, answers_reached}
-use Rattle.world.proofs.MachineBegins.{after_message, happens_handled}
+use Rattle.world.proofs.MachineBegins.{happens_handled}
 use Rattle.world.proofs.Firsts.{found_from}
 use Rattle.world.proofs.Places.{append_get}
 use Rattle.world.proofs.RunLaws.{reached_numbers, reached_knows}
-use Rattle.calm_laws.proofs.Schedules.{run-append}
+use Rattle.protocol.proofs.Events.{run-append, world_handled}
 
 -- what is told and answered stops no brick
 told_up : (setting : Setting) (w : World) (brick : BrickId) (told : List Told) → (world_tells setting w brick told).up ≡ w.up
@@ -89,7 +89,7 @@ module _ (setting : Setting) (w : World) (number : ℕ) (packet : Packet) (sent 
   abbrev marked : World
   marked = record w { replies = replies_with setting w packet; reached = put w.reached number true }
 
-  after_is : happens setting w (Delivers number) ≡ after_message setting w number packet
+  after_is : happens setting w (Delivers number) ≡ world_handled setting w number packet
   after_is = happens_handled setting w number packet sent up
 
   reached_after : (k : ℕ) → (happens setting w (Delivers number)).reached k ≡ put w.reached number true k

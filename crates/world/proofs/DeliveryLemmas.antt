@@ -33,10 +33,11 @@ use Rattle.world.proofs.HistoryLemmas.{tells_during}
 use Rattle.world.specs.declared.bricks.Brick.{Brick}
 use Rattle.world.specs.declared.ledgers.Ledger.{Ledger}
 use Rattle.world.proofs.LedgerLemmas.{notes_stop_event, notes_start_event}
-use Rattle.world.proofs.MachineBegins.{after_message, happens_handled, happens_stopped_during, happens_unsent, happens_astray}
+use Rattle.world.proofs.MachineBegins.{happens_handled, happens_stopped_during, happens_unsent, happens_astray}
 use Rattle.world.proofs.RunLaws.{reached_books}
 use Rattle.world.proofs.RunLemmas.{came_text, start_few}
 use Rattle.world.proofs.SimulationLemmas.{shows_still, shows_handled, handled_here, handled_astray}
+use Rattle.protocol.proofs.Events.{world_handled}
 
 -- two things that are known of a result
 pub ok_both : {T E P : Type 0} (r : Result T E) (Q R : T → Type 0) → ((x : T) → P → Q x → R x) → OnOk r P → IfOk r Q → IfOk r R
@@ -101,7 +102,7 @@ module _ (layout : Layout) (w : World) (old new : Simulation) (number : ℕ) (fa
   pub whole_comes : (outs : Sent) → HandledWhole layout w packet.to packet fault old.bricks.items new.bricks.items outs
       → Tells new.history (world_stepped (coding layout) (record w { replies = replies_with (coding layout) w packet; reached = put w.reached number true }) packet.to
       (received (coding layout) packet.to (w.clocks packet.to.0) (w.nodes packet.to.0) packet))
-      → Notes new.ledger (after_message (coding layout) w number packet)
+      → Notes new.ledger (world_handled (coding layout) w number packet)
       → Comes layout w (disks_of old.bricks.items) new (Deliver number fault) Marks
   whole_comes outs handled history notes =
       one_event layout w (disks_of old.bricks.items) new (Deliver number fault) Marks (Delivers number)

@@ -22,7 +22,7 @@ use Rattle.protocol_laws.proofs.BooksEvents.{books}
 use Rattle.protocol_laws.proofs.Effects.{told_all}
 use Rattle.protocol_laws.proofs.Entries.{IsEntryOf, entries_of}
 use Rattle.protocol_laws.proofs.Sorting.{ascending_permutation}
-use Rattle.protocol_laws.proofs.StripeLives.{life_filtered}
+use Rattle.reg_model.proofs.StripeLives.{life_filtered}
 use Rattle.world.specs.declared.histories.KeptOperation.{KeptOperation}
 use Rattle.world.specs.Shown.{TellsOperation}
 use Rattle.world.specs.Walks.{KeepsAll, BeginsAgree, BeginAsMarked, op_that, operation_of, operations_of, begin_at}

@@ -15,6 +15,7 @@ use Rattle.protocol.specs.Nodes.{Node, group_at, put, has_block, has_length, is_
 use Rattle.protocol.specs.Worlds.{World, Invokes, Delivers, Sets, Ticks, Stops, Starts, Found, is_up, may_start, world_began, world_stepped, world_ticked, world_stopped, world_found, world_started, replies_with, delivered, packet_of, happens}
 use Rattle.world.specs.Runs.{ask_of, refusal_at}
 use Rattle.world.proofs.Places.{value_here, value_elsewhere}
+use Rattle.protocol.proofs.Events.{world_handled}
 
 -- where there is no such group there is no such stripe
 pub refused_no_group : (layout : Layout) (g s : ℕ) (node : Node) (op : Op) → group_of layout g ≡ None
@@ -135,12 +136,6 @@ pub invoked_boot : (setting : Setting) (brick : BrickId) (now : ℕ) (node : Nod
 unfolding invoked
 invoked_boot setting brick now node ask = invoked_boot_in setting brick now node ask (group_at setting.layout node ask.group.0)
 
--- the world after its brick handled the message of a number
-abbrev pub after_message : Setting → World → ℕ → Packet → World
-after_message setting w number packet =
-    let step = received setting packet.to (w.clocks packet.to.0) (w.nodes packet.to.0) packet in
-    world_stepped setting (record w { replies = replies_with setting w packet; reached = put w.reached number true }) packet.to step
-
 -- a number that was not sent changes nothing
 pub happens_unsent : (setting : Setting) (w : World) (number : ℕ) → packet_of w.packets number ≡ None → happens setting w (Delivers number) ≡ w
 unfolding happens
@@ -150,13 +145,13 @@ happens_unsent setting w number none = ap (delivered setting w number) none
 pub happens_astray : (setting : Setting) (w : World) (number : ℕ) (packet : Packet) → packet_of w.packets number ≡ Some packet
     → is_up setting.layout w packet.to ≡ false → happens setting w (Delivers number) ≡ w
 unfolding happens
-happens_astray setting w number packet sent down = ap (delivered setting w number) sent ∙ ap (λ b. cond b (after_message setting w number packet) w) down
+happens_astray setting w number packet sent down = ap (delivered setting w number) sent ∙ ap (λ b. cond b (world_handled setting w number packet) w) down
 
 -- a message is handled by its brick
 pub happens_handled : (setting : Setting) (w : World) (number : ℕ) (packet : Packet) → packet_of w.packets number ≡ Some packet
-    → is_up setting.layout w packet.to ≡ true → happens setting w (Delivers number) ≡ after_message setting w number packet
+    → is_up setting.layout w packet.to ≡ true → happens setting w (Delivers number) ≡ world_handled setting w number packet
 unfolding happens
-happens_handled setting w number packet sent up = ap (delivered setting w number) sent ∙ ap (λ b. cond b (after_message setting w number packet) w) up
+happens_handled setting w number packet sent up = ap (delivered setting w number) sent ∙ ap (λ b. cond b (world_handled setting w number packet) w) up
 
 -- a clock is set
 pub happens_set : (setting : Setting) (w : World) (brick : BrickId) (time : ℕ) → brick.0 < setting.layout.bricks

@@ -29,7 +29,7 @@ use Rattle.world.specs.Faults.{IsEventsOf, IsStartOf, StaysDown, IsStarted, IsNo
 use Rattle.world.specs.Disks.{ShowsDiskOf, ShowsDisks, KeepsDisks, LeavesContents}
 use Rattle.world.specs.Shown.{IsNumbered, Shows, ShowsBricks, ShowsPower, ComesTo, Refused, disk_in, disks_of, came_to}
 use Rattle.calm_laws.specs.Logs.{is_stripe}
-use Rattle.calm_laws.proofs.Schedules.{run-append}
+use Rattle.protocol.proofs.Events.{run-append, EventCases, step_on, world_counting, stepped_each, started_each, run_each, world_handled}
 use Rattle.world.specs.Steps.{Runs, RunsTo, LeavesSome, with_step, log_at}
 use Rattle.world.specs.Standing.{Leaves}
 use Rattle.world.specs.Ledgers.{Notes}
@@ -39,7 +39,6 @@ use Rattle.world.specs.declared.bricks.Power.{Power}
 use Rattle.world.specs.declared.bricks.Power.TheVariants.{Up, Down}
 use Rattle.world.specs.declared.simulations.Outcome.{Outcome}
 use Rattle.world.specs.declared.simulations.Simulation.{Simulation}
-use Rattle.world.proofs.MachineBegins.{after_message}
 
 -- the events of one step more
 pub all_events-more : (steps : List Step) (step : Step) → all_events (steps ++ step ∷ []) ≡ all_events steps ++ step.events
@@ -117,60 +116,28 @@ log_at_down r b g s down =
     never false = refl
 
 -- marks are only added
-told_marks : (setting : Setting) (w : World) (brick : BrickId) (told : List Told) → (world_tells setting w brick told).marks ≡ w.marks
-told_marks setting w brick [] = refl
-told_marks setting w brick (told.Made seq stamp base ∷ more) = told_marks setting (world_told setting w brick (told.Made seq stamp base)) brick more
-told_marks setting w brick (told.Seen seq stamp ∷ more) = told_marks setting (world_told setting w brick (told.Seen seq stamp)) brick more
+abbrev HasAtLeast : ℕ → World → Type 0
+HasAtLeast marks w = marks ≤ length w.marks
 
-answers_grow : (w : World) (brick : BrickId) (answers : List Answered) → length w.marks ≤ length (world_answers w brick answers).marks
-answers_grow w brick [] = omega arith
-answers_grow w brick (one ∷ more) =
-    omega (
-      arith,
-      length-append w.marks (mark.End (length w.marks) (number_of w brick.0 one.seq) one.answer ∷ []),
-      answers_grow (world_answered w brick one) brick more,
-    )
+grown_by : (marks : List Mark) (mark : Mark) (least : ℕ) → least ≤ length marks → least ≤ length (marks ++ (mark ∷ []))
+grown_by marks mark least few = omega (arith, few, length-append marks (mark ∷ []))
 
-stepped_grows : (setting : Setting) (w : World) (brick : BrickId) (step : NodeStep) → length w.marks ≤ length (world_stepped setting w brick step).marks
-stepped_grows setting w brick step =
-    let told : World = world_tells setting w brick step.told in
-    omega (arith, ap length (told_marks setting w brick step.told), answers_grow told brick step.answers)
-
-found_grows : (w : World) (brick : BrickId) (openings : ℕ) (found : Found)
-    → length w.marks ≤ length (world_started (world_found w brick found) brick openings).marks
-found_grows w brick openings Before = omega arith
-found_grows w brick openings After = omega arith
-
-happens_grows : (setting : Setting) (w : World) (event : Event) → length w.marks ≤ length (happens setting w event).marks
-unfolding happens
-happens_grows setting w (Invokes brick ask) =
-    cond_both (may_begin setting w brick ask) (world_began w brick ask (invoked setting brick (w.clocks brick.0) (w.nodes brick.0) ask)) w
-    (λ (v : World). length w.marks ≤ length v.marks)
-    (λ is. omega (arith, length-append w.marks (mark.Begin (length w.marks) (w.begun + 1) brick ask ∷ []))) (λ isnt. omega arith)
-happens_grows setting w (Delivers number) = delivered_grows (packet_of w.packets number)
-  where
-    delivered_grows : (packet : Option Packet) → length w.marks ≤ length (delivered setting w number packet).marks
-    delivered_grows None = omega arith
-    delivered_grows (Some packet) =
-        cond_both (is_up setting.layout w packet.to) (after_message setting w number packet) w (λ (v : World). length w.marks ≤ length v.marks)
-        (λ is. stepped_grows setting (record w { replies = replies_with setting w packet; reached = put w.reached number true }) packet.to
-        (received setting packet.to (w.clocks packet.to.0) (w.nodes packet.to.0) packet)) (λ isnt. omega arith)
-happens_grows setting w (Sets brick time) =
-    cond_both (is_brick setting.layout brick) (record w { clocks = put w.clocks brick.0 time }) w (λ (v : World). length w.marks ≤ length v.marks)
-    (λ is. omega arith) (λ isnt. omega arith)
-happens_grows setting w (Ticks brick) =
-    cond_both (is_up setting.layout w brick) (world_ticked setting w brick) w (λ (v : World). length w.marks ≤ length v.marks)
-    (λ is. omega arith) (λ isnt. omega arith)
-happens_grows setting w (Stops brick during) =
-    cond_both (is_up setting.layout w brick) (world_stopped setting w brick during) w (λ (v : World). length w.marks ≤ length v.marks)
-    (λ is. omega (arith, length-append w.marks (mark.Crash (length w.marks) brick ∷ []))) (λ isnt. omega arith)
-happens_grows setting w (Starts brick openings found) =
-    cond_both (may_start setting.layout w brick openings) (world_started (world_found w brick found) brick openings) w
-    (λ (v : World). length w.marks ≤ length v.marks) (λ is. found_grows w brick openings found) (λ isnt. omega arith)
+grow_cases : (setting : Setting) (least : ℕ) (w : World) → HasAtLeast least w → EventCases setting w (HasAtLeast least)
+grow_cases setting least w few = record {
+  begins = λ brick ask may. grown_by w.marks (mark.Begin (length w.marks) (w.begun + 1) brick ask) least few;
+  handles = λ number packet at up.
+      stepped_each (HasAtLeast least) setting packet.to (step_on setting w packet) (λ x seq t base holds. holds) (λ x seq v holds. holds)
+      (λ x one holds. grown_by x.marks (mark.End (length x.marks) (number_of x packet.to.0 one.seq) one.answer) least holds)
+      (λ x nodes held packets holds. holds) (world_counting setting w number packet) few;
+  sets = λ brick time is. few;
+  ticks = λ brick up. few;
+  stops = λ brick during up. grown_by w.marks (mark.Crash (length w.marks) brick) least few;
+  starts = λ brick openings found may. started_each (HasAtLeast least) w brick openings few few found;
+}
 
 run_grows : (setting : Setting) (w : World) (events : List Event) → length w.marks ≤ length (run setting events w).marks
-run_grows setting w [] = omega arith
-run_grows setting w (event ∷ events) = omega (arith, happens_grows setting w event, run_grows setting (happens setting w event) events)
+run_grows setting w events =
+    run_each (HasAtLeast (length w.marks)) (λ x. Unit {0}) setting (λ x known. grow_cases setting (length w.marks) x) events w (λ more. tt) (omega arith)
 
 -- so a run with one step more has no fewer
 pub marks_grow : (layout : Layout) (old new : List Step) (step : Step) (before disks : List MemDisk) → new ≡ old ++ step ∷ []

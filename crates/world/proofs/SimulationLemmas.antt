@@ -21,8 +21,9 @@ use Rattle.world.specs.declared.bricks.Power.{Power}
 use Rattle.world.specs.declared.bricks.Power.TheVariants.{Up, Down}
 use Rattle.fab_disk.specs.declared.mem_disk.MemDisk.{MemDisk}
 use Rattle.world.specs.declared.simulations.Simulation.{Simulation}
-use Rattle.world.proofs.MachineBegins.{happens_begun, happens_handled, happens_set, happens_ticked, happens_stopped, after_message}
+use Rattle.world.proofs.MachineBegins.{happens_begun, happens_handled, happens_set, happens_ticked, happens_stopped}
 use Rattle.world.proofs.HistoryLemmas.{tells_other, calls_same, heard_keeps}
+use Rattle.protocol.proofs.Events.{world_handled}
 
 -- what holds anyway holds where there is an error
 pub on_err_always : {T E P : Type 0} (r : Result T E) → P → OnErr r P
@@ -83,20 +84,20 @@ pub shows_handled : (layout : Layout) (state : Simulation) (w : World) (number :
     → is_up layout w packet.to ≡ true
     → ShowsBricks layout state.bricks.items
     (put w.nodes packet.to.0 (received (coding layout) packet.to (w.clocks packet.to.0) (w.nodes packet.to.0) packet).node) w.after w.up w.clocks
-    → Tells state.history (after_message (coding layout) w number packet)
+    → Tells state.history (world_handled (coding layout) w number packet)
     → Shows layout state (happens (coding layout) w (Delivers number))
 shows_handled layout state w number packet sent up bricks history =
     let step : NodeStep = received (coding layout) packet.to (w.clocks packet.to.0) (w.nodes packet.to.0) packet in
     let v : World = record w { replies = replies_with (coding layout) w packet; reached = put w.reached number true } in
     subst (λ (x : World). Shows layout state x) (sym (happens_handled (coding layout) w number packet sent up))
     (record {
-      bricks = subst (λ (f : ℕ → ℕ). ShowsBricks layout state.bricks.items (after_message (coding layout) w number packet).nodes
-          (after_message (coding layout) w number packet).after (after_message (coding layout) w number packet).up f)
+      bricks = subst (λ (f : ℕ → ℕ). ShowsBricks layout state.bricks.items (world_handled (coding layout) w number packet).nodes
+          (world_handled (coding layout) w number packet).after (world_handled (coding layout) w number packet).up f)
           (sym (heard_keeps (coding layout) v packet.to step).clocks)
-          (subst (λ (f : ℕ → Bool). ShowsBricks layout state.bricks.items (after_message (coding layout) w number packet).nodes
-          (after_message (coding layout) w number packet).after f w.clocks)
+          (subst (λ (f : ℕ → Bool). ShowsBricks layout state.bricks.items (world_handled (coding layout) w number packet).nodes
+          (world_handled (coding layout) w number packet).after f w.clocks)
           (sym (heard_keeps (coding layout) v packet.to step).up)
-          (subst (λ (f : ℕ → Node). ShowsBricks layout state.bricks.items (after_message (coding layout) w number packet).nodes f w.up w.clocks)
+          (subst (λ (f : ℕ → Node). ShowsBricks layout state.bricks.items (world_handled (coding layout) w number packet).nodes f w.up w.clocks)
           (sym (heard_keeps (coding layout) v packet.to step).after)
           bricks));
       history = history;

@@ -133,5 +133,6 @@ abbrev pub line_text : Setting → World → Line → List Event → List ℕ
 line_text setting w line [] = empty_text line
 line_text setting w line (event ∷ events) = text_of setting w (event ∷ events)
 
+-- what a step prints
 abbrev pub step_text : Setting → World → Step → List ℕ
 step_text setting w step = line_text setting w step.line step.events

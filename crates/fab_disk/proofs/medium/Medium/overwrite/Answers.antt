@@ -1,6 +1,6 @@
 use Rattle.std.proofs.Common.{◌≡◌, ◌+◌, ◌-◌, [], ◌∷◌, ◌++◌, List, ℕ, length, min, slice_range, reverse, refl, sym, ◌∙◌, ap, subst, arith, rules}
 use Rattle.fab_disk.specs.Disk.{Torn}
-use Rattle.fab_disk.specs.Past.{Change, Past, wrote, past_of, IsPlaced, Fits}
+use Rattle.fab_disk.specs.Past.{PastWrite, Past, wrote, past_of, IsPlaced, Fits}
 use Rattle.fab_disk.specs.Held.{HoldsWritten, HoldsSeam}
 use Rattle.fab_disk.specs.declared.pages.Page.{Page}
 use Rattle.fab_disk.proofs.Held.{written_more, seam_more}
@@ -61,7 +61,7 @@ invariant_of-self c =
     (let same : c.min-start.result + (c.min.result - c.min-start.result) ≡ min (at + length from) (length old) = omega arith in same) in
     let torn : Torn at (length from) old new = subst (λ (l : List ℕ). Torn at (length from) old l) (sym c.write.ensures.bytes)
     (written_torn at from old) in
-    let change : Change = change_of step stood in
+    let change : PastWrite = change_of step stood in
     let front : ℕ = length self.content.front.items in
     let pages : List Page = c.write.new.self.pages.items in
     let past : List Past = past_of (reverse self.steps.items) self.saved.items in

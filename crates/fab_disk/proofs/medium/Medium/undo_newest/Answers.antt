@@ -3,7 +3,7 @@ use Rattle.std.proofs.lemmas.List.{take_at, length-take, length-drop}
 use Rattle.fab_disk.specs.Pages.{held_at}
 use Rattle.fab_disk.specs.Held.{HoldsWritten, HoldsSeam}
 use Rattle.fab_disk.specs.declared.pages.Page.{Page}
-use Rattle.fab_disk.specs.Past.{Change, Past, wrote, past_of, Fits}
+use Rattle.fab_disk.specs.Past.{PastWrite, Past, wrote, past_of, Fits}
 use Rattle.fab_disk.specs.declared.medium.Step.{Step}
 use Rattle.fab_disk.specs.declared.medium.Step.TheVariants.{Wrote}
 use Rattle.fab_disk.proofs.Pasts.{change_of, past_split}
@@ -35,7 +35,7 @@ invariant_of-self-2 c =
     let older : List Step = c.in-Some-Wrote-default.older.now in
     let split : self.steps.items ≡ older ++ Wrote write ∷ [] = search rules in
     let saved : List ℕ = self.saved.items in
-    let change : Change = change_of write (drop (length saved - write.kept) saved) in
+    let change : PastWrite = change_of write (drop (length saved - write.kept) saved) in
     let past : past_of (reverse self.steps.items) saved ≡ wrote change ∷ past_of (reverse older) (take (length saved - write.kept) saved) =
     past_split self.steps.items older write saved split in
     let steps : c.truncate-3.new.self.items ≡ older =

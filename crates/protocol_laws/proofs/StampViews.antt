@@ -1,0 +1,377 @@
+-- The stamps of a part, of a call and of a request are of its own view, and what a brick keeps of views that it has not learnt is fresh: so it is in every
+-- run, whatever members the views have.
+use Rattle.std.proofs.Common.{◌≡◌, ℕ, ◌+◌, ◌≤◌, ◌<◌, ◌⊎◌, inl, inr, ⊎_elim, false, nat_eq, List, Option, Some, None, refl, sym, ap, ◌∙◌, subst, arith}
+use Rattle.std.specs.Prelude.{slice_get}
+use Rattle.std.proofs.lemmas.Bool.{cond_both}
+use Rattle.std.proofs.lemmas.Bool.Decides.{nat_tests}
+use Rattle.std.proofs.lemmas.Option.{same_Some}
+use Rattle.fab_base.specs.declared.identities.BrickId.{BrickId}
+use Rattle.fab_base.specs.declared.identities.ViewNo.{ViewNo}
+use Rattle.fab_base.specs.declared.asks.Ask.{Ask}
+use Rattle.fab_base.specs.declared.stamps.Stamp.{Stamp}
+use Rattle.fab_base.specs.Stamps.{stamp_below, first_stamp}
+use Rattle.fab_base.specs.Layouts.{Layout, Group}
+use Rattle.messages.specs.declared.calls.Call.{Call}
+use Rattle.messages.specs.declared.packets.Message.{Message}
+use Rattle.messages.specs.declared.packets.Packet.{Packet}
+use Rattle.messages.specs.declared.replies.Reply.{Reply}
+use Rattle.messages.specs.declared.requests.Request.{Request}
+use Rattle.messages.specs.declared.requests.Version.{Version}
+use Rattle.protocol.specs.Settings.{Setting, Code}
+use Rattle.protocol.specs.Views.{view_of}
+use Rattle.protocol.specs.Replicas.{Replica, Reaction, first_replica, fresh_replica, handle, top_of}
+use Rattle.protocol.specs.declared.phases.Phase.{Phase}
+use Rattle.protocol.specs.declared.phases.Phase.TheVariants.{Looks, LooksAt, Orders, OrdersAt, Recovers, Descends, Modifies, Bases, Stores}
+use Rattle.protocol.specs.Coordinators.{Coordinator, Next, Ignores, Waits, Sends, Makes, Ends, with_reply, once_full, counted_at, counts_at, on_reply, request_of}
+use Rattle.protocol.specs.Nodes.{Node, NodeStep, view_at, view_floor, put, first_node, no_step, phase_packets, new_coordinator, began, invoked, replica_at, full_at, requested, known_after, with_call, carried_out, has_later_time, new_stamp, fresh_stamp, group_at, replied_at, replied, received, absorbed, ticked, stopped, restarted}
+use Rattle.protocol.specs.Worlds.{World, Event, After, first_world, packet_during, left_after, world_found, world_started, run}
+use Rattle.protocol.proofs.Events.{EventCases, step_on, started_each, always, world_counting}
+use Rattle.protocol.proofs.Packets.{OfEach, each_none, each_both, each_member, each_collect, each_reply, each_ticked}
+use Rattle.protocol_laws.specs.Laws.{stamp_asked}
+use Rattle.protocol_laws.proofs.Left.{after_stepped, packet_was_sent, during_was_sent}
+use Rattle.protocol_laws.proofs.Outcomes.{ReordersFits, RecoversFits, RebuildsFits, NextFits, once_full_fits}
+use Rattle.protocol_laws.proofs.Reactions.{IsAfter, StoresBlock, handle_after, after_log, after_order, store_asked}
+use Rattle.protocol.proofs.Served.{request_each, parts_each}
+use Rattle.protocol.proofs.Tables.{put_each, get_one}
+use Rattle.protocol_laws.proofs.Tops.{view_above}
+
+-- a part of a view: its order stamp is the first or of the view, and its versions are of the view
+pub record PartIsOf (e : ℕ) (part : Replica) : Type 0 where
+  pub order : (part.order ≡ first_stamp) ⊎ (part.order.view.0 ≡ e)
+  pub log : (k : ℕ) (version : Version) → slice_get part.log k ≡ Some version → view_of version.stamp ≡ e
+
+-- an open operation's stamp is of its call's view
+abbrev pub CallIsOf : Coordinator → Type 0
+CallIsOf c = c.stamp.view.0 ≡ c.call.view.0
+
+-- a brick
+pub record NodeViews (layout : Layout) (node : Node) : Type 0 where
+  pub views : (g : ℕ) → 1 ≤ view_at node g
+  pub parts : (g e s : ℕ) → PartIsOf e (node.replicas g e s)
+  pub fresh : (g e s : ℕ) → view_at node g < e → node.replicas g e s ≡ fresh_replica layout.block e
+  pub calls : (k : ℕ) (c : Coordinator) → node.calls k ≡ Some c → CallIsOf c
+
+-- a request asks at a stamp of its call's view
+abbrev pub RequestIsOf : Call → Request → Type 0
+RequestIsOf call request = (t : Stamp) → stamp_asked request ≡ Some t → t.view.0 ≡ call.view.0
+
+abbrev pub MessageIsOf : Message → Type 0
+MessageIsOf (Message.Request call request) = RequestIsOf call request
+MessageIsOf message = Unit {0}
+
+abbrev pub PacketIsOf : Packet → Type 0
+PacketIsOf packet = MessageIsOf packet.message
+
+-- all bricks, what the stores of those that are down would have kept, and all packets
+pub record StampViews (layout : Layout) (w : World) : Type 0 where
+  pub nodes : (i : ℕ) → NodeViews layout (w.nodes i)
+  pub after : (i : ℕ) → NodeViews layout (w.after i)
+  pub packets : OfEach PacketIsOf w.packets
+
+-- what a phase asks for is its operation's stamp
+pub asked_own : (code : Code) (c : Coordinator) (seat : ℕ) (t : Stamp) → stamp_asked (request_of code c seat) ≡ Some t → t ≡ c.stamp
+unfolding request_of
+asked_own code c seat = of c.phase
+  where
+    of : (phase : Phase) (t : Stamp) → stamp_asked (request_of code (record c { phase = phase }) seat) ≡ Some t → t ≡ c.stamp
+    of Looks t is = absurd (let never : None ≡ Some t = is in cc)
+    of (LooksAt j) t is = absurd (let never : None ≡ Some t = is in cc)
+    of Orders t is = sym (same_Some c.stamp t is)
+    of (OrdersAt j) t is = sym (same_Some c.stamp t is)
+    of Recovers t is = sym (same_Some c.stamp t is)
+    of (Descends bound) t is = sym (same_Some c.stamp t is)
+    of (Modifies base j) t is = sym (same_Some c.stamp t is)
+    of (Bases base) t is = sym (same_Some c.stamp t is)
+    of Stores t is = sym (same_Some c.stamp t is)
+
+request_is : (code : Code) (c : Coordinator) → CallIsOf c → (seat : ℕ) → RequestIsOf c.call (request_of code c seat)
+request_is code c is seat t asked = ap (λ (z : Stamp). z.view.0) (asked_own code c seat t asked) ∙ is
+
+-- a number of a view is that of its stamps
+view_same : (e : ℕ) (t : Stamp) → 1 ≤ e → t.view.0 ≡ e → view_of t ≡ e
+view_same e t some is = omega (arith, some, is)
+
+-- what a request to the part in the learnt view asks at is of that view
+asked_view : (layout : Layout) (node : Node) (call : Call) (request : Request) → NodeViews layout node → RequestIsOf call request
+    → call.view.0 ≡ view_at node call.group.0 → (t : Stamp) → stamp_asked request ≡ Some t → view_of t ≡ call.view.0
+asked_view layout node call request has asks view t is =
+    let some = has.views call.group.0 in view_same call.view.0 t (omega (arith, view, some)) (asks t is)
+
+-- and not below what the brick has learnt, where it has accepted nothing
+pub asks_above : (layout : Layout) (node : Node) (call : Call) (request : Request) → NodeViews layout node → RequestIsOf call request
+    → call.view.0 ≡ view_at node call.group.0 → node.accepted call.group.0 ≡ false → (t : Stamp) → stamp_asked request ≡ Some t
+    → stamp_below t (view_floor node call.group.0) ≡ false
+asks_above layout node call request has asks view free t is =
+    view_above node call.group.0 t free (asked_view layout node call request has asks view t is ∙ view)
+
+-- a member handles a request
+module _ (setting : Setting) (node : Node) (call : Call) (request : Request) (has : NodeViews setting.layout node)
+    (asks : RequestIsOf call request) where
+  part_after : (m seat : ℕ) (part next : Replica) → call.view.0 ≡ view_at node call.group.0 → PartIsOf call.view.0 part
+      → IsAfter setting.code m seat part request next → PartIsOf call.view.0 next
+  part_after m seat part next view was after = record {
+    order = ⊎_elim
+        (λ (same : next.order ≡ part.order). subst (λ (z : Stamp). (z ≡ first_stamp) ⊎ (z.view.0 ≡ call.view.0)) (sym same) was.order)
+        (λ (new : (stamp_asked request ≡ Some next.order) × (stamp_below next.order (top_of part) ≡ false)). inr (asks next.order new.0))
+        (after_order setting.code m seat part request next after);
+    log = λ k version at. ⊎_elim
+        (λ (old : (j : ℕ) × (slice_get part.log j ≡ Some version)). was.log old.0 version old.1)
+        (λ (new : StoresBlock setting.code m seat part request version.stamp version.block).
+        asked_view setting.layout node call request has asks view version.stamp (store_asked setting.code m seat part request version.stamp version.block new))
+        (after_log setting.code m seat part request next k version after at);
+  }
+
+-- a step keeps a brick's views, and sends packets of theirs
+pub record StepViews (layout : Layout) (step : NodeStep) : Type 0 where
+  pub node : NodeViews layout step.node
+  pub packets : OfEach PacketIsOf step.packets
+
+quiet_views : (layout : Layout) (node : Node) → NodeViews layout node → StepViews layout (no_step node)
+quiet_views layout node has = record { node = has; packets = each_none PacketIsOf }
+
+requested_views : (setting : Setting) (me from : BrickId) (node : Node) (call : Call) (request : Request) → NodeViews setting.layout node
+    → RequestIsOf call request → StepViews setting.layout (requested setting me from node call request)
+requested_views setting me from node call request has asks =
+    request_each (λ (step : NodeStep). StepViews setting.layout step) setting me from node call request (quiet_views setting.layout node has)
+    (λ group seat here at view.
+    let full : Option ℕ = full_at setting.layout.records node.live in
+    let reaction : Reaction = handle setting.code group.m full seat (replica_at node call) request in
+    record {
+      node = record {
+        views = has.views;
+        parts = parts_each (λ g e s r. PartIsOf e r) node call reaction
+            (part_after setting node call request has asks group.m seat (replica_at node call) reaction.replica view
+            (has.parts call.group.0 call.view.0 call.stripe.0) (handle_after setting.code group.m seat full (replica_at node call) request))
+            has.parts;
+        fresh = λ g e s later.
+            parts_each (λ h v r x. view_at node h < v → x ≡ fresh_replica setting.layout.block v) node call reaction
+            (λ above. absurd (omega (arith, view, above))) (λ h v r above. has.fresh h v r above) g e s later;
+        calls = has.calls;
+      };
+      packets = each_reply PacketIsOf me from call reaction.reply (λ r is. tt);
+    })
+
+-- what a coordinator decides
+abbrev NextIsOf : Next → Type 0
+NextIsOf (Waits d) = CallIsOf d
+NextIsOf (Sends d) = CallIsOf d
+NextIsOf (Makes d) = CallIsOf d
+NextIsOf next = Unit {0}
+
+same_view : (c d : Coordinator) → CallIsOf c → d.stamp ≡ c.stamp → d.call.view ≡ c.call.view → CallIsOf d
+same_view c d is stamp view = ap (λ (z : Stamp). z.view.0) stamp ∙ is ∙ sym (ap (λ (z : ViewNo). z.0) view)
+
+next_views : (fresh : Option Stamp) (c : Coordinator) (next : Next) → NextFits fresh c next → CallIsOf c
+    → ((t : Stamp) → fresh ≡ Some t → t.view.0 ≡ c.call.view.0) → NextIsOf next
+next_views fresh c Ignores fits is made = tt
+next_views fresh c (Waits d) fits is made = same_view c d is fits.stamp fits.same.view
+next_views fresh c (Sends d) fits is made = ⊎_elim
+    (λ (again : ReordersFits fresh c d). made d.stamp again.stamp ∙ sym (ap (λ (z : ViewNo). z.0) fits.same.view))
+    (λ (other : RecoversFits c d ⊎ RebuildsFits c d). ⊎_elim
+    (λ (recovers : RecoversFits c d). same_view c d is recovers.stamp fits.same.view)
+    (λ (rebuilds : RebuildsFits c d). same_view c d is rebuilds.stamp fits.same.view)
+    other)
+    fits.how
+next_views fresh c (Makes d) fits is made = same_view c d is fits.stamp fits.same.view
+next_views fresh c (Ends answer seen held) fits is made = tt
+
+-- a brick with one call changed
+call_put : (layout : Layout) (node : Node) (known busy seq : ℕ) (call : Option Coordinator) → NodeViews layout node
+    → ((c : Coordinator) → call ≡ Some c → CallIsOf c) → NodeViews layout (with_call node known busy seq call)
+call_put layout node known busy seq call has new = record {
+  views = has.views;
+  parts = has.parts;
+  fresh = has.fresh;
+  calls = put_each (λ k z. (c : Coordinator) → z ≡ Some c → CallIsOf c) node.calls seq call new (λ k other. has.calls k);
+}
+
+some_call : (d c : Coordinator) → CallIsOf d → Some d ≡ Some c → CallIsOf c
+some_call d c is same = subst (λ (z : Coordinator). CallIsOf z) (same_Some d c same) is
+
+phase_views : (setting : Setting) (me : BrickId) (c : Coordinator) → CallIsOf c → OfEach PacketIsOf (phase_packets setting me c)
+phase_views setting me c is =
+    each_member PacketIsOf me c.call (request_of setting.code c) (λ seat to. request_is setting.code c is seat) 0 c.group.members
+
+carried_views : (setting : Setting) (me : BrickId) (node : Node) (known : ℕ) (c : Coordinator) (next : Next) → NodeViews setting.layout node
+    → NextIsOf next → StepViews setting.layout (carried_out setting me node known c next)
+carried_views setting me node known c Ignores has is =
+    record { node = record { views = has.views; parts = has.parts; fresh = has.fresh; calls = has.calls }; packets = each_none PacketIsOf }
+carried_views setting me node known c (Waits d) has is =
+    record { node = call_put setting.layout node _ _ _ (Some d) has (λ e same. some_call d e is same); packets = each_none PacketIsOf }
+carried_views setting me node known c (Sends d) has is =
+    record { node = call_put setting.layout node _ _ _ (Some d) has (λ e same. some_call d e is same); packets = phase_views setting me d is }
+carried_views setting me node known c (Makes d) has is =
+    record { node = call_put setting.layout node _ _ _ (Some d) has (λ e same. some_call d e is same); packets = phase_views setting me d is }
+carried_views setting me node known c (Ends answer seen held) has is = record {
+  node = call_put setting.layout node _ _ _ None has (λ e same. absurd (let never : None ≡ Some e = same in cc));
+  packets = each_collect PacketIsOf me c held (λ t to u asked. absurd (let never : None ≡ Some u = asked in cc));
+}
+
+-- a new round's stamp is of the call's view
+fresh_view : (me : BrickId) (view : ViewNo) (now boot known : ℕ) (t : Stamp) → fresh_stamp me view now boot known ≡ Some t → t.view.0 ≡ view.0
+fresh_view me view now boot known t =
+    cond_both (has_later_time known) (Some (new_stamp me view now boot known)) None (λ (z : Option Stamp). z ≡ Some t → t.view.0 ≡ view.0)
+    (λ later is. ap (λ (z : Stamp). z.view.0) (sym (same_Some (new_stamp me view now boot known) t is)))
+    (λ spent is. absurd (let never : None ≡ Some t = is in cc))
+
+replied_views : (setting : Setting) (me : BrickId) (now : ℕ) (from : BrickId) (node : Node) (call : Call) (reply : Reply)
+    → NodeViews setting.layout node → StepViews setting.layout (replied setting me now from node call reply)
+unfolding replied on_reply
+replied_views setting me now from node call reply has = at_call (node.calls call.seq) refl
+  where
+    decides : (c : Coordinator) (fresh : Option Stamp) → CallIsOf c → ((t : Stamp) → fresh ≡ Some t → t.view.0 ≡ c.call.view.0) → (seat : Option ℕ)
+        → NextIsOf (counted_at setting.layout.block setting.code fresh c from reply seat)
+    decides c fresh is made None = tt
+    decides c fresh is made (Some seat) =
+        next_views fresh (with_reply c seat from reply) (once_full setting.layout.block setting.code fresh (with_reply c seat from reply))
+        (once_full_fits setting.layout.block setting.code fresh (with_reply c seat from reply)) is made
+
+    at_call : (z : Option Coordinator) → node.calls call.seq ≡ z → StepViews setting.layout (replied_at setting me now from node call reply z)
+    at_call None is =
+        record { node = record { views = has.views; parts = has.parts; fresh = has.fresh; calls = has.calls }; packets = each_none PacketIsOf }
+    at_call (Some c) is =
+        let known : ℕ = known_after node.known reply in
+        carried_views setting me node known c _ has
+        (decides c (fresh_stamp me c.call.view now node.boot known) (has.calls call.seq c is)
+        (λ t made. fresh_view me c.call.view now node.boot known t made) (counts_at setting.layout.block c from.0 call reply))
+
+received_views : (setting : Setting) (now : ℕ) (from to : BrickId) (message : Message) (node : Node) → NodeViews setting.layout node → MessageIsOf message
+    → StepViews setting.layout (received setting to now node (record { from = from; to = to; message = message }))
+unfolding received
+received_views setting now from to (Message.Request call request) node has is = requested_views setting to from node call request has is
+received_views setting now from to (Message.Reply call reply) node has is = replied_views setting to now from node call reply has
+received_views setting now from to message node has is = quiet_views setting.layout node has
+
+absorbed_views : (setting : Setting) (me from to : BrickId) (message : Message) (node : Node) → NodeViews setting.layout node → MessageIsOf message
+    → NodeViews setting.layout (absorbed setting me node (record { from = from; to = to; message = message }))
+unfolding absorbed
+absorbed_views setting me from to (Message.Request call request) node has is = (requested_views setting me from node call request has is).node
+absorbed_views setting me from to message node has is = has
+
+invoked_views : (setting : Setting) (me : BrickId) (now : ℕ) (node : Node) (ask : Ask) → NodeViews setting.layout node
+    → StepViews setting.layout (invoked setting me now node ask)
+unfolding invoked
+invoked_views setting me now node ask has = in_group (group_at setting.layout node ask.group.0)
+  where
+    in_group : (z : Option Group) → StepViews setting.layout (began setting me now node ask z)
+    in_group None = quiet_views setting.layout node has
+    in_group (Some group) =
+        let c : Coordinator = new_coordinator group me now node ask in
+        record {
+          node = record {
+            views = has.views;
+            parts = has.parts;
+            fresh = has.fresh;
+            calls = put_each (λ k z. (d : Coordinator) → z ≡ Some d → CallIsOf d) node.calls (node.seq + 1) (Some c) (λ d is. some_call c d refl is)
+                (λ k other. has.calls k);
+          };
+          packets = phase_views setting me c refl;
+        }
+
+-- a brick stops, and starts again
+closed_views : (layout : Layout) (node : Node) (boot seq known busy : ℕ) → NodeViews layout node
+    → NodeViews layout (record node { boot = boot; seq = seq; known = known; busy = busy; calls = λ k. None })
+closed_views layout node boot seq known busy has = record {
+  views = has.views;
+  parts = has.parts;
+  fresh = has.fresh;
+  calls = λ k c is. absurd (let never : None ≡ Some c = is in cc);
+}
+
+stopped_views : (layout : Layout) (node : Node) → NodeViews layout node → NodeViews layout (stopped node)
+unfolding stopped
+stopped_views layout node has = closed_views layout node node.boot node.seq node.known 0 has
+
+restarted_views : (layout : Layout) (openings : ℕ) (node : Node) → NodeViews layout node → NodeViews layout (restarted openings node)
+unfolding restarted
+restarted_views layout openings node has = closed_views layout node (node.boot + openings) 0 0 0 has
+
+-- what its store may hold, once a handling was cut short, or none
+left_views : (setting : Setting) (brick : BrickId) (node : Node) (packet : Option Packet) → NodeViews setting.layout node
+    → ((p : Packet) → packet ≡ Some p → PacketIsOf p) → NodeViews setting.layout (left_after setting brick node packet)
+left_views setting brick node None has sent = stopped_views setting.layout node has
+left_views setting brick node (Some packet) has sent =
+    cond_both (nat_eq packet.to.0 brick.0) (stopped (absorbed setting brick node packet)) (stopped node) (λ (n : Node). NodeViews setting.layout n)
+    (λ its. stopped_views setting.layout (absorbed setting brick node packet)
+    (absorbed_views setting brick packet.from packet.to packet.message node has (sent packet refl)))
+    (λ other. stopped_views setting.layout node has)
+
+put_views : (layout : Layout) (nodes : ℕ → Node) (i : ℕ) (node : Node) → ((j : ℕ) → NodeViews layout (nodes j)) → NodeViews layout node → (j : ℕ)
+    → NodeViews layout (put nodes i node j)
+put_views layout nodes i node have new = put_each (λ j n. NodeViews layout n) nodes i node new (λ j other. have j)
+
+-- every event keeps each stamp in its view
+views_cases : (setting : Setting) (w : World) → StampViews setting.layout w → EventCases setting w (StampViews setting.layout)
+unfolding ticked
+views_cases setting w has = record {
+  begins = λ brick ask may.
+      (let step = invoked_views setting brick (w.clocks brick.0) (w.nodes brick.0) ask (has.nodes brick.0) in
+      record {
+        nodes = put_views setting.layout w.nodes brick.0 _ has.nodes step.node;
+        after = has.after;
+        packets = each_both PacketIsOf w.packets _ has.packets step.packets;
+      });
+  handles = λ number packet at up.
+      (let sent = packet_was_sent w number packet at in
+      let step = received_views setting (w.clocks packet.to.0) packet.from packet.to packet.message (w.nodes packet.to.0) (has.nodes packet.to.0)
+      (has.packets sent.0 packet sent.1) in
+      record {
+        nodes = put_views setting.layout w.nodes packet.to.0 _ has.nodes step.node;
+        after = subst (λ (f : ℕ → Node). (i : ℕ) → NodeViews setting.layout (f i))
+            (sym (after_stepped setting (world_counting setting w number packet) packet.to (step_on setting w packet))) has.after;
+        packets = each_both PacketIsOf w.packets _ has.packets step.packets;
+      });
+  sets = λ brick time is. record { nodes = has.nodes; after = has.after; packets = has.packets };
+  ticks = λ brick up.
+      record {
+        nodes = has.nodes;
+        after = has.after;
+        packets = each_both PacketIsOf w.packets _ has.packets
+            (each_ticked PacketIsOf setting brick (w.nodes brick.0).calls (w.nodes brick.0).seq
+            (λ k c is seat to. request_is setting.code c ((has.nodes brick.0).calls k c is) seat));
+      };
+  stops = λ brick during up.
+      record {
+        nodes = put_views setting.layout w.nodes brick.0 _ has.nodes (stopped_views setting.layout (w.nodes brick.0) (has.nodes brick.0));
+        after = put_views setting.layout w.after brick.0 _ has.after
+            (left_views setting brick (w.nodes brick.0) (packet_during w.packets during) (has.nodes brick.0)
+            (λ p is. let sent = during_was_sent w during p is in has.packets sent.0 p sent.1));
+        packets = has.packets;
+      };
+  starts = λ brick openings found may.
+      started_each (StampViews setting.layout) w brick openings (started_views w brick openings has)
+      (started_views (world_found w brick After) brick openings
+      (record { nodes = put_views setting.layout w.nodes brick.0 _ has.nodes (has.after brick.0); after = has.after; packets = has.packets })) found;
+}
+  where
+    started_views : (x : World) (brick : BrickId) (openings : ℕ) → StampViews setting.layout x → StampViews setting.layout (world_started x brick openings)
+    started_views x brick openings was = record {
+      nodes = put_views setting.layout x.nodes brick.0 _ was.nodes (restarted_views setting.layout openings (x.nodes brick.0) (was.nodes brick.0));
+      after = was.after;
+      packets = was.packets;
+    }
+
+-- a fresh part is of its view
+fresh_part : (block e : ℕ) → PartIsOf e (fresh_replica block e)
+fresh_part block e =
+    cond_both (nat_eq e 1) (first_replica block) _ (λ (r : Replica). PartIsOf e r)
+    (λ one. record {
+      order = inl refl;
+      log = λ k version at.
+          ap (λ (v : Version). view_of v.stamp) (sym (get_one _ version k at)) ∙ (let is : 1 ≡ e = grind (arith, nat_tests) in is);
+    })
+    (λ other. record { order = inl refl; log = λ k version at. absurd (let never : None ≡ Some version = at in cc) })
+
+first_views : (layout : Layout) → NodeViews layout (first_node layout)
+first_views layout = record {
+  views = λ g. omega arith;
+  parts = λ g e s. fresh_part layout.block e;
+  fresh = λ g e s later. refl;
+  calls = λ k c is. absurd (let never : None ≡ Some c = is in cc);
+}
+
+-- in every run each stamp is in its view
+pub always_views : (setting : Setting) (events : List Event) → StampViews setting.layout (run setting events (first_world setting.layout))
+always_views setting =
+    always (StampViews setting.layout) setting
+    (record { nodes = λ i. first_views setting.layout; after = λ i. first_views setting.layout; packets = each_none PacketIsOf }) (views_cases setting)
