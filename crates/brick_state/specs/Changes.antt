@@ -1,5 +1,5 @@
 -- What may happen to a stripe, and what it takes away and brings.
-use Rattle.std.specs.Prelude.{◌≡◌, ℕ, ◌≤◌, true, max}
+use Rattle.std.specs.Prelude.{◌≡◌, ℕ, true}
 use Rattle.std.specs.List.{filter}
 use Rattle.fab_base.specs.Stamps.{stamp_below}
 use Rattle.brick_state.specs.Entries.{Entry}

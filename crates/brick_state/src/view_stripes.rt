@@ -30,11 +30,7 @@ pub struct Tally {
 }
 
 // Lists a stripe, as one where nothing happened where it is new.
-fn make_entry(
-    alloc: Global,
-    stripes: &mut BTreeMap<u32, Stripe>,
-    place: Place,
-) -> Result<(), NoMem>
+fn make_entry(alloc: Global, stripes: &mut BTreeMap<u32, Stripe>, place: Place) -> Result<(), NoMem>
     requires { IsOrdered nat_cmp stripes.old }
     ensures same { listed (placed (key_of place) stripes.new.entries) ≡ listed (placed (key_of place) stripes.old.entries) }
     ensures ordered { IsOrdered nat_cmp stripes.new }
@@ -72,11 +68,7 @@ pub fn make_room(
 }
 
 /// Changes a stripe.
-pub fn change(
-    stripes: &mut BTreeMap<u32, Stripe>,
-    number: u32,
-    change: StripeChange,
-) -> Tally
+pub fn change(stripes: &mut BTreeMap<u32, Stripe>, number: u32, change: StripeChange) -> Tally
     requires may { MayChange stripes.old number change }
     requires few { live_of stripes.old.entries ≤ 4294967295 }
     ensures changed { IsChanged number (changed change) stripes.old.entries stripes.new.entries }

@@ -1,5 +1,5 @@
 -- The names of one stripe more are counted less, and at the end those of all.
-use Rattle.std.proofs.Common.{◌≡◌, ℕ, List, map, refl, sym, ap, ◌∙◌, Bor, arith}
+use Rattle.std.proofs.Common.{◌≡◌, map, ap, ◌∙◌, Bor, arith}
 use Rattle.std.specs.List.{sum_by}
 use Rattle.std.specs.BTreeMap.{values}
 use Rattle.std.proofs.lemmas.Map.Iter.{iter_end}

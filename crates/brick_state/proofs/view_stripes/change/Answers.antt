@@ -1,5 +1,5 @@
 -- One stripe is written, and what is counted of it is exchanged.
-use Rattle.std.proofs.Common.{◌+◌, ◌≤◌, ℕ, sym, ap, subst, ◌∙◌, arith}
+use Rattle.std.proofs.Common.{◌+◌, ◌≤◌, ℕ, sym, subst, ◌∙◌, arith}
 use Rattle.brick_state.specs.declared.stripes.Stripe.{Stripe}
 use Rattle.brick_state.specs.States.{stripe_of, weight}
 use Rattle.brick_state.specs.Changes.{changed, IsAllowed, time_lost, time_come}

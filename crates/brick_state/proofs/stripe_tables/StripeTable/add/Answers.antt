@@ -2,9 +2,8 @@
 use Rattle.std.proofs.Common.{◌+◌, List, length, get_or, set, subst, sym, ap, ◌∙◌, arith}
 use Rattle.std.proofs.lemmas.List.{length-set}
 use Rattle.brick_state.specs.Entries.{Entry}
-use Rattle.brick_state.specs.States.{Place, StripeOf, stamp_of, live_in}
+use Rattle.brick_state.specs.States.{Place, StripeOf, live_in}
 use Rattle.brick_state.specs.Maps.{listed_in}
-use Rattle.brick_state.specs.Times.{time_in}
 use Rattle.brick_state.specs.Tallies.{AreNames, NoneBeyond}
 use Rattle.brick_state.proofs.Tallies.{names-added, beyond-added, live-added, count_fits}
 use Rattle.brick_state.proofs.stripe_tables.StripeTable.add.Goals as goal

@@ -1,11 +1,10 @@
 -- The names of the dropped versions are counted less.
-use Rattle.std.proofs.Common.{◌-◌, ℕ, List, length, get_or, subst, sym, ap, ◌∙◌, arith}
+use Rattle.std.proofs.Common.{◌-◌, List, length, get_or, subst, sym, ap, ◌∙◌, arith}
 use Rattle.std.specs.List.{filter}
 use Rattle.fab_base.specs.Stamps.{stamp_below}
 use Rattle.brick_state.specs.Entries.{Entry}
-use Rattle.brick_state.specs.States.{Place, StripeOf, stamp_of, stripe_in, put, with_collected, live_in}
+use Rattle.brick_state.specs.States.{Place, StripeOf, stripe_in, live_in}
 use Rattle.brick_state.specs.Maps.{listed_in}
-use Rattle.brick_state.specs.Times.{greatest, time_in}
 use Rattle.brick_state.specs.Tallies.{AreNames, NoneBeyond, names_of}
 use Rattle.brick_state.proofs.Tallies.{names-collected, beyond-collected, live-collected, weight_collected}
 use Rattle.brick_state.proofs.stripe_tables.StripeTable.collect.Goals as goal

@@ -13,7 +13,7 @@ loop-key-preserved c =
     let inv = c.loop-key.invariant in (
       c.drop_view.ensures.slots ∙ inv.0,
       ap (λ (es : List (ViewKey × ViewTable)). filter (λ e. keep e.0) es) c.drop_view.ensures.removed
-      ∙ kept-removed keep c.in-Some.key c.loop-key.self.views.entries (ap not c.in-Some.ensures.some) ∙ inv.1,
+          ∙ kept-removed keep c.in-Some.key c.loop-key.self.views.entries (ap not c.in-Some.ensures.some) ∙ inv.1,
     )
 
 pub returns-clause-kept : goal.returns-clause-kept

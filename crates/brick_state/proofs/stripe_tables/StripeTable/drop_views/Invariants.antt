@@ -1,4 +1,4 @@
-use Rattle.std.proofs.Common.{◌≡◌, ℕ, not, length}
+use Rattle.std.proofs.Common.{◌≡◌, not, length}
 use Rattle.std.specs.List.{filter}
 use Rattle.brick_state.specs.Maps.{is_below_view}
 use Rattle.brick_state.proofs.stripe_tables.StripeTable.drop_views.Given as goal

@@ -2,9 +2,8 @@
 use Rattle.std.proofs.Common.{◌+◌, ◌-◌, ◌<◌, ℕ, List, length, get_or, set, subst, sym, ap, ◌∙◌, arith}
 use Rattle.std.proofs.lemmas.List.{length-set}
 use Rattle.brick_state.specs.Entries.{Entry}
-use Rattle.brick_state.specs.States.{Place, StripeOf, stamp_of, stripe_in, put, with_bottom, live_in}
+use Rattle.brick_state.specs.States.{Place, StripeOf, live_in}
 use Rattle.brick_state.specs.Maps.{listed_in}
-use Rattle.brick_state.specs.Times.{greatest, time_in}
 use Rattle.brick_state.specs.Tallies.{AreNames, NoneBeyond, names_of}
 use Rattle.brick_state.proofs.Tallies.{names-bottom, beyond-bottom, live-bottom, added_within, less_fits, bottom_fits}
 use Rattle.brick_state.proofs.stripe_tables.StripeTable.set_bottom.Goals as goal

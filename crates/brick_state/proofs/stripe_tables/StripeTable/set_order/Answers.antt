@@ -1,9 +1,8 @@
 -- One live record more or less, as the stamps say, and the same names.
 use Rattle.std.proofs.Common.{◌<◌, ℕ, ◌&&◌, Bool, not, refl, List, subst, sym, ap, ◌∙◌, arith}
 use Rattle.brick_state.specs.Entries.{Entry}
-use Rattle.brick_state.specs.States.{Place, StripeOf, stripe_in, stamp_of, put, with_order, live_in}
+use Rattle.brick_state.specs.States.{Place, StripeOf, stripe_in, with_order, live_in}
 use Rattle.brick_state.specs.Maps.{listed_in}
-use Rattle.brick_state.specs.Times.{time_in}
 use Rattle.brick_state.specs.Tallies.{AreNames, NoneBeyond, order_weight}
 use Rattle.brick_state.proofs.Tallies.{names-ordered, beyond-put, live-ordered, order_within, order_fits}
 use Rattle.fab_base.specs.declared.stamps.Stamp.{Stamp}

@@ -1,5 +1,5 @@
 -- The counts after the change, by what it takes away and what it brings.
-use Rattle.std.proofs.Common.{sym, arith}
+use Rattle.std.proofs.Common.{arith}
 use Rattle.brick_state.proofs.view_tables.ViewTable.change.Goals as goal
 
 pub invariant_of-self : goal.invariant_of-self
