@@ -14,6 +14,12 @@ pub greatest-push : {X : Type 0} (f : X → ℕ) (xs : List X) (x : X) → great
 unfolding greatest
 greatest-push f xs x = max_push (greatest f) f refl (λ y ys. refl) xs x
 
+-- of one list after another
+pub greatest-append : {X : Type 0} (f : X → ℕ) (xs ys : List X) → greatest f (xs ++ ys) ≡ max (greatest f xs) (greatest f ys)
+unfolding greatest
+greatest-append f [] ys = omega arith
+greatest-append f (x ∷ xs) ys = omega (arith, greatest-append f xs ys)
+
 -- of images
 pub greatest-map : {X Y : Type 0} (f : Y → ℕ) (g : X → Y) (xs : List X) → greatest f (map g xs) ≡ greatest (λ x. f (g x)) xs
 unfolding greatest

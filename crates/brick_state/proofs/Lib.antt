@@ -16,3 +16,6 @@ pub mod Greatest
 pub mod SlotTrees
 pub mod Tallies
 pub mod TopTimes
+pub mod ViewMaps
+pub mod ViewRuns
+pub mod ViewChanges

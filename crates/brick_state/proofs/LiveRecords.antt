@@ -1,15 +1,17 @@
 -- The records of what is kept, one part after the other.
-use Rattle.std.proofs.Common.{◌≡◌, ℕ, suc, ◌<◌, Bool, true, false, not, cond, Option, Some, List, [], ◌∷◌, ◌++◌, length, get_or, drop, refl, sym, ap, subst, ◌∙◌}
+use Rattle.std.proofs.Common.{◌≡◌, ℕ, suc, ◌<◌, Bool, true, false, not, cond, Option, Some, List, [], ◌∷◌, ◌++◌, length, get_or, drop, refl, sym, ap, subst, ◌∙◌, append_assoc}
 use Rattle.std.proofs.Math.Seq.{drop-cons}
 use Rattle.fab_base.specs.Stamps.{first_stamp}
 use Rattle.fab_base.proofs.StampOrder.{stamp_same_refl}
 use Rattle.brick_state.specs.declared.groups.Group.{Group}
 use Rattle.brick_state.specs.Entries.{Entry}
 use Rattle.brick_state.specs.declared.stripes.Stripe.{Stripe}
-use Rattle.brick_state.specs.States.{Place, first_stripe, is_first, stripe_of}
-use Rattle.brick_state.specs.Maps.{listed}
+use Rattle.brick_state.specs.States.{Place, StripeOf, first_stripe, is_first, stripe_of}
+use Rattle.brick_state.specs.Maps.{ViewKey, placed, flat, listed}
+use Rattle.brick_state.specs.declared.view_tables.ViewTable.{ViewTable}
 use Rattle.brick_state.specs.Rewrites.{group_records, groups_records, stripe_records, stripes_records, version_record, version_records}
 use Rattle.brick_state.proofs.StripeMaps.{is_first-true}
+use Rattle.brick_state.proofs.ViewMaps.{listed-append}
 
 -- a stripe that nothing happened to needs no records
 none_first : (p : Place) → stripe_records p (first_stripe p) ≡ []
@@ -33,6 +35,20 @@ stripes_step p s rest = by (is_first p (stripe_of s)) refl
 pub stripes_none : stripes_records (listed []) ≡ []
 unfolding listed stripes_records
 stripes_none = refl
+
+-- those of one list of stripes after another
+stripes-append : (xs ys : List (Place × StripeOf Entry)) → stripes_records (xs ++ ys) ≡ stripes_records xs ++ stripes_records ys
+unfolding stripes_records
+stripes-append [] ys = refl
+stripes-append (e ∷ xs) ys = ap (λ records. stripe_records e.0 e.1 ++ records) (stripes-append xs ys)
+    ∙ sym (append_assoc (stripe_records e.0 e.1) (stripes_records xs) (stripes_records ys))
+
+-- those of a view, and then those of the others
+pub records-view : (e : ViewKey × ViewTable) (views : List (ViewKey × ViewTable)) → stripes_records (listed (flat (e ∷ views)))
+    ≡ stripes_records (listed (placed e.0 e.1.stripes.entries)) ++ stripes_records (listed (flat views))
+unfolding flat
+records-view e views = ap stripes_records (listed-append (placed e.0 e.1.stripes.entries) (flat views))
+    ∙ stripes-append (listed (placed e.0 e.1.stripes.entries)) (listed (flat views))
 
 -- the groups from one on: that one, and those after it
 pub groups_step : (g n : ℕ) (groups : List Group) (group : Group) → n ≡ suc g → g < length groups → group ≡ get_or groups g group

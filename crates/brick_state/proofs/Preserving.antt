@@ -6,14 +6,12 @@ use Rattle.std.specs.Map.{lookup, keys_of, values_of, remove_entry}
 use Rattle.std.specs.BTreeMap.{insert_entry, is_at}
 use Rattle.std.specs.Option.{unwrap_or, option_map}
 use Rattle.std.proofs.lemmas.Map.Entries.{sum_by-insert_entry, sum_by-remove_entry}
-use Rattle.fab_base.specs.Stamps.{first_stamp}
-use Rattle.fab_base.proofs.StampOrder.{stamp_same_refl}
 use Rattle.brick_state.specs.Entries.{Entry}
 use Rattle.brick_state.specs.States.{Place, StripeOf, place_cmp, first_stripe, is_first, stripe_in, put, weight, live_in}
 use Rattle.brick_state.specs.Folds.{Limits}
 use Rattle.brick_state.specs.KeptStates.{IsKeptStripe}
 use Rattle.brick_state.proofs.Listings.{sorted_inserted, sorted_removed, all_insert, all_remove}
-use Rattle.brick_state.proofs.StripeMaps.{place_total, place_exact, is_first-true}
+use Rattle.brick_state.proofs.StripeMaps.{place_total, place_exact, is_first-true, weight_none}
 
 -- a sum over the stripes, to which one that nothing happened to adds nothing, after a stripe was put in place
 pub sum-put : (f : StripeOf Entry → ℕ) → ((p : Place) → f (first_stripe p) ≡ 0) → (p : Place) (s : StripeOf Entry)
@@ -32,9 +30,6 @@ sum-put f zero p s stripes sorted = by (is_first p s) refl
         + f (stripe_in stripes p) ≡ sum_by f (values_of stripes) + f s
     by true at = omega (arith, sum_by-remove_entry f (is_at (place_cmp p)) stripes, found, ap f (is_first-true p s at), zero p)
     by false at = omega (arith, sum_by-insert_entry f place_total stripes p s sorted, found)
-
-pub weight_none : (p : Place) → weight {E = Entry} (first_stripe p) ≡ 0
-weight_none p = rw (stamp_same_refl first_stamp) refl
 
 -- live records after a stripe was put in place
 pub live-put : (p : Place) (s : StripeOf Entry) (stripes : List (Place × StripeOf Entry)) → IsStrictlySortedBy place_cmp (keys_of stripes)

@@ -189,16 +189,24 @@ none_is (Some x) h = absurd cc
 pub weight_first : {E : Type 0} (p : Place) (s : StripeOf E) → is_first p s ≡ true → weight s ≡ 0
 weight_first p s h = ap weight (is_first-true p s h) ∙ rw (stamp_same_refl first_stamp) refl
 
+-- what is not seen adds nothing to a sum to which a stripe adds nothing where nothing happened to it
+pub sum-listed : (f : StripeOf Entry → ℕ) → ((p : Place) → f (first_stripe p) ≡ 0) → (entries : List (Place × Stripe))
+    → sum_by f (values_of (listed entries)) ≡ sum_by (λ s. f (stripe_of s)) (values_of entries)
+unfolding listed
+sum-listed f none [] = refl
+sum-listed f none (e ∷ entries) = by (is_first e.0 (stripe_of e.1)) refl (sum-listed f none entries)
+    ∙ sym (sum_by-cons (λ s. f (stripe_of s)) e.1 (values_of entries))
+  where
+    by : (b : Bool) → is_first e.0 (stripe_of e.1) ≡ b → sum_by f (values_of (filter is_listed (map seen_entry entries))) ≡ sum_by (λ s. f (stripe_of s))
+        (values_of entries)
+        → sum_by f (values_of (cond (not b) (seen_entry e ∷ filter is_listed (map seen_entry entries)) (filter is_listed (map seen_entry entries))))
+        ≡ f (stripe_of e.1) + sum_by (λ s. f (stripe_of s)) (values_of entries)
+    by true at h = h ∙ omega (arith, ap f (is_first-true e.0 (stripe_of e.1) at), none e.0)
+    by false at h = rw sum_by-cons (ap (λ n. f (stripe_of e.1) + n) h)
+
+pub weight_none : (p : Place) → weight {E = Entry} (first_stripe p) ≡ 0
+weight_none p = rw (stamp_same_refl first_stamp) refl
+
 -- what is not seen is no live record
 pub live-listed : (entries : List (Place × Stripe)) → live_in (listed entries) ≡ sum_by (λ s. weight (stripe_of s)) (values_of entries)
-unfolding listed
-live-listed [] = refl
-live-listed (e ∷ entries) = by (is_first e.0 (stripe_of e.1)) refl (live-listed entries)
-    ∙ sym (sum_by-cons (λ s. weight (stripe_of s)) e.1 (values_of entries))
-  where
-    by : (b : Bool) → is_first e.0 (stripe_of e.1) ≡ b → live_in (filter is_listed (map seen_entry entries)) ≡ sum_by (λ s. weight (stripe_of s))
-        (values_of entries)
-        → live_in (cond (not b) (seen_entry e ∷ filter is_listed (map seen_entry entries)) (filter is_listed (map seen_entry entries)))
-        ≡ weight (stripe_of e.1) + sum_by (λ s. weight (stripe_of s)) (values_of entries)
-    by true at h = h ∙ omega (arith, weight_first e.0 (stripe_of e.1) at)
-    by false at h = rw sum_by-cons (ap (λ n. weight (stripe_of e.1) + n) h)
+live-listed entries = sum-listed weight weight_none entries

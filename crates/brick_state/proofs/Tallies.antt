@@ -1,30 +1,32 @@
 -- What is counted of the stripes, after each change of them.
-use Rattle.std.proofs.Common.{◌≡◌, ◌≢◌, ℕ, zero, suc, ◌+◌, ◌-◌, ◌<◌, ◌≤◌, Bool, true, false, not, ◌&&◌, cond, eqb, ltb, leb, List, [], ◌∷◌, ◌++◌, length, get_or, set, map, refl, sym, ap, subst, ◌∙◌, ◌⊎◌, inl, inr, ⊎_elim, Option, Some, None, arith}
+use Rattle.std.proofs.Common.{◌≡◌, ◌≢◌, ℕ, zero, suc, ◌+◌, ◌-◌, ◌<◌, ◌≤◌, Bool, true, false, not, ◌&&◌, cond, eqb, leb, List, [], ◌∷◌, ◌++◌, length, get_or, set, map, refl, sym, ap, subst, ◌∙◌, ◌⊎◌, inl, inr, ⊎_elim, Option, Some, None, Bor, arith}
 use Rattle.std.specs.List.{AllByRecursion, Contains, count_by, sum_by, filter}
 use Rattle.std.specs.List.Sorted.{IsStrictlySortedBy}
-use Rattle.std.specs.Map.{keys_of, values_of}
+use Rattle.std.specs.Map.{keys_of, values_of, lookup, remove_entry}
+use Rattle.std.specs.BTreeMap.{is_at}
 use Rattle.std.specs.Option.{IfSome}
-use Rattle.std.proofs.lemmas.Bool.{cases_eq, cases_lt, eqb-true, eq-eqb, lt-ltb, leb-false}
-use Rattle.std.proofs.lemmas.Bool.Decides.{nat_tests}
+use Rattle.std.proofs.lemmas.Bool.{cases_eq, cases_lt, eqb-true, eq-eqb, leb-false}
 use Rattle.std.proofs.lemmas.Option.{same_Some, none-some}
 use Rattle.std.proofs.lemmas.List.{get_or-set_same, get_or-set_other, length-set, length_push}
 use Rattle.std.proofs.Math.ListN.{get_or-eq_default}
 use Rattle.std.proofs.lemmas.List.Sums.{sum_by-cons, sum_by-append, count_by-le-length}
 use Rattle.std.proofs.lemmas.List.Filters.{sum_by-filter_both}
 use Rattle.brick_state.specs.Entries.{Entry}
-use Rattle.brick_state.specs.declared.stripes.Stripe.{Stripe}
-use Rattle.brick_state.specs.States.{Place, StripeOf, place_cmp, first_stripe, is_first, stripe_in, stripe_of, stamp_of, put, weight, live_in, with_added, with_bottom, with_order, with_collected, is_of_view, newest_entry}
-use Rattle.brick_state.specs.Maps.{listed, seen_entry, is_listed}
+use Rattle.brick_state.specs.States.{Place, StripeOf, place_cmp, first_stripe, stripe_in, stamp_of, put, weight, live_in, with_added, with_bottom, with_order, with_collected, newest_entry}
+use Rattle.brick_state.specs.Maps.{ViewKey, view_cmp, flat, listed}
+use Rattle.brick_state.specs.declared.view_tables.ViewTable.{ViewTable}
+use Rattle.brick_state.specs.ViewStripes.{live_of}
 use Rattle.fab_base.specs.declared.stamps.Stamp.{Stamp}
 use Rattle.fab_base.specs.Stamps.{stamp_below, stamp_same, first_stamp}
-use Rattle.brick_state.proofs.StripeMaps.{is_first-true}
+use Rattle.brick_state.proofs.StripeMaps.{weight_none}
+use Rattle.brick_state.proofs.ViewMaps.{sum-removed}
 use Rattle.brick_state.specs.Slots.{slot_of, slots_in, IsFree}
 use Rattle.brick_state.specs.SlotTrees.{IsLeastUnused}
 use Rattle.brick_state.specs.Tallies.{names_of, names_in, AreNames, NoneBeyond, HasSlotRoom, order_weight}
 use Rattle.brick_state.specs.Rewrites.{start_of}
 use Rattle.brick_state.proofs.SoundStripes.{newest_of, newest_entry_is}
 use Rattle.brick_state.proofs.FreeSlots.{any_free, slots_few}
-use Rattle.brick_state.proofs.Preserving.{sum-put, live-put, weight_none}
+use Rattle.brick_state.proofs.Preserving.{sum-put, live-put}
 
 abbrev Stripes : Type 0
 Stripes = List (Place × StripeOf Entry)
@@ -418,100 +420,38 @@ live-collected stripes p t sorted = omega (
   length_split t (stripe_in stripes p).added,
 )
 
--- a sum over some stripes, and over the others
-sum_split : (f : StripeOf Entry → ℕ) (drops : Place → Bool) (stripes : Stripes) → sum_by f (values_of (filter (λ e. drops e.0) stripes))
-    + sum_by f (values_of (filter (λ e. not (drops e.0)) stripes)) ≡ sum_by f (values_of stripes)
-sum_split f drops [] = refl
-sum_split f drops (e ∷ stripes) = by (drops e.0) (sum_split f drops stripes)
-  where
-    gone : Stripes
-    gone = filter (λ (x : Place × StripeOf Entry). drops x.0) stripes
+-- a stripe has no more live records once versions of it are dropped
+pub weight_collected : (t : Stamp) (s : StripeOf Entry) → weight (with_collected stamp_of t s) ≤ weight s
+weight_collected t s = omega (arith, length_split t s.added)
 
-    left : Stripes
-    left = filter (λ (x : Place × StripeOf Entry). not (drops x.0)) stripes
+-- a sum over what references point to
+pub sum-borrowed : {X : Type 0} (f : X → ℕ) (xs : List (Bor X)) → sum_by (λ x. f x.now) xs ≡ sum_by f (map (λ x. x.now) xs)
+sum-borrowed f [] = refl
+sum-borrowed {X} f (x ∷ xs) = omega (
+  arith,
+  sum-borrowed f xs,
+  sum_by-cons (λ (y : Bor X). f y.now) x xs,
+  sum_by-cons f x.now (map (λ (y : Bor X). y.now) xs),
+)
 
-    by : (b : Bool) → sum_by f (values_of gone) + sum_by f (values_of left) ≡ sum_by f (values_of stripes)
-        → sum_by f (values_of (cond b (e ∷ gone) gone)) + sum_by f (values_of (cond (not b) (e ∷ left) left)) ≡ sum_by f (values_of (e ∷ stripes))
-    by true h = omega (arith, h, sum_by-cons f e.1 (values_of gone), sum_by-cons f e.1 (values_of stripes))
-    by false h = omega (arith, h, sum_by-cons f e.1 (values_of left), sum_by-cons f e.1 (values_of stripes))
-
--- after the stripes of some places were dropped
-pub names-filter : (drops : Place → Bool) (stripes : Stripes) (counts less : List ℕ) → AreNames stripes counts → length less ≡ length counts
-    → ((slot : ℕ) → slot < length counts → get_or less slot 0 ≡ get_or counts slot 0 - names_in slot (filter (λ e. drops e.0) stripes))
-    → AreNames (filter (λ e. not (drops e.0)) stripes) less
-names-filter drops stripes counts less are size released slot within =
+-- after a view was taken away
+pub names-removed : (k : ViewKey) (t : ViewTable) (views : List (ViewKey × ViewTable)) (counts less : List ℕ) → lookup (is_at (view_cmp k)) views ≡ Some t
+    → AreNames (listed (flat views)) counts → length less ≡ length counts
+    → ((slot : ℕ) → slot < length counts → get_or less slot 0 ≡ get_or counts slot 0 - sum_by (λ s. names_of slot s.added.versions.items) (values_of t.stripes.entries))
+    → AreNames (listed (flat (remove_entry (is_at (view_cmp k)) views))) less
+names-removed k t views counts less found are size released slot within =
     let old : slot < length counts = omega (arith, within, size) in
-    omega (arith, released slot old, are slot old, sum_split (λ s. names_of slot s.added) drops stripes)
+    omega (arith, released slot old, are slot old, sum-removed (λ s. names_of slot s.added) (names_none slot) k t views found)
 
-pub beyond-filter : (slots : ℕ) (drops : Place → Bool) (stripes : Stripes) (counts less : List ℕ) → NoneBeyond slots stripes counts
-    → length less ≡ length counts → NoneBeyond slots (filter (λ e. not (drops e.0)) stripes) less
-beyond-filter slots drops stripes counts less beyond size slot past is_slot =
-    omega (arith, beyond slot (omega (arith, past, size)) is_slot, sum_split (λ s. names_of slot s.added) drops stripes)
+pub beyond-removed : (slots : ℕ) (k : ViewKey) (t : ViewTable) (views : List (ViewKey × ViewTable)) (counts less : List ℕ) → lookup (is_at (view_cmp k)) views ≡ Some t
+    → NoneBeyond slots (listed (flat views)) counts → length less ≡ length counts
+    → NoneBeyond slots (listed (flat (remove_entry (is_at (view_cmp k)) views))) less
+beyond-removed slots k t views counts less found beyond size slot past is_slot =
+    omega (arith, beyond slot (omega (arith, past, size)) is_slot, sum-removed (λ s. names_of slot s.added) (names_none slot) k t views found)
 
-pub live-filter_both : (drops : Place → Bool) (stripes : Stripes) → live_in (filter (λ e. drops e.0) stripes)
-    + live_in (filter (λ e. not (drops e.0)) stripes) ≡ live_in stripes
-live-filter_both drops stripes = sum_split weight drops stripes
-
--- a sum over the dropped ones of a map, one entry after the other
-pub sum-step : (f : StripeOf Entry → ℕ) → ((p : Place) → f (first_stripe p) ≡ 0) → (drops : Place → Bool) (p : Place) (s : Stripe) (rest : List (Place × Stripe))
-    → sum_by f (values_of (filter (λ e. drops e.0) (listed ((p, s) ∷ rest))))
-    ≡ cond (drops p) (f (stripe_of s)) 0 + sum_by f (values_of (filter (λ e. drops e.0) (listed rest)))
-unfolding listed
-sum-step f none drops p s rest = by (is_first p (stripe_of s)) refl (drops p) refl
-  where
-    more : Stripes
-    more = filter is_listed (map seen_entry rest)
-
-    by : (b : Bool) → is_first p (stripe_of s) ≡ b → (d : Bool) → drops p ≡ d
-        → sum_by f (values_of (filter (λ (e : Place × StripeOf Entry). drops e.0) (cond (not b) ((p, stripe_of s) ∷ more) more)))
-        ≡ cond d (f (stripe_of s)) 0 + sum_by f (values_of (filter (λ (e : Place × StripeOf Entry). drops e.0) more))
-    by true at true is = omega (arith, ap f (is_first-true p (stripe_of s) at), none p)
-    by true at false is = omega arith
-    by false at true is = rw is (sum_by-cons f (stripe_of s) (values_of (filter (λ (e : Place × StripeOf Entry). drops e.0) more)))
-    by false at false is = rw is (omega arith)
-
-pub live-step : (group first : ℕ) (p : Place) (s : Stripe) (rest iter : List (Place × Stripe)) (gone : Bool) → iter ≡ (p, s) ∷ rest
-    → is_of_view group first p ≡ gone → live_in (filter (λ e. is_of_view group first e.0) (listed iter))
-    ≡ cond gone (weight (stripe_of s)) 0 + live_in (filter (λ e. is_of_view group first e.0) (listed rest))
-live-step group first p s rest iter gone steps is =
-    ap (λ (es : List (Place × Stripe)). live_in (filter (λ e. is_of_view group first e.0) (listed es))) steps
-    ∙ sum-step weight weight_none (is_of_view group first) p s rest
-    ∙ ap {B = ℕ} (λ (b : Bool). cond b (weight (stripe_of s)) 0 + live_in (filter (λ e. is_of_view group first e.0) (listed rest))) is
-
-pub names-step : (slot group first : ℕ) (p : Place) (s : Stripe) (rest iter : List (Place × Stripe)) (gone : Bool) → iter ≡ (p, s) ∷ rest
-    → is_of_view group first p ≡ gone → names_in slot (filter (λ e. is_of_view group first e.0) (listed iter))
-    ≡ cond gone (names_of slot s.added.versions.items) 0 + names_in slot (filter (λ e. is_of_view group first e.0) (listed rest))
-names-step slot group first p s rest iter gone steps is =
-    ap (λ (es : List (Place × Stripe)). names_in slot (filter (λ e. is_of_view group first e.0) (listed es))) steps
-    ∙ sum-step (λ t. names_of slot t.added) (names_none slot) (is_of_view group first) p s rest
-    ∙ ap {B = ℕ} (λ (b : Bool). cond b (names_of slot s.added.versions.items) 0 + names_in slot (filter (λ e. is_of_view group first e.0) (listed rest))) is
-
-pub none_dropped : (group first : ℕ) (iter : List (Place × Stripe)) → iter ≡ [] → filter (λ e. is_of_view group first e.0) (listed iter) ≡ []
-unfolding listed
-none_dropped group first iter none = ap (λ (es : List (Place × Stripe)). filter (λ e. is_of_view group first e.0) (listed es)) none
-
--- which places are dropped
-both : (a b : Bool) → a ≡ true → b ≡ true → (a && b) ≡ true
-both true true p q = refl
-both true false p q = q
-both false b p q = absurd cc
-
-first_not : (a b : Bool) → a ≡ false → (a && b) ≡ false
-first_not false b p = refl
-first_not true b p = absurd cc
-
-second_not : (a b : Bool) → b ≡ false → (a && b) ≡ false
-second_not false b p = refl
-second_not true b p = p
-
-pub drops_true : (group first : ℕ) (p : Place) → p.0 ≡ group → p.1 < first → is_of_view group first p ≡ true
-drops_true group first p same below = both (eqb p.0 group) (ltb p.1 first) (eq-eqb p.0 group same) (lt-ltb p.1 first below)
-
-pub drops_not_group : (group first : ℕ) (p : Place) → p.0 ≢ group → is_of_view group first p ≡ false
-drops_not_group group first p other = first_not (eqb p.0 group) (ltb p.1 first) (differs p.0 group other)
-
-pub drops_not_view : (group first : ℕ) (p : Place) → first ≤ p.1 → is_of_view group first p ≡ false
-drops_not_view group first p past = second_not (eqb p.0 group) (ltb p.1 first) (grind (arith, nat_tests))
+pub live-removed : (k : ViewKey) (t : ViewTable) (views : List (ViewKey × ViewTable)) → lookup (is_at (view_cmp k)) views ≡ Some t
+    → live_in (listed (flat (remove_entry (is_at (view_cmp k)) views))) + live_of t.stripes.entries ≡ live_in (listed (flat views))
+live-removed k t views found = sum-removed weight weight_none k t views found
 
 -- no stripes, and no names
 pub names-none : (stripes : Stripes) (counts : List ℕ) → length counts ≡ 0 → AreNames stripes counts

@@ -1,91 +1,52 @@
--- The greatest time that is kept, after each change of the stripes.
-use Rattle.std.proofs.Common.{◌≡◌, ℕ, ◌≤◌, max, Bool, true, false, not, ◌&&◌, ◌||◌, cond, Option, Some, None, List, [], ◌∷◌, refl, sym, ap, subst, ◌∙◌, arith}
-use Rattle.std.specs.declared.cmp.Ordering.{Ordering}
-use Rattle.std.specs.declared.cmp.Ordering.TheVariants.{Less, Equal, Greater}
-use Rattle.std.specs.Ordering.{is_eq, match_ordering}
-use Rattle.std.specs.Cmp.{IsTotalOrder}
+-- The greatest time of a view's stamps, after a change of one of its stripes.
+use Rattle.std.proofs.Common.{◌≡◌, ℕ, ◌≤◌, max, Bool, true, false, not, ◌&&◌, ◌||◌, cond, Some, List, [], ◌∷◌, refl, sym, ap, subst, ◌∙◌, arith}
+use Rattle.std.specs.Ordering.{nat_cmp}
 use Rattle.std.specs.List.{filter, list_any}
-use Rattle.std.specs.List.Sorted.{IsStrictlySortedBy}
-use Rattle.std.specs.Map.{lookup, keys_of, values_of, remove_entry}
-use Rattle.std.specs.BTreeMap.{insert_entry, is_at}
-use Rattle.std.specs.Option.{unwrap_or, option_map}
+use Rattle.std.specs.Map.{lookup, set_value, values_of}
+use Rattle.std.specs.BTreeMap.{is_at}
 use Rattle.std.proofs.lemmas.Bool.{and_parts}
-use Rattle.std.proofs.lemmas.Map.{lookup-none}
-use Rattle.std.proofs.lemmas.Map.Entries.{none_below_head}
-use Rattle.std.proofs.lemmas.Map.Keys.{sorted_tail}
+use Rattle.std.proofs.lemmas.Option.{same_Some}
 use Rattle.fab_base.specs.declared.stamps.Stamp.{Stamp}
 use Rattle.fab_base.specs.Stamps.{stamp_below, stamp_same, first_stamp}
 use Rattle.fab_base.proofs.StampOrder.{stamp_same_true, stamp_below_irrefl}
 use Rattle.brick_state.specs.Entries.{Entry}
-use Rattle.brick_state.specs.States.{Place, StripeOf, place_cmp, first_stripe, is_first, stripe_in, put, stamp_of, has_version, with_order, with_added, with_bottom, with_collected}
-use Rattle.brick_state.specs.Times.{greatest, stripe_time, time_in}
+use Rattle.brick_state.specs.declared.stripes.Stripe.{Stripe}
+use Rattle.brick_state.specs.declared.stripes.StripeChange.{StripeChange}
+use Rattle.brick_state.specs.declared.stripes.StripeChange.TheVariants.{Order, Add, Restart, Collect}
+use Rattle.brick_state.specs.States.{StripeOf, stripe_of, stamp_of, has_version, with_collected}
+use Rattle.brick_state.specs.Changes.{changed, IsAllowed, time_lost, time_come}
+use Rattle.brick_state.specs.Times.{greatest, stripe_time}
 use Rattle.brick_state.specs.TopTimes.{IsReplaced}
-use Rattle.brick_state.proofs.StripeMaps.{place_total, is_first-true}
+use Rattle.brick_state.specs.ViewStripes.{time_of, IsChanged}
 use Rattle.brick_state.proofs.Greatest.{greatest-push}
-
-abbrev Stripes : Type 0
-Stripes = List (Place × StripeOf Entry)
 
 -- ---- the greatest of a map's values
 
--- that of a value that is found, or 0
-abbrev of_found : {X : Type 0} → (X → ℕ) → Option X → ℕ
-of_found f found = unwrap_or (option_map f found) 0
-
-module _ {K X : Type 0} (f : X → ℕ) where
+module _ {K X : Type 0} (f : X → ℕ) (test : K → Bool) where
   abbrev greatest_in : List (K × X) → ℕ
   greatest_in es = greatest f (values_of es)
 
-  -- a value that is put in takes the place of the one that is found there
-  greatest-insert_entry : {R : K → K → Ordering} → IsTotalOrder R → (es : List (K × X)) (k : K) (v : X) → IsStrictlySortedBy R (keys_of es)
-      → IsReplaced (greatest_in es) (of_found f (lookup (is_at (R k)) es)) (f v) (greatest_in (insert_entry R es k v))
+  -- no value that is found is above it
+  greatest-lookup : (es : List (K × X)) (v : X) → lookup test es ≡ Some v → f v ≤ greatest_in es
   unfolding greatest
-  greatest-insert_entry o [] k v sorted = record { same = omega arith; kept = omega arith }
-  greatest-insert_entry {R} o (e ∷ es) k v sorted = by (R k e.0) refl (greatest-insert_entry o es k v (sorted_tail R e.0 (keys_of es) sorted))
+  greatest-lookup [] v at = absurd cc
+  greatest-lookup (e ∷ es) v at = by (test e.0) at (greatest-lookup es v)
     where
-      by : (r : Ordering) → R k e.0 ≡ r → IsReplaced (greatest_in es) (of_found f (lookup (is_at (R k)) es)) (f v) (greatest_in (insert_entry R es k v))
-          → IsReplaced (greatest_in (e ∷ es)) (of_found f (cond (is_eq r) (Some e.1) (lookup (is_at (R k)) es))) (f v)
-          (greatest_in (match_ordering r ((k, v) ∷ e ∷ es) ((e.0, v) ∷ es) (e ∷ insert_entry R es k v)))
-      by Less at later = let none : of_found f (lookup (is_at (R k)) es) ≡ 0 = ap (of_found f) (lookup-none (is_at (R k)) es (none_below_head o k e es sorted at).1) in
-          record { same = omega arith; kept = omega arith }
-      by Equal at later = record { same = omega arith; kept = omega arith }
-      by Greater at later = record { same = omega (arith, later.same); kept = omega (arith, later.kept) }
+      by : (b : Bool) → cond b (Some e.1) (lookup test es) ≡ Some v → (lookup test es ≡ Some v → f v ≤ greatest_in es) → f v ≤ greatest_in (e ∷ es)
+      by true at later = omega (arith, ap f (same_Some _ _ at))
+      by false at later = omega (arith, later at)
 
-  -- the greatest of those that stay and of the one that is taken away
-  greatest-remove_entry : (test : K → Bool) (es : List (K × X))
-      → max (greatest_in (remove_entry test es)) (of_found f (lookup test es)) ≡ greatest_in es
+  -- a value that is written takes the place of the one that is found there
+  greatest-set_value : (es : List (K × X)) (v w : X) → lookup test es ≡ Some v → IsReplaced (greatest_in es) (f v) (f w) (greatest_in (set_value test es w))
   unfolding greatest
-  greatest-remove_entry test [] = refl
-  greatest-remove_entry test (e ∷ es) = by (test e.0) (greatest-remove_entry test es)
+  greatest-set_value [] v w at = absurd cc
+  greatest-set_value (e ∷ es) v w at = by (test e.0) at (greatest-set_value es v w)
     where
-      by : (b : Bool) → max (greatest_in (remove_entry test es)) (of_found f (lookup test es)) ≡ greatest_in es
-          → max (greatest_in (cond b es (e ∷ remove_entry test es))) (of_found f (cond b (Some e.1) (lookup test es))) ≡ greatest_in (e ∷ es)
-      by true later = omega arith
-      by false later = omega (arith, later)
-
--- ---- a stripe that is put in place
-
--- a stripe's time takes the place of the one that was there
-stripe_replaced : (p : Place) (s : StripeOf Entry) (stripes : Stripes) → IsStrictlySortedBy place_cmp (keys_of stripes)
-    → IsReplaced (time_in stamp_of stripes) (stripe_time stamp_of (stripe_in stripes p)) (stripe_time stamp_of s) (time_in stamp_of (put p s stripes))
-unfolding greatest
-stripe_replaced p s stripes sorted = by (is_first p s) refl
-  where
-    of_stripe : (found : Option (StripeOf Entry)) → of_found (stripe_time stamp_of) found ≡ stripe_time stamp_of (unwrap_or found (first_stripe p))
-    of_stripe None = refl
-    of_stripe (Some other) = refl
-
-    found : of_found (stripe_time stamp_of) (lookup (is_at (place_cmp p)) stripes) ≡ stripe_time stamp_of (stripe_in stripes p)
-    found = of_stripe (lookup (is_at (place_cmp p)) stripes)
-
-    by : (b : Bool) → is_first p s ≡ b → IsReplaced (time_in stamp_of stripes) (stripe_time stamp_of (stripe_in stripes p)) (stripe_time stamp_of s)
-        (time_in stamp_of (cond b (remove_entry (is_at (place_cmp p)) stripes) (insert_entry place_cmp stripes p s)))
-    by true at =
-        let none : stripe_time stamp_of s ≡ 0 = ap (stripe_time stamp_of) (is_first-true p s at) in
-        let left = greatest-remove_entry (stripe_time stamp_of) (is_at (place_cmp p)) stripes in
-        record { same = omega (arith, left, found, none); kept = omega (arith, none) }
-    by false at = subst (λ (n : ℕ). IsReplaced (time_in stamp_of stripes) n (stripe_time stamp_of s) (time_in stamp_of (insert_entry place_cmp stripes p s))) found
-        (greatest-insert_entry (stripe_time stamp_of) place_total stripes p s sorted)
+      by : (b : Bool) → cond b (Some e.1) (lookup test es) ≡ Some v
+          → (lookup test es ≡ Some v → IsReplaced (greatest_in es) (f v) (f w) (greatest_in (set_value test es w)))
+          → IsReplaced (greatest_in (e ∷ es)) (f v) (f w) (greatest_in (cond b ((e.0, w) ∷ es) (e ∷ set_value test es w)))
+      by true at later = let found = ap f (same_Some _ _ at) in record { same = omega (arith, found); kept = omega arith }
+      by false at later = let rest = later at in record { same = omega (arith, rest.same); kept = omega (arith, rest.kept) }
 
 -- of a stripe all times but one stay
 part_replaced : (before after old now lost come rest : ℕ) → IsReplaced before old now after → old ≤ before → old ≡ max lost rest → now ≡ max come rest
@@ -94,39 +55,8 @@ part_replaced before after old now lost come rest whole within p q = record { sa
 
 -- ---- each change
 
-abbrev time_of : Entry → ℕ
-time_of e = (stamp_of e).time
-
--- no stripe's time is above the greatest
-stripe_within : (p : Place) (stripes : Stripes) → IsStrictlySortedBy place_cmp (keys_of stripes)
-    → stripe_time stamp_of (stripe_in stripes p) ≤ time_in stamp_of stripes
-unfolding greatest
-stripe_within p stripes sorted = omega (arith, (stripe_replaced p (first_stripe p) stripes sorted).same)
-
--- after an order stamp was set
-pub time-ordered : (stripes : Stripes) (p : Place) (t : Stamp) → IsStrictlySortedBy place_cmp (keys_of stripes)
-    → IsReplaced (time_in stamp_of stripes) (stripe_in stripes p).order.time t.time (time_in stamp_of (put p (with_order t (stripe_in stripes p)) stripes))
-time-ordered stripes p t sorted =
-    let s = stripe_in stripes p in
-    part_replaced _ _ _ _ _ _ (greatest time_of s.added) (stripe_replaced p (with_order t s) stripes sorted) (stripe_within p stripes sorted) refl refl
-
--- after a version was added
-pub time-added : (stripes : Stripes) (p : Place) (e : Entry) → IsStrictlySortedBy place_cmp (keys_of stripes)
-    → IsReplaced (time_in stamp_of stripes) 0 e.stamp.time (time_in stamp_of (put p (with_added e (stripe_in stripes p)) stripes))
-time-added stripes p e sorted =
-    let s = stripe_in stripes p in
-    part_replaced _ _ _ _ _ _ (stripe_time stamp_of s) (stripe_replaced p (with_added e s) stripes sorted) (stripe_within p stripes sorted)
-    (omega arith) (omega (arith, greatest-push time_of s.added e))
-
--- after a version was added in the place of all
-pub time-bottom : (stripes : Stripes) (p : Place) (e : Entry) → IsStrictlySortedBy place_cmp (keys_of stripes)
-    → IsReplaced (time_in stamp_of stripes) (greatest (λ e. (stamp_of e).time) (stripe_in stripes p).added) e.stamp.time
-    (time_in stamp_of (put p (with_bottom e (stripe_in stripes p)) stripes))
-unfolding greatest
-time-bottom stripes p e sorted =
-    let s = stripe_in stripes p in
-    part_replaced _ _ _ _ _ _ s.order.time (stripe_replaced p (with_bottom e s) stripes sorted) (stripe_within p stripes sorted)
-    (omega arith) (omega arith)
+abbrev time_at : Entry → ℕ
+time_at e = (stamp_of e).time
 
 -- the versions below a stamp, and the others
 abbrev below : Stamp → List Entry → List Entry
@@ -135,38 +65,38 @@ below t es = filter (λ e. stamp_below (stamp_of e) t) es
 abbrev not_below : Stamp → List Entry → List Entry
 not_below t es = filter (λ e. not (stamp_below (stamp_of e) t)) es
 
-greatest_split : (t : Stamp) (es : List Entry) → greatest time_of es ≡ max (greatest time_of (below t es)) (greatest time_of (not_below t es))
+greatest_split : (t : Stamp) (es : List Entry) → greatest time_at es ≡ max (greatest time_at (below t es)) (greatest time_at (not_below t es))
 unfolding greatest
 greatest_split t [] = refl
 greatest_split t (e ∷ es) = by (stamp_below e.stamp t) (greatest_split t es)
   where
-    by : (b : Bool) → greatest time_of es ≡ max (greatest time_of (below t es)) (greatest time_of (not_below t es))
-        → greatest time_of (e ∷ es) ≡ max (greatest time_of (cond b (e ∷ below t es) (below t es)))
-        (greatest time_of (cond (not b) (e ∷ not_below t es) (not_below t es)))
+    by : (b : Bool) → greatest time_at es ≡ max (greatest time_at (below t es)) (greatest time_at (not_below t es))
+        → greatest time_at (e ∷ es) ≡ max (greatest time_at (cond b (e ∷ below t es) (below t es)))
+        (greatest time_at (cond (not b) (e ∷ not_below t es) (not_below t es)))
     by true h = omega (arith, h)
     by false h = omega (arith, h)
 
 -- a version of a stamp is not below it
-held_time : (t : Stamp) (es : List Entry) → list_any (λ e. stamp_same e.stamp t) es ≡ true → t.time ≤ greatest time_of (not_below t es)
+held_time : (t : Stamp) (es : List Entry) → list_any (λ e. stamp_same e.stamp t) es ≡ true → t.time ≤ greatest time_at (not_below t es)
 unfolding greatest
 held_time t [] held = absurd cc
 held_time t (e ∷ es) held = by (stamp_same e.stamp t) refl held (held_time t es)
   where
     here : (b : Bool) → stamp_below e.stamp t ≡ b → e.stamp ≡ t
-        → t.time ≤ greatest time_of (cond (not b) (e ∷ not_below t es) (not_below t es))
+        → t.time ≤ greatest time_at (cond (not b) (e ∷ not_below t es) (not_below t es))
     here false at same = let time = ap (λ (s : Stamp). s.time) same in omega (arith, time)
     here true at same = absurd (differ (sym at ∙ subst (λ (s : Stamp). stamp_below e.stamp s ≡ false) same (stamp_below_irrefl e.stamp)))
       where
         differ : true ≡ false → ⊥
         differ h = cc
 
-    later : (b : Bool) → t.time ≤ greatest time_of (not_below t es) → t.time ≤ greatest time_of (cond (not b) (e ∷ not_below t es) (not_below t es))
+    later : (b : Bool) → t.time ≤ greatest time_at (not_below t es) → t.time ≤ greatest time_at (cond (not b) (e ∷ not_below t es) (not_below t es))
     later true h = h
     later false h = omega (arith, h)
 
     by : (b : Bool) → stamp_same e.stamp t ≡ b → (b || list_any (λ x. stamp_same x.stamp t) es) ≡ true
-        → (list_any (λ x. stamp_same x.stamp t) es ≡ true → t.time ≤ greatest time_of (not_below t es))
-        → t.time ≤ greatest time_of (not_below t (e ∷ es))
+        → (list_any (λ x. stamp_same x.stamp t) es ≡ true → t.time ≤ greatest time_at (not_below t es))
+        → t.time ≤ greatest time_at (not_below t (e ∷ es))
     by true at h ih = here (stamp_below e.stamp t) refl (stamp_same_true e.stamp t at)
     by false at h ih = later (stamp_below e.stamp t) (ih h)
 
@@ -178,21 +108,37 @@ collected_time s t held = by (s.from_start && stamp_same first_stamp t) refl hel
     first_time same = ap (λ (x : Stamp). x.time) (sym (stamp_same_true first_stamp t same))
 
     by : (b : Bool) → (s.from_start && stamp_same first_stamp t) ≡ b → (b || list_any (λ e. stamp_same e.stamp t) s.added) ≡ true
-        → t.time ≤ max s.order.time (greatest time_of (not_below t s.added))
+        → t.time ≤ max s.order.time (greatest time_at (not_below t s.added))
     by true at h = omega (arith, first_time (and_parts s.from_start (stamp_same first_stamp t) at).1)
     by false at h = omega (arith, held_time t s.added h)
 
--- after the versions below that of a stamp were dropped
-pub time-collected : (stripes : Stripes) (p : Place) (t : Stamp) → IsStrictlySortedBy place_cmp (keys_of stripes)
-    → has_version t (stripe_in stripes p) ≡ true
-    → IsReplaced (time_in stamp_of stripes) (greatest (λ e. (stamp_of e).time) (filter (λ e. stamp_below (stamp_of e) t) (stripe_in stripes p).added)) t.time
-    (time_in stamp_of (put p (with_collected stamp_of t (stripe_in stripes p)) stripes))
-time-collected stripes p t sorted held =
-    let s = stripe_in stripes p in
-    part_replaced _ _ _ _ _ _ (stripe_time stamp_of (with_collected stamp_of t s)) (stripe_replaced p (with_collected stamp_of t s) stripes sorted)
-    (stripe_within p stripes sorted) (omega (arith, greatest_split t s.added)) (omega (arith, collected_time s t held))
+-- of a stripe all times stay but those that go for another one
+record Parts (old now lost come : ℕ) : Type 0 where
+  rest : ℕ
+  before : old ≡ max lost rest
+  after : now ≡ max come rest
 
--- no stripes
-pub time-none : (stripes : Stripes) → stripes ≡ [] → time_in stamp_of stripes ≡ 0
+parts_of : (change : StripeChange) (s : StripeOf Entry) → IsAllowed change s
+    → Parts (stripe_time stamp_of s) (stripe_time stamp_of (changed change s)) (time_lost change s) (time_come change)
 unfolding greatest
-time-none stripes none = ap (time_in stamp_of) none
+parts_of (Order t) s allowed = record { rest = greatest time_at s.added; before = refl; after = refl }
+parts_of (Add e) s allowed = record { rest = stripe_time stamp_of s; before = omega arith; after = omega (arith, greatest-push time_at s.added e) }
+parts_of (Restart e) s allowed = record { rest = s.order.time; before = omega arith; after = omega arith }
+parts_of (Collect t) s allowed = record {
+  rest = stripe_time stamp_of (with_collected stamp_of t s);
+  before = omega (arith, greatest_split t s.added);
+  after = omega (arith, collected_time s t allowed);
+}
+
+-- after a change of a stripe
+pub time-changed : (number : ℕ) (change : StripeChange) (old new : List (ℕ × Stripe)) → (is : IsChanged number (changed change) old new)
+    → IsAllowed change (stripe_of is.from) → IsReplaced (time_of old) (time_lost change (stripe_of is.from)) (time_come change) (time_of new)
+time-changed number change old new is allowed =
+    let s = stripe_of is.from in
+    let time : Stripe → ℕ = λ x. stripe_time stamp_of (stripe_of x) in
+    let parts = parts_of change s allowed in
+    let whole = greatest-set_value time (is_at (nat_cmp number)) old is.from is.to is.there in
+    let here : IsReplaced (time_of old) (stripe_time stamp_of s) (stripe_time stamp_of (changed change s)) (time_of new) =
+    subst (λ (n : ℕ). IsReplaced (time_of old) (stripe_time stamp_of s) n (time_of new)) (ap (stripe_time stamp_of) is.now)
+    (subst (λ (es : List (ℕ × Stripe)). IsReplaced (time_of old) (stripe_time stamp_of s) (stripe_time stamp_of (stripe_of is.to)) (time_of es)) (sym is.written) whole) in
+    part_replaced _ _ _ _ _ _ parts.rest here (greatest-lookup time (is_at (nat_cmp number)) old is.from is.there) parts.before parts.after

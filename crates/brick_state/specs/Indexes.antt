@@ -8,11 +8,11 @@ use Rattle.stamp_store.specs.declared.kept_records.Kept.TheVariants as kinds
 use Rattle.brick_state.specs.declared.records.Record.{Record}
 use Rattle.brick_state.specs.declared.records.Record.TheVariants as forms
 use Rattle.brick_state.specs.Folds.{Limits, place, slot_named}
-use Rattle.brick_state.specs.Maps.{listed, HasRoom}
+use Rattle.brick_state.specs.Maps.{listed_in, HasRoom}
 use Rattle.brick_state.specs.Tallies.{HasSlotRoom}
 
 abbrev pub stripes_of : Index → List (Place × StripeOf Entry)
-stripes_of index = listed index.stripes.map.entries
+stripes_of index = listed_in index.stripes.views
 
 abbrev pub limits_of : Index → Limits
 limits_of index = record { records = index.records; slots = index.stripes.slots }
@@ -31,6 +31,6 @@ abbrev pub IsReady : Index → Record → Type 0
 IsReady index (forms.Kept (Boot count)) = Unit {0}
 IsReady index (forms.Kept (kinds.View g view synced)) = Unit {0}
 IsReady index (forms.Kept (Ballots g v promised accepted)) = Unit {0}
-IsReady index (forms.Kept (Order g v s t)) = HasRoom index.stripes.map (place g v s)
-IsReady index (forms.Logged r) = HasRoom index.stripes.map (place r.group r.view r.stripe)
+IsReady index (forms.Kept (Order g v s t)) = HasRoom index.stripes.views (place g v s)
+IsReady index (forms.Logged r) = HasRoom index.stripes.views (place r.group r.view r.stripe)
     × HasSlotRoom index.stripes.slots index.stripes.counts (slot_named r.change)

@@ -8,5 +8,7 @@ pub mod KeptStates
 pub mod Slots
 pub mod Times
 pub mod TopTimes
+pub mod Changes
+pub mod ViewStripes
 pub mod SlotTrees
 pub mod Tallies

@@ -93,7 +93,7 @@ impl Index {
         ensures none { IfNone result (stripe_at (state_of self.now) place ≡ first_stripe place) }
         ensures some { IfSome result (λ stripe. stripe_at (state_of self.now) place ≡ stripe_of stripe.now) }
     {
-        stripe_maps::find(self.stripes.map(), place)
+        stripe_maps::find(self.stripes.views(), place)
     }
 
     /// The slots that versions name, one that versions share once for each.
@@ -101,7 +101,7 @@ impl Index {
         ensures { IfOk result (λ slots. slots.items ≡ slots_of (state_of self.now)) }
     {
         let mut made = Vec::new(self.alloc);
-        slots::put_slots(&mut made, self.stripes.map())?;
+        slots::put_slots(&mut made, self.stripes.views())?;
         Ok(made)
     }
 
@@ -120,7 +120,7 @@ impl Index {
         let mut made = Vec::new(self.alloc);
         made.push(Record::Kept(Kept::Boot(self.boot)))?;
         rewrites::put_groups(&mut made, &self.groups)?;
-        rewrites::put_stripes(&mut made, self.stripes.map())?;
+        rewrites::put_stripes(&mut made, self.stripes.views())?;
         Ok(made)
     }
 
@@ -247,7 +247,7 @@ impl Index {
         ensures refused { result ≡ Ok false → state_of self.new ≡ state_of self.old }
         ensures err { OnErr result (state_of self.new ≡ state_of self.old) }
         ensures limits { limits_of self.new ≡ limits_of self.old }
-        ensures enough { HasRoom self.old.stripes.map place → IsOk result }
+        ensures enough { HasRoom self.old.stripes.views place → IsOk result }
     {
         if place.0 >= 64 {
             return Ok(false);
@@ -265,7 +265,7 @@ impl Index {
     pub fn order(&self, place: Place) -> Stamp
         ensures { result ≡ (stripe_at (state_of self.now) place).order }
     {
-        stripe_maps::order(self.stripes.map(), place)
+        stripe_maps::order(self.stripes.views(), place)
     }
 
     fn change_log(&mut self, logged: &Logged) -> Result<bool, NoMem>
@@ -276,7 +276,7 @@ impl Index {
         ensures refused { result ≡ Ok false → state_of self.new ≡ state_of self.old }
         ensures err { OnErr result (state_of self.new ≡ state_of self.old) }
         ensures limits { limits_of self.new ≡ limits_of self.old }
-        ensures enough { HasRoom self.old.stripes.map (place logged.now.group logged.now.view logged.now.stripe)
+        ensures enough { HasRoom self.old.stripes.views (place logged.now.group logged.now.view logged.now.stripe)
             → HasSlotRoom self.old.stripes.slots self.old.stripes.counts (slot_named logged.now.change) → IsOk result }
     {
         if logged.group.0 >= 64 {

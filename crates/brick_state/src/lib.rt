@@ -16,6 +16,8 @@ mod stripe_maps;
 mod stripe_tables;
 pub mod stripes;
 mod top_times;
+mod view_stripes;
+mod view_tables;
 
 pub use groups::Group;
 pub use indexes::Index;

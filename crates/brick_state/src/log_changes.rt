@@ -2,7 +2,7 @@
 
 ghost use Rattle.std.specs.Prelude.{◌≡◌, ◌<◌, ◌==◌, ◌&&◌, ◌||◌, false, Some, None, if◌then◌else◌, length, not};
 ghost use Rattle.brick_state.specs.States.{live_in, stripe_in, with_added, with_bottom, with_collected, stamp_of, newest_entry, has_version};
-ghost use Rattle.brick_state.specs.Maps.{listed, HasRoom, AnswersAt};
+ghost use Rattle.brick_state.specs.Maps.{listed_in, HasRoom, AnswersAt};
 ghost use Rattle.brick_state.specs.Tallies.{HasSlotRoom};
 ghost use Rattle.brick_state.specs.Folds.{log_changed, same_added, is_above, slot_limits, slot_named};
 
@@ -23,11 +23,11 @@ pub fn change_log(
     change: LogChange,
     full: bool,
 ) -> bool
-    requires room { HasRoom stripes.old.map place }
+    requires room { HasRoom stripes.old.views place }
     requires slot { HasSlotRoom stripes.old.slots stripes.old.counts (slot_named change) }
-    requires fits { full ≡ false → live_in (listed stripes.old.map.entries) < 4294967295 }
-    ensures answer { AnswersAt place (listed stripes.old.map.entries) (listed stripes.new.map.entries)
-        (log_changed (slot_limits stripes.old.slots) full change stamp (stripe_in (listed stripes.old.map.entries) place)) result }
+    requires fits { full ≡ false → live_in (listed_in stripes.old.views) < 4294967295 }
+    ensures answer { AnswersAt place (listed_in stripes.old.views) (listed_in stripes.new.views)
+        (log_changed (slot_limits stripes.old.slots) full change stamp (stripe_in (listed_in stripes.old.views) place)) result }
     ensures slots { stripes.new.slots ≡ stripes.old.slots }
 {
     match change {
@@ -48,11 +48,11 @@ pub fn change_log(
 }
 
 fn add_same(stripes: &mut StripeTable, place: Place, stamp: Stamp, full: bool) -> bool
-    requires room { HasRoom stripes.old.map place }
-    requires fits { full ≡ false → live_in (listed stripes.old.map.entries) < 4294967295 }
-    ensures answer { AnswersAt place (listed stripes.old.map.entries) (listed stripes.new.map.entries)
-        (if full then None else same_added (newest_entry (stripe_in (listed stripes.old.map.entries) place)) stamp
-        (stripe_in (listed stripes.old.map.entries) place)) result }
+    requires room { HasRoom stripes.old.views place }
+    requires fits { full ≡ false → live_in (listed_in stripes.old.views) < 4294967295 }
+    ensures answer { AnswersAt place (listed_in stripes.old.views) (listed_in stripes.new.views)
+        (if full then None else same_added (newest_entry (stripe_in (listed_in stripes.old.views) place)) stamp
+        (stripe_in (listed_in stripes.old.views) place)) result }
     ensures slots { stripes.new.slots ≡ stripes.old.slots }
 {
     if full {
@@ -75,12 +75,12 @@ fn add_same(stripes: &mut StripeTable, place: Place, stamp: Stamp, full: bool) -
 }
 
 fn add_above(stripes: &mut StripeTable, place: Place, entry: Entry, full: bool) -> bool
-    requires room { HasRoom stripes.old.map place }
+    requires room { HasRoom stripes.old.views place }
     requires slot { HasSlotRoom stripes.old.slots stripes.old.counts entry.block }
-    requires fits { full ≡ false → live_in (listed stripes.old.map.entries) < 4294967295 }
-    ensures answer { AnswersAt place (listed stripes.old.map.entries) (listed stripes.new.map.entries)
-        (if full || not (is_above (newest_entry (stripe_in (listed stripes.old.map.entries) place)) entry.stamp) then None else Some
-        (with_added entry (stripe_in (listed stripes.old.map.entries) place))) result }
+    requires fits { full ≡ false → live_in (listed_in stripes.old.views) < 4294967295 }
+    ensures answer { AnswersAt place (listed_in stripes.old.views) (listed_in stripes.new.views)
+        (if full || not (is_above (newest_entry (stripe_in (listed_in stripes.old.views) place)) entry.stamp) then None else Some
+        (with_added entry (stripe_in (listed_in stripes.old.views) place))) result }
     ensures slots { stripes.new.slots ≡ stripes.old.slots }
 {
     if full {
@@ -96,15 +96,15 @@ fn add_above(stripes: &mut StripeTable, place: Place, entry: Entry, full: bool) 
 }
 
 fn add_bottom(stripes: &mut StripeTable, place: Place, entry: Entry, full: bool) -> bool
-    requires room { HasRoom stripes.old.map place }
+    requires room { HasRoom stripes.old.views place }
     requires slot { HasSlotRoom stripes.old.slots stripes.old.counts entry.block }
-    requires fits { full ≡ false → live_in (listed stripes.old.map.entries) < 4294967295 }
-    ensures answer { AnswersAt place (listed stripes.old.map.entries) (listed stripes.new.map.entries)
-        (if (length (stripe_in (listed stripes.old.map.entries) place).added == 0) && full then None else Some
-        (with_bottom entry (stripe_in (listed stripes.old.map.entries) place))) result }
+    requires fits { full ≡ false → live_in (listed_in stripes.old.views) < 4294967295 }
+    ensures answer { AnswersAt place (listed_in stripes.old.views) (listed_in stripes.new.views)
+        (if (length (stripe_in (listed_in stripes.old.views) place).added == 0) && full then None else Some
+        (with_bottom entry (stripe_in (listed_in stripes.old.views) place))) result }
     ensures slots { stripes.new.slots ≡ stripes.old.slots }
 {
-    let count = match stripe_maps::find(stripes.map(), place) {
+    let count = match stripe_maps::find(stripes.views(), place) {
         Some(stripe) => stripe.added.len(),
         None => 0,
     };
@@ -116,13 +116,13 @@ fn add_bottom(stripes: &mut StripeTable, place: Place, entry: Entry, full: bool)
 }
 
 fn collect_held(stripes: &mut StripeTable, place: Place, stamp: Stamp) -> bool
-    requires room { HasRoom stripes.old.map place }
-    ensures answer { AnswersAt place (listed stripes.old.map.entries) (listed stripes.new.map.entries)
-        (if has_version stamp (stripe_in (listed stripes.old.map.entries) place) then Some
-        (with_collected stamp_of stamp (stripe_in (listed stripes.old.map.entries) place)) else None) result }
+    requires room { HasRoom stripes.old.views place }
+    ensures answer { AnswersAt place (listed_in stripes.old.views) (listed_in stripes.new.views)
+        (if has_version stamp (stripe_in (listed_in stripes.old.views) place) then Some
+        (with_collected stamp_of stamp (stripe_in (listed_in stripes.old.views) place)) else None) result }
     ensures slots { stripes.new.slots ≡ stripes.old.slots }
 {
-    let held = match stripe_maps::find(stripes.map(), place) {
+    let held = match stripe_maps::find(stripes.views(), place) {
         Some(stripe) => stripe.has(stamp),
         None => place.1 == 1 && Stamp::FIRST.is_same(stamp),
     };

@@ -3,10 +3,11 @@
 ghost use Rattle.std.specs.Prelude.{◌≡◌, ◌≤◌, ◌++◌, ◌∷◌, [], length, OnOk};
 ghost use Rattle.brick_state.specs.Rewrites.{learnt_number, view_records, ballot_records, group_records, groups_records, order_records, version_change, version_record, version_records, start_of, stripe_records, stripes_records};
 ghost use Rattle.brick_state.specs.States.{stripe_of};
-ghost use Rattle.brick_state.specs.Maps.{listed};
+ghost use Rattle.brick_state.specs.Maps.{listed, listed_in, placed};
 
 use crate::groups::Group;
 use crate::records::Record;
+use crate::stripe_maps::{ViewKey, Views};
 use crate::stripes::{Entry, FIRST_ENTRY, Place, Stripe};
 use fab_base::{Ballot, GroupId, Members, NoMem, Stamp, StripeNo, View, ViewNo};
 use stamp_store::{Kept, LogChange, Logged};
@@ -92,14 +93,24 @@ fn copied(accepted: &Option<(Ballot, Members)>) -> Option<(Ballot, Members)>
 }
 
 /// Adds the records of all stripes.
-pub fn put_stripes(
-    records: &mut Vec<Record>,
-    stripes: &BTreeMap<Place, Stripe>,
-) -> Result<(), NoMem>
-    ensures { OnOk result (records.new.items ≡ records.old.items ++ stripes_records (listed stripes.now.entries)) }
+pub fn put_stripes(records: &mut Vec<Record>, views: &Views) -> Result<(), NoMem>
+    ensures { OnOk result (records.new.items ≡ records.old.items ++ stripes_records (listed_in views.now)) }
 {
-    for (place, stripe) in stripes {
-        put_stripe(records, *place, stripe)?;
+    for (key, table) in views {
+        put_table(records, *key, table.stripes())?;
+    }
+    Ok(())
+}
+
+fn put_table(
+    records: &mut Vec<Record>,
+    key: ViewKey,
+    stripes: &BTreeMap<u32, Stripe>,
+) -> Result<(), NoMem>
+    ensures { OnOk result (records.new.items ≡ records.old.items ++ stripes_records (listed (placed key stripes.now.entries))) }
+{
+    for (number, stripe) in stripes {
+        put_stripe(records, (key.0, key.1, *number), stripe)?;
     }
     Ok(())
 }

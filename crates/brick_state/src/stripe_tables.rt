@@ -1,19 +1,20 @@
 //! The stripes of a brick with what is counted of them.
 
-ghost use Rattle.std.specs.Prelude.{◌≡◌, ◌≢◌, ◌+◌, ◌-◌, ◌<◌, ◌≤◌, ℕ, ◌==◌, ◌^◌, not, filter, length, IfOk, OnOk, IsOk, IfNone, IfSome, nat_lt, replicate, slice_index_or, count_by, if◌then◌else◌, true, min, []};
+ghost use Rattle.std.specs.Prelude.{◌≡◌, ◌≢◌, ◌+◌, ◌-◌, ◌<◌, ◌≤◌, ℕ, ◌==◌, ◌^◌, not, filter, length, IfOk, OnOk, IsOk, IfNone, IfSome, IsSome, nat_lt, replicate, slice_index_or, sum_by, true, []};
+ghost use Rattle.std.specs.Map.{remove_entry};
+ghost use Rattle.std.specs.BTreeMap.{is_at, get, values};
 ghost use Rattle.fab_base.specs.Stamps.{stamp_below, stamp_same, first_stamp};
 ghost use Rattle.brick_state.specs.States.{first_stripe, stripe_in, has_version, stripe_of, stamp_of, put, live_in, weight, with_order, with_added, with_bottom, with_collected, is_of_view, newest_entry};
-ghost use Rattle.brick_state.specs.Maps.{listed, HasRoom};
+ghost use Rattle.brick_state.specs.Maps.{listed_in, HasRoom, view_cmp};
 ghost use Rattle.brick_state.specs.Folds.{adds_order, is_above};
 ghost use Rattle.brick_state.specs.Slots.{slots_in, IsFree};
 ghost use Rattle.brick_state.specs.Times.{time_in};
-ghost use Rattle.brick_state.specs.TopTimes.{IsTopOf};
-ghost use Rattle.brick_state.specs.Tallies.{names_of, names_in, AreNames, NoneBeyond, HasSlotRoom, order_weight};
+ghost use Rattle.brick_state.specs.Tallies.{names_of, AreNames, NoneBeyond, HasSlotRoom, order_weight};
 
 use crate::slot_tables::SlotTable;
 use crate::stripe_maps;
-use crate::stripes::{Entry, Place, Stripe, newest_time, time_below};
-use crate::top_times::TopTime;
+use crate::stripe_maps::{ViewKey, Views};
+use crate::stripes::{Entry, Place, Stripe, StripeChange};
 use fab_base::{NoMem, Stamp};
 use std::alloc::Global;
 use std::collections::BTreeMap;
@@ -23,60 +24,51 @@ use std::collections::BTreeMap;
 /// takes little memory.
 #[derive(Drop)]
 pub struct StripeTable {
-    map: BTreeMap<Place, Stripe>,
+    views: Views,
     live: u32,
     slots: u32,
     counts: SlotTable,
-    top: TopTime,
     ghost fits: { live ≤ 4294967295 },
     ghost few: { slots ≤ 4294967295 },
-    ghost counted: { live ≡ live_in (listed map.entries) },
-    ghost named: { AreNames (listed map.entries) counts },
-    ghost beyond: { NoneBeyond slots (listed map.entries) counts },
-    ghost timed: { IsTopOf top (time_in stamp_of (listed map.entries)) },
+    ghost counted: { live ≡ live_in (listed_in views) },
+    ghost named: { AreNames (listed_in views) counts },
+    ghost beyond: { NoneBeyond slots (listed_in views) counts },
 }
 
 impl StripeTable {
     /// No stripes, and so many slots. It takes no memory.
     pub fn new(alloc: Global, slots: u32) -> StripeTable
-        ensures nothing { listed result.map.entries ≡ listed [] }
+        ensures nothing { listed_in result.views ≡ [] }
         ensures slots { result.slots ≡ slots }
     {
         StripeTable {
-            map: BTreeMap::new(alloc),
+            views: BTreeMap::new(alloc),
             live: 0,
             slots,
             counts: SlotTable::new(alloc),
-            top: TopTime::new(0),
         }
     }
 
-    /// The stripes by their places.
-    pub fn map(&self) -> &BTreeMap<Place, Stripe>
-        ensures { result.now ≡ self.now.map }
+    /// The stripes of each view of each group.
+    pub fn views(&self) -> &Views
+        ensures { result.now ≡ self.now.views }
     {
-        &self.map
+        &self.views
     }
 
     /// How many live records there are.
     pub fn live(&self) -> u32
-        ensures { result ≡ live_in (listed self.now.map.entries) }
+        ensures { result ≡ live_in (listed_in self.now.views) }
     {
         self.live
     }
 
-    /// The greatest time of the order stamps and of the versions added, 0 where there is none.
-    ///
-    /// It takes one step in each run of the protocol: there the order stamp and the newest version of a stripe only rise, and
-    /// all stamps of a stripe are of one view. Only where records came in another order, as in a store from elsewhere, are all
-    /// stripes walked.
+    /// The greatest time of the order stamps and of the versions added, 0 where there is none. It looks at each view once, and
+    /// at no stripe.
     pub fn top_time(&self) -> u64
-        ensures { result ≡ time_in stamp_of (listed self.now.map.entries) }
+        ensures { result ≡ time_in stamp_of (listed_in self.now.views) }
     {
-        match self.top.get() {
-            Some(time) => time,
-            None => stripe_maps::top_time(&self.map),
-        }
+        stripe_maps::top_time(&self.views)
     }
 
     /// Whether there is such a slot.
@@ -88,10 +80,10 @@ impl StripeTable {
 
     /// The newest version of a stripe.
     pub fn newest(&self, place: Place) -> Option<Entry>
-        ensures newest { result ≡ newest_entry (stripe_in (listed self.now.map.entries) place) }
+        ensures newest { result ≡ newest_entry (stripe_in (listed_in self.now.views) place) }
         ensures counted { IfSome result (λ entry. HasSlotRoom self.now.slots self.now.counts entry.block) }
     {
-        match stripe_maps::find(&self.map, place) {
+        match stripe_maps::find(&self.views, place) {
             Some(stripe) => stripe.newest(),
             None => Stripe::first_entry(place),
         }
@@ -99,28 +91,28 @@ impl StripeTable {
 
     /// The least slot that no version names, where there are fewer live records than slots.
     pub fn free_slot(&self) -> u32
-        requires { live_in (listed self.now.map.entries) < self.now.slots }
-        ensures { IsFree self.now.slots (slots_in (listed self.now.map.entries)) result }
+        requires { live_in (listed_in self.now.views) < self.now.slots }
+        ensures { IsFree self.now.slots (slots_in (listed_in self.now.views)) result }
     {
         self.counts.first_free()
     }
 
     /// Makes room for a change of a stripe that names this slot.
     pub fn make_room(&mut self, alloc: Global, place: Place, slot: u32) -> Result<(), NoMem>
-        ensures same { listed self.new.map.entries ≡ listed self.old.map.entries }
+        ensures same { listed_in self.new.views ≡ listed_in self.old.views }
         ensures slots { self.new.slots ≡ self.old.slots }
-        ensures room { OnOk result (HasRoom self.new.map place) }
+        ensures room { OnOk result (HasRoom self.new.views place) }
         ensures slot_room { OnOk result (HasSlotRoom self.new.slots self.new.counts slot) }
-        ensures enough { HasRoom self.old.map place → HasSlotRoom self.old.slots self.old.counts slot → IsOk result }
+        ensures enough { HasRoom self.old.views place → HasSlotRoom self.old.slots self.old.counts slot → IsOk result }
     {
         self.make_slot_room(alloc, slot)?;
-        stripe_maps::make_room(alloc, &mut self.map, place)?;
+        stripe_maps::make_room(alloc, &mut self.views, place)?;
         Ok(())
     }
 
     // Has a count for this slot: the table at least doubles, so that all of its growths take the time of the last.
     fn make_slot_room(&mut self, alloc: Global, slot: u32) -> Result<(), NoMem>
-        ensures same { self.new.map ≡ self.old.map }
+        ensures same { self.new.views ≡ self.old.views }
         ensures slots { self.new.slots ≡ self.old.slots }
         ensures room { OnOk result (HasSlotRoom self.new.slots self.new.counts slot) }
         ensures enough { HasSlotRoom self.old.slots self.old.counts slot → IsOk result }
@@ -136,79 +128,83 @@ impl StripeTable {
 
     /// Sets an order stamp.
     pub fn set_order(&mut self, place: Place, stamp: Stamp)
-        requires room { HasRoom self.old.map place }
-        requires fits { adds_order stamp (stripe_in (listed self.old.map.entries) place) ≡ true → live_in (listed self.old.map.entries) < 4294967295 }
-        ensures order { listed self.new.map.entries ≡ put place (with_order stamp (stripe_in (listed self.old.map.entries) place))
-            (listed self.old.map.entries) }
+        requires room { HasRoom self.old.views place }
+        requires fits { adds_order stamp (stripe_in (listed_in self.old.views) place) ≡ true → live_in (listed_in self.old.views) < 4294967295 }
+        ensures order { listed_in self.new.views ≡ put place (with_order stamp (stripe_in (listed_in self.old.views) place))
+            (listed_in self.old.views) }
         ensures slots { self.new.slots ≡ self.old.slots }
     {
-        let replaced = stripe_maps::order(&self.map, place);
+        let replaced = stripe_maps::order(&self.views, place);
         let before = order_weight(replaced);
-        stripe_maps::set_order(&mut self.map, place, stamp);
+        stripe_maps::change(&mut self.views, place, StripeChange::Order(stamp));
         self.live = self.live - before + order_weight(stamp);
-        self.top.replace(replaced.time, stamp.time);
     }
 
     /// Adds a version.
     pub fn add(&mut self, place: Place, entry: Entry)
-        requires room { HasRoom self.old.map place }
-        requires above { is_above (newest_entry (stripe_in (listed self.old.map.entries) place)) entry.stamp ≡ true }
+        requires room { HasRoom self.old.views place }
+        requires above { is_above (newest_entry (stripe_in (listed_in self.old.views) place)) entry.stamp ≡ true }
         requires slot { HasSlotRoom self.old.slots self.old.counts entry.block }
-        requires fits { live_in (listed self.old.map.entries) < 4294967295 }
-        ensures added { listed self.new.map.entries ≡ put place (with_added entry (stripe_in (listed self.old.map.entries) place))
-            (listed self.old.map.entries) }
+        requires fits { live_in (listed_in self.old.views) < 4294967295 }
+        ensures added { listed_in self.new.views ≡ put place (with_added entry (stripe_in (listed_in self.old.views) place))
+            (listed_in self.old.views) }
         ensures slots { self.new.slots ≡ self.old.slots }
     {
-        stripe_maps::add(&mut self.map, place, entry);
+        stripe_maps::change(&mut self.views, place, StripeChange::Add(entry));
         self.live += 1;
         self.counts.take(entry.block);
-        self.top.replace(0, entry.stamp.time);
     }
 
     /// Adds a version in the place of all that are there.
     pub fn set_bottom(&mut self, place: Place, entry: Entry)
-        requires room { HasRoom self.old.map place }
+        requires room { HasRoom self.old.views place }
         requires slot { HasSlotRoom self.old.slots self.old.counts entry.block }
-        requires fits { length (stripe_in (listed self.old.map.entries) place).added ≡ 0 → live_in (listed self.old.map.entries) < 4294967295 }
-        ensures added { listed self.new.map.entries ≡ put place (with_bottom entry (stripe_in (listed self.old.map.entries) place))
-            (listed self.old.map.entries) }
+        requires fits { length (stripe_in (listed_in self.old.views) place).added ≡ 0 → live_in (listed_in self.old.views) < 4294967295 }
+        ensures added { listed_in self.new.views ≡ put place (with_bottom entry (stripe_in (listed_in self.old.views) place))
+            (listed_in self.old.views) }
         ensures slots { self.new.slots ≡ self.old.slots }
     {
-        let versions = stripe_maps::added(&self.map, place);
-        let lost = newest_time(versions);
+        let versions = stripe_maps::added(&self.views, place);
         let dropped = release_all(&mut self.counts, versions);
-        stripe_maps::set_bottom(&mut self.map, place, entry);
+        stripe_maps::change(&mut self.views, place, StripeChange::Restart(entry));
         self.live = self.live - dropped as u32 + 1;
         self.counts.take(entry.block);
-        self.top.replace(lost, entry.stamp.time);
     }
 
     /// Drops the versions below the stamp of one.
     pub fn collect(&mut self, place: Place, stamp: Stamp)
-        requires room { HasRoom self.old.map place }
-        requires held { has_version stamp (stripe_in (listed self.old.map.entries) place) ≡ true }
-        ensures kept { listed self.new.map.entries ≡ put place (with_collected stamp_of stamp (stripe_in (listed self.old.map.entries) place))
-            (listed self.old.map.entries) }
+        requires room { HasRoom self.old.views place }
+        requires held { has_version stamp (stripe_in (listed_in self.old.views) place) ≡ true }
+        ensures kept { listed_in self.new.views ≡ put place (with_collected stamp_of stamp (stripe_in (listed_in self.old.views) place))
+            (listed_in self.old.views) }
         ensures slots { self.new.slots ≡ self.old.slots }
     {
-        let versions = stripe_maps::added(&self.map, place);
-        let lost = time_below(versions, stamp);
+        let versions = stripe_maps::added(&self.views, place);
         let dropped = release_below(&mut self.counts, versions, stamp);
-        stripe_maps::collect(&mut self.map, place, stamp);
+        stripe_maps::change(&mut self.views, place, StripeChange::Collect(stamp));
         self.live -= dropped as u32;
-        // The version that stays is in the place of those that go.
-        self.top.replace(lost, stamp.time);
     }
 
-    /// Drops the stripes of a group in the views below one.
+    /// Drops the stripes of a group in the views below one. It takes no memory, and looks at no other stripe.
     pub fn drop_views(&mut self, group: u32, first: u32)
-        ensures kept { listed self.new.map.entries ≡ filter (λ e. not (is_of_view group first e.0)) (listed self.old.map.entries) }
+        ensures kept { listed_in self.new.views ≡ filter (λ e. not (is_of_view group first e.0)) (listed_in self.old.views) }
         ensures slots { self.new.slots ≡ self.old.slots }
     {
-        let dropped = release_views(&mut self.counts, &self.map, group, first);
-        stripe_maps::drop_views(&mut self.map, group, first);
-        self.live -= dropped as u32;
-        self.top = TopTime::new(stripe_maps::top_time(&self.map));
+        while let Some(key) = stripe_maps::first_below(&self.views, group, first) {
+            self.drop_view(key);
+        }
+    }
+
+    fn drop_view(&mut self, key: ViewKey)
+        requires { IsSome (get view_cmp self.old.views key) }
+        ensures fewer { length self.new.views.entries < length self.old.views.entries }
+        ensures removed { self.new.views.entries ≡ remove_entry (is_at (view_cmp key)) self.old.views.entries }
+        ensures slots { self.new.slots ≡ self.old.slots }
+    {
+        if let Some(table) = self.views.remove(&key) {
+            release_stripes(&mut self.counts, table.stripes());
+            self.live -= table.live();
+        }
     }
 }
 
@@ -248,24 +244,13 @@ fn release_below(counts: &mut SlotTable, entries: &[Entry], stamp: Stamp) -> usi
     dropped
 }
 
-// The same for the stripes of a group in the views below one; their live records, where these are below 2^64.
-fn release_views(
-    counts: &mut SlotTable,
-    stripes: &BTreeMap<Place, Stripe>,
-    group: u32,
-    first: u32,
-) -> usize
-    ensures number { result ≡ min (live_in (filter (λ e. is_of_view group first e.0) (listed stripes.now.entries))) (2 ^ 64 - 1) }
+// The same for all versions of a view.
+fn release_stripes(counts: &mut SlotTable, stripes: &BTreeMap<u32, Stripe>)
     ensures length { length counts.new ≡ length counts.old }
     ensures counts { (slot : ℕ) → slot < length counts.old → slice_index_or counts.new slot 0 ≡ slice_index_or counts.old slot 0
-        - names_in slot (filter (λ e. is_of_view group first e.0) (listed stripes.now.entries)) }
+        - sum_by (λ s. names_of slot s.added.versions.items) (values stripes.now) }
 {
-    let mut dropped = 0usize;
-    for (place, stripe) in stripes {
-        if place.0 == group && place.1 < first {
-            let _ = release_all(counts, stripe.added.versions());
-            dropped = dropped.saturating_add(stripe.weight());
-        }
+    for stripe in stripes.values() {
+        let _ = release_all(counts, stripe.added.versions());
     }
-    dropped
 }

@@ -1,10 +1,11 @@
 //! What is kept of one stripe.
 
-ghost use Rattle.std.specs.Prelude.{◌≡◌, ◌-◌, ◌^◌, min, filter};
+ghost use Rattle.std.specs.Prelude.{◌≡◌, ◌-◌, ◌^◌, ◌<◌, min, filter, vec_len, vec_capacity};
 ghost use Rattle.std.specs.List.{list_any};
 ghost use Rattle.fab_base.specs.Stamps.{stamp_same, stamp_below};
 ghost use Rattle.brick_state.specs.States.{first_stripe, weight, stripe_of, stamp_of, newest_entry, has_version};
 ghost use Rattle.brick_state.specs.Times.{greatest, stripe_time};
+ghost use Rattle.brick_state.specs.Changes.{changed, IsAllowed, time_lost, time_come};
 
 use fab_base::{NoMem, Stamp};
 use std::alloc::Global;
@@ -24,6 +25,33 @@ pub const FIRST_ENTRY: Entry = Version {
     stamp: Stamp::FIRST,
     block: ZERO_SLOT,
 };
+
+/// What may happen to a stripe.
+#[derive(Clone, Copy, Drop)]
+pub enum StripeChange {
+    /// An order stamp.
+    Order(Stamp),
+    /// A version above the newest.
+    Add(Entry),
+    /// A version in the place of all that are there.
+    Restart(Entry),
+    /// The versions below that of a stamp are dropped.
+    Collect(Stamp),
+}
+
+impl StripeChange {
+    /// The time that it brings. That of a version which stays is in the place of those that go.
+    pub fn time_come(self) -> u64
+        ensures { result ≡ time_come self }
+    {
+        match self {
+            StripeChange::Order(stamp) => stamp.time,
+            StripeChange::Add(entry) => entry.stamp.time,
+            StripeChange::Restart(entry) => entry.stamp.time,
+            StripeChange::Collect(stamp) => stamp.time,
+        }
+    }
+}
 
 /// The order stamp and the log of a stripe in a view.
 #[derive(Drop)]
@@ -65,6 +93,38 @@ impl Stripe {
         ensures { result ≡ stripe_time stamp_of (stripe_of self.now) }
     {
         self.order.time.max(newest_time(self.added.versions()))
+    }
+
+    /// The greatest time that a change takes away.
+    pub fn time_lost(&self, change: StripeChange) -> u64
+        ensures { result ≡ time_lost change (stripe_of self.now) }
+    {
+        match change {
+            StripeChange::Order(_) => self.order.time,
+            StripeChange::Add(_) => 0,
+            StripeChange::Restart(_) => newest_time(self.added.versions()),
+            StripeChange::Collect(stamp) => time_below(self.added.versions(), stamp),
+        }
+    }
+
+    /// Changes it, where there is room for one version more.
+    pub fn change(&mut self, change: StripeChange)
+        requires room { vec_len self.old.added.versions < vec_capacity self.old.added.versions }
+        requires allowed { IsAllowed change (stripe_of self.old) }
+        ensures { stripe_of self.new ≡ changed change (stripe_of self.old) }
+    {
+        match change {
+            StripeChange::Order(stamp) => self.order = stamp,
+            StripeChange::Add(entry) => self.added.put(entry.stamp, entry.block),
+            StripeChange::Restart(entry) => {
+                self.from_start = false;
+                self.added.restart(entry.stamp, entry.block);
+            }
+            StripeChange::Collect(stamp) => {
+                self.from_start = self.from_start && !Stamp::FIRST.is_below(stamp);
+                self.added.drop_below(stamp);
+            }
+        }
     }
 
     /// The version that a stripe of this place begins with, if there is one.

@@ -1,49 +1,19 @@
-//! What is known of the greatest time that is kept.
+//! The greatest time that is kept.
 
-ghost use Rattle.std.specs.Prelude.{◌≡◌, ◌≤◌, ℕ, true, IfSome, IsSome};
+ghost use Rattle.std.specs.Prelude.{◌≡◌, ◌≤◌, ℕ, IfSome, IsSome};
+ghost use Rattle.brick_state.specs.TopTimes.{IsReplaced};
 
-/// The greatest time of the stamps that are kept, as it is told while they come and go.
-///
-/// Once a stamp of that time is lost for one of an earlier time, it is not known, since another stamp may have it too. A stamp
-/// that comes with that time or a later one makes it known again.
-#[derive(Drop)]
-pub struct TopTime {
-    time: u64,
-    is_exact: bool,
-}
-
-impl TopTime {
-    ghost use Rattle.brick_state.specs.TopTimes.{IsTopOf, IsReplaced};
-
-    /// Of stamps whose greatest time is this one.
-    pub fn new(greatest: u64) -> TopTime
-        ensures top { IsTopOf result greatest }
-        ensures exact { result.is_exact ≡ true }
-    {
-        TopTime {
-            time: greatest,
-            is_exact: true,
-        }
-    }
-
-    /// The greatest time, where it is known.
-    pub fn get(&self) -> Option<u64>
-        ensures greatest { (greatest : ℕ) → IsTopOf self.now greatest → IfSome result (λ time. time ≡ greatest) }
-        ensures known { self.now.is_exact ≡ true → IsSome result }
-    {
-        if self.is_exact { Some(self.time) } else { None }
-    }
-
-    /// A time is lost, and another one comes. Where that is not an earlier one, what was known stays known.
-    pub fn replace(&mut self, lost: u64, come: u64)
-        ensures top { (before after : ℕ) → IsTopOf self.old before → IsReplaced before lost come after → IsTopOf self.new after }
-        ensures known { lost ≤ come → self.old.is_exact ≡ true → self.new.is_exact ≡ true }
-    {
-        if come >= self.time {
-            self.time = come;
-            self.is_exact = true;
-        } else if lost >= self.time {
-            self.is_exact = false;
-        }
+/// The greatest of some times after one of them is lost and another one comes. None where the greatest one is lost for an
+/// earlier one: then another one may be the greatest.
+pub fn replaced(top: u64, lost: u64, come: u64) -> Option<u64>
+    ensures greatest { (after : ℕ) → IsReplaced top lost come after → IfSome result (λ time. time ≡ after) }
+    ensures known { lost ≤ come → IsSome result }
+{
+    if come >= top {
+        Some(come)
+    } else if lost < top {
+        Some(top)
+    } else {
+        None
     }
 }

@@ -1,7 +1,7 @@
 use Rattle.std.proofs.Common.{◌≡◌}
-use Rattle.brick_state.specs.States.{stripe_of, stamp_of}
-use Rattle.brick_state.specs.Times.{greatest, stripe_time}
+use Rattle.brick_state.specs.Times.{greatest}
+use Rattle.brick_state.specs.ViewStripes.{time_of}
 use Rattle.brick_state.proofs.stripe_maps.top_of_all.Given as goal
 
-abbrev pub invariant-loop-stripe : goal.invariant-loop-stripe
-invariant-loop-stripe l = l.top ≡ greatest (λ s. stripe_time stamp_of (stripe_of s.now)) l.yielded
+abbrev pub invariant-loop-table : goal.invariant-loop-table
+invariant-loop-table l = l.top ≡ greatest (λ t. time_of t.now.stripes.entries) l.yielded

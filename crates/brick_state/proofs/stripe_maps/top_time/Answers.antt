@@ -1,7 +1,7 @@
--- What is not seen keeps no time.
+-- The greatest time of all stripes is that of the views.
 use Rattle.std.proofs.Common.{sym, ◌∙◌}
-use Rattle.brick_state.proofs.Greatest.{time-listed}
+use Rattle.brick_state.proofs.ViewMaps.{time-flat}
 use Rattle.brick_state.proofs.stripe_maps.top_time.Goals as goal
 
 pub returns : goal.returns
-returns c = c.top_of_all.ensures ∙ sym (time-listed c.args.stripes.now.entries)
+returns c = c.top_of_all.ensures ∙ sym (time-flat c.args.views.now.entries)

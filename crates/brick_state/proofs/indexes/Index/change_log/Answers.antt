@@ -5,7 +5,7 @@ use Rattle.brick_state.specs.Entries.{Entry}
 use Rattle.brick_state.specs.States.{Place, stripe_in, StripeOf}
 use Rattle.brick_state.specs.Folds.{place, is_full, log_changed, slot_limits, placed}
 use Rattle.brick_state.specs.Indexes.{state_of, limits_of}
-use Rattle.brick_state.specs.Maps.{listed, AnswersAt}
+use Rattle.brick_state.specs.Maps.{listed_in, AnswersAt}
 use Rattle.brick_state.proofs.Applying.{log_changed-slots, placed_answer, tested, with_stripes}
 use Rattle.brick_state.proofs.Tallies.{full_fits}
 use Rattle.brick_state.proofs.indexes.Index.change_log.Goals as goal
@@ -16,8 +16,8 @@ returns-clause-answer c =
     let limits = limits_of c.args.self.now in
     let logged = c.args.logged.now in
     let p = place logged.group logged.view logged.stripe in
-    let new = listed c.change_log.new.stripes.map.entries in
-    let mid = listed c.make_room.new.self.map.entries in
+    let new = listed_in c.change_log.new.stripes.views in
+    let mid = listed_in c.make_room.new.self.views in
     let answer = c.change_log.result in
     let told = subst (λ (b : Bool). AnswersAt p mid new (log_changed (slot_limits c.make_room.new.self.slots) b logged.change logged.stamp
     (stripe_in mid p)) answer) c.is_full-full.ensures c.change_log.ensures.answer in
@@ -34,4 +34,4 @@ returns-clause-answer c =
 
 pub change_log-requires-clause-fits : goal.change_log-requires-clause-fits
 change_log-requires-clause-fits c = λ free.
-    full_fits c.args.self.now.records (listed c.make_room.new.self.map.entries) (sym c.is_full-full.ensures ∙ free) c.args.self.now.few
+    full_fits c.args.self.now.records (listed_in c.make_room.new.self.views) (sym c.is_full-full.ensures ∙ free) c.args.self.now.few

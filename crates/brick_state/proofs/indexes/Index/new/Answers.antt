@@ -1,15 +1,11 @@
 -- So many groups of which nothing is kept, and no stripes.
-use Rattle.std.proofs.Common.{◌≡◌, ℕ, List, [], refl, ap, ◌∙◌, arith}
+use Rattle.std.proofs.Common.{◌≡◌, ℕ, List, [], ap, ◌∙◌, arith}
 use Rattle.std.specs.Prelude.{replicate}
 use Rattle.brick_state.specs.declared.groups.Group.{Group}
 use Rattle.brick_state.specs.Entries.{Entry}
 use Rattle.brick_state.specs.States.{no_group, Place, StripeOf, StateOf}
-use Rattle.brick_state.specs.Maps.{listed}
+use Rattle.brick_state.specs.Maps.{listed_in}
 use Rattle.brick_state.proofs.indexes.Index.new.Goals as goal
-
-none_listed : listed [] ≡ []
-unfolding listed
-none_listed = refl
 
 made : List Group → List (Place × StripeOf Entry) → StateOf Entry
 made groups stripes = record { boot = 0; groups = groups; stripes = stripes }
@@ -22,4 +18,4 @@ unfolding made
 returns-clause-nothing c =
     let count : c.loop.counter ≡ 64 = omega arith in
     let groups = c.loop.invariant ∙ ap (λ (n : ℕ). replicate n no_group) count in
-    same_parts c.loop.groups.items (replicate 64 no_group) (listed c.new-stripes.result.map.entries) [] groups (c.new-stripes.ensures.nothing ∙ none_listed)
+    same_parts c.loop.groups.items (replicate 64 no_group) (listed_in c.new-stripes.result.views) [] groups (c.new-stripes.ensures.nothing)

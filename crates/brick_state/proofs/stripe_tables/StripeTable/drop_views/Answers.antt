@@ -1,37 +1,27 @@
--- The names of the versions of the dropped stripes are counted less.
-use Rattle.std.proofs.Common.{ℕ, List, subst, sym, ap, arith}
-use Rattle.brick_state.specs.Entries.{Entry}
-use Rattle.brick_state.specs.States.{Place, StripeOf, live_in, is_of_view}
-use Rattle.brick_state.specs.Maps.{listed}
-use Rattle.brick_state.specs.TopTimes.{IsTopOf}
-use Rattle.brick_state.specs.Tallies.{AreNames, NoneBeyond}
-use Rattle.brick_state.proofs.Tallies.{names-filter, beyond-filter, live-filter_both}
+-- One view less that is not kept, and at the end none is left.
+use Rattle.std.proofs.Common.{Bool, ◌≡◌, not, Option, List, [], subst, ap, ◌∙◌}
+use Rattle.std.specs.Option.{IfNone}
+use Rattle.std.specs.List.{filter}
+use Rattle.brick_state.specs.declared.view_tables.ViewTable.{ViewTable}
+use Rattle.brick_state.specs.Maps.{ViewKey, is_below_view}
+use Rattle.brick_state.proofs.ViewMaps.{kept-removed, dropped-flat}
 use Rattle.brick_state.proofs.stripe_tables.StripeTable.drop_views.Goals as goal
 
-pub overflow_cast-self : goal.overflow_cast-self
-overflow_cast-self c =
-    let t = c.args.self.now in
-    let most = t.fits in
-    omega (arith, t.counted, c.release_views-dropped.ensures.number, live-filter_both (is_of_view c.args.group c.args.first) (listed t.map.entries), most)
+pub loop-key-preserved : goal.loop-key-preserved
+loop-key-preserved c =
+    let keep : ViewKey → Bool = λ k. not (is_below_view c.args.group c.args.first k) in
+    let inv = c.loop-key.invariant in (
+      c.drop_view.ensures.slots ∙ inv.0,
+      ap (λ (es : List (ViewKey × ViewTable)). filter (λ e. keep e.0) es) c.drop_view.ensures.removed
+          ∙ kept-removed keep c.in-Some.key c.loop-key.self.views.entries (ap not c.in-Some.ensures.some) ∙ inv.1,
+    )
 
-pub overflow_sub-self : goal.overflow_sub-self
-overflow_sub-self c =
-    let t = c.args.self.now in
-    omega (arith, t.counted, c.release_views-dropped.ensures.number, live-filter_both (is_of_view c.args.group c.args.first) (listed t.map.entries))
+pub returns-clause-kept : goal.returns-clause-kept
+returns-clause-kept c =
+    let none : filter (λ e. is_below_view c.args.group c.args.first e.0) c.loop-key.self.views.entries ≡ [] =
+    subst (λ (o : Option ViewKey). IfNone o (filter (λ e. is_below_view c.args.group c.args.first e.0) c.loop-key.self.views.entries ≡ []))
+    c.in_default.is c.first_below.ensures.none in
+    dropped-flat c.args.group c.args.first c.args.self.now.views.entries c.loop-key.self.views.entries none c.loop-key.invariant.1
 
-pub invariant_of-self : goal.invariant_of-self
-invariant_of-self c =
-    let t = c.args.self.now in
-    let stripes = listed t.map.entries in
-    let drops = is_of_view c.args.group c.args.first in
-    record {
-      fits = omega (arith, t.fits);
-      counted = omega (arith, t.counted, c.release_views-dropped.ensures.number, ap live_in c.drop_views.ensures, live-filter_both drops stripes);
-      few = t.few;
-      timed = subst (λ (n : ℕ). IsTopOf c.new-self.result n) c.top_time.ensures c.new-self.ensures.top;
-      beyond = subst (λ (now : List (Place × StripeOf Entry)). NoneBeyond t.slots now c.release_views-dropped.new.counts) (sym c.drop_views.ensures)
-          (beyond-filter t.slots drops stripes t.counts c.release_views-dropped.new.counts t.beyond c.release_views-dropped.ensures.length);
-      named = subst (λ (now : List (Place × StripeOf Entry)). AreNames now c.release_views-dropped.new.counts) (sym c.drop_views.ensures)
-          (names-filter drops stripes t.counts c.release_views-dropped.new.counts t.named c.release_views-dropped.ensures.length
-          c.release_views-dropped.ensures.counts);
-    }
+pub loop-key-smaller : goal.loop-key-smaller
+loop-key-smaller c = c.drop_view.ensures.fewer

@@ -1,15 +1,12 @@
 -- One live record more or less, as the stamps say, and the same names.
 use Rattle.std.proofs.Common.{◌<◌, ℕ, ◌&&◌, Bool, not, refl, List, subst, sym, ap, ◌∙◌, arith}
 use Rattle.brick_state.specs.Entries.{Entry}
-use Rattle.brick_state.specs.States.{Place, StripeOf, stripe_in, stamp_of, put, with_order, live_in}
-use Rattle.brick_state.specs.Maps.{listed}
-use Rattle.brick_state.specs.Times.{time_in}
-use Rattle.brick_state.specs.TopTimes.{IsTopOf, IsReplaced}
+use Rattle.brick_state.specs.States.{Place, StripeOf, stripe_in, with_order, live_in}
+use Rattle.brick_state.specs.Maps.{listed_in}
 use Rattle.brick_state.specs.Tallies.{AreNames, NoneBeyond, order_weight}
 use Rattle.brick_state.proofs.Tallies.{names-ordered, beyond-put, live-ordered, order_within, order_fits}
 use Rattle.fab_base.specs.declared.stamps.Stamp.{Stamp}
 use Rattle.fab_base.specs.Stamps.{stamp_same, first_stamp}
-use Rattle.brick_state.proofs.TopTimes.{time-ordered}
 use Rattle.brick_state.proofs.stripe_tables.StripeTable.set_order.Goals as goal
 
 abbrev adds_order_of : Stamp → Stamp → Bool
@@ -22,13 +19,13 @@ overflow_sub-self c =
       c.args.self.now.counted,
       c.order_weight-before.ensures,
       ap order_weight c.order-replaced.ensures.order,
-      order_within (listed c.args.self.now.map.entries) c.args.place c.order-replaced.ensures.sorted,
+      order_within (listed_in c.args.self.now.views) c.args.place c.order-replaced.ensures.sorted,
     )
 
 pub invariant_of-self : goal.invariant_of-self
 invariant_of-self c =
     let t = c.args.self.now in
-    let stripes = listed t.map.entries in
+    let stripes = listed_in t.views in
     let sorted = c.order-replaced.ensures.sorted in
     record {
       fits = order_fits t.live c.order_weight-before.result c.order_weight.result c.args.stamp c.order-replaced.result c.order_weight-before.ensures c.order_weight.ensures
@@ -40,18 +37,14 @@ invariant_of-self c =
         c.order_weight-before.ensures,
         ap order_weight c.order-replaced.ensures.order,
         c.order_weight.ensures,
-        ap live_in c.set_order.ensures,
+        ap live_in c.change.ensures.changed,
         live-ordered stripes c.args.place c.args.stamp sorted,
         order_within stripes c.args.place sorted,
       );
       few = t.few;
-      timed = subst (λ (now : List (Place × StripeOf Entry)). IsTopOf c.replace.new.self (time_in stamp_of now)) (sym c.set_order.ensures)
-          (c.replace.ensures.top _ _ t.timed (subst (λ (o : Stamp). IsReplaced (time_in stamp_of stripes) o.time c.args.stamp.time
-          (time_in stamp_of (put c.args.place (with_order c.args.stamp (stripe_in stripes c.args.place)) stripes)))
-          (sym c.order-replaced.ensures.order) (time-ordered stripes c.args.place c.args.stamp sorted)));
-      beyond = subst (λ (now : List (Place × StripeOf Entry)). NoneBeyond t.slots now t.counts) (sym c.set_order.ensures)
+      beyond = subst (λ (now : List (Place × StripeOf Entry)). NoneBeyond t.slots now t.counts) (sym c.change.ensures.changed)
           (beyond-put t.slots stripes t.counts t.counts c.args.place (with_order c.args.stamp (stripe_in stripes c.args.place)) sorted t.beyond refl
           (λ slot past is_slot. omega arith));
-      named = subst (λ (now : List (Place × StripeOf Entry)). AreNames now t.counts) (sym c.set_order.ensures)
+      named = subst (λ (now : List (Place × StripeOf Entry)). AreNames now t.counts) (sym c.change.ensures.changed)
           (names-ordered stripes t.counts c.args.place c.args.stamp sorted t.named);
     }

@@ -1,0 +1,32 @@
+-- What is counted of the stripes of a view, after a change of one.
+use Rattle.std.proofs.Common.{◌≡◌, ℕ, ◌+◌, ◌≤◌, List, Option, Some, ap, ◌∙◌, arith}
+use Rattle.std.specs.Ordering.{nat_cmp}
+use Rattle.std.specs.Map.{lookup, set_value}
+use Rattle.std.specs.BTreeMap.{is_at}
+use Rattle.std.specs.Option.{option_map, unwrap_or}
+use Rattle.std.proofs.lemmas.Map.Entries.{sum_by-set_value, sum_by-remove_entry}
+use Rattle.brick_state.specs.declared.stripes.Stripe.{Stripe}
+use Rattle.brick_state.specs.declared.stripes.StripeChange.{StripeChange}
+use Rattle.brick_state.specs.States.{stripe_of, weight}
+use Rattle.brick_state.specs.Changes.{changed}
+use Rattle.brick_state.specs.ViewStripes.{live_of, IsChanged}
+
+module _ (number : ℕ) (change : StripeChange) (s new : Stripe) (old now : List (ℕ × Stripe)) (there : lookup (is_at (nat_cmp number)) old ≡ Some s)
+    (written : now ≡ set_value (is_at (nat_cmp number)) old new) (is : stripe_of new ≡ changed change (stripe_of s)) where
+  abbrev pub is_changed : IsChanged number (changed change) old now
+  is_changed = record { from = s; to = new; there = there; written = written; now = is }
+
+  -- its live records are exchanged
+  pub live-changed : live_of now + weight (stripe_of s) ≡ live_of old + weight (stripe_of new)
+  live-changed = ap (λ es. live_of es + weight (stripe_of s)) written ∙ sum_by-set_value (λ x. weight (stripe_of x)) (is_at (nat_cmp number)) old s new there
+
+  pub live_fits : live_of old + weight (changed change (stripe_of s)) ≤ 4294967295 + weight (stripe_of s) → live_of now ≤ 4294967295
+  live_fits fits = omega (arith, fits, live-changed, ap weight is)
+
+-- a stripe has no more than all of them
+pub weight_within : (number : ℕ) (s : Stripe) (es : List (ℕ × Stripe)) → lookup (is_at (nat_cmp number)) es ≡ Some s → weight (stripe_of s) ≤ live_of es
+weight_within number s es there = omega (
+  arith,
+  sum_by-remove_entry (λ x. weight (stripe_of x)) (is_at (nat_cmp number)) es,
+  ap (λ (o : Option Stripe). unwrap_or (option_map (λ x. weight (stripe_of x)) o) 0) there,
+)

@@ -1,0 +1,81 @@
+//! The stripes of a group in a view, with what is counted of them.
+
+ghost use Rattle.std.specs.Prelude.{◌≡◌, ◌≤◌, [], IsOk, OnOk};
+ghost use Rattle.std.specs.Ordering.{nat_cmp};
+ghost use Rattle.std.specs.BTreeMap.{IsOrdered};
+ghost use Rattle.std.proofs.Props.{props};
+ghost use Rattle.brick_state.specs.Changes.{changed};
+ghost use Rattle.brick_state.specs.ViewStripes.{live_of, time_of, HasRoomAt, MayChange, IsChanged};
+
+use crate::stripes::{Place, Stripe, StripeChange};
+use crate::view_stripes;
+use fab_base::NoMem;
+use std::alloc::Global;
+use std::collections::BTreeMap;
+
+/// The stripes of a group in a view by their numbers, how many live records they have, and the greatest time of their stamps.
+#[derive(Drop)]
+pub struct ViewTable {
+    stripes: BTreeMap<u32, Stripe>,
+    live: u32,
+    top: u64,
+    ghost fits: { live ≤ 4294967295 },
+    ghost counted: { live ≡ live_of stripes.entries },
+    ghost timed: { top ≡ time_of stripes.entries },
+    ghost ordered: { IsOrdered nat_cmp stripes } by { Prim.hlevel props },
+}
+
+impl ViewTable {
+    ghost use Rattle.brick_state.specs.Maps.{listed, placed, key_of};
+
+    /// No stripes. It takes no memory.
+    pub fn new(alloc: Global) -> ViewTable
+        ensures { result.stripes.entries ≡ [] }
+    {
+        ViewTable {
+            stripes: BTreeMap::new(alloc),
+            live: 0,
+            top: 0,
+        }
+    }
+
+    /// The stripes by their numbers.
+    pub fn stripes(&self) -> &BTreeMap<u32, Stripe>
+        ensures { result.now ≡ self.now.stripes }
+    {
+        &self.stripes
+    }
+
+    /// How many live records there are.
+    pub fn live(&self) -> u32
+        ensures { result ≡ live_of self.now.stripes.entries }
+    {
+        self.live
+    }
+
+    /// The greatest time of the order stamps and of the versions added, 0 where there is none.
+    pub fn top_time(&self) -> u64
+        ensures { result ≡ time_of self.now.stripes.entries }
+    {
+        self.top
+    }
+
+    /// Makes room for a change of a stripe. A stripe that is new is one where nothing happened.
+    pub fn make_room(&mut self, alloc: Global, place: Place) -> Result<(), NoMem>
+        ensures same { listed (placed (key_of place) self.new.stripes.entries) ≡ listed (placed (key_of place) self.old.stripes.entries) }
+        ensures room { OnOk result (HasRoomAt self.new.stripes place.2) }
+        ensures enough { HasRoomAt self.old.stripes place.2 → IsOk result }
+    {
+        view_stripes::make_room(alloc, &mut self.stripes, place)
+    }
+
+    /// Changes a stripe. All others are walked only where the greatest time goes for an earlier one.
+    pub fn change(&mut self, number: u32, change: StripeChange)
+        requires { MayChange self.old.stripes number change }
+        ensures { IsChanged number (changed change) self.old.stripes.entries self.new.stripes.entries }
+    {
+        let tally = view_stripes::change(&mut self.stripes, number, change);
+        self.live = self.live - tally.fewer + tally.more;
+        self.top = view_stripes::top_after(&self.stripes, self.top, tally.lost, tally.come);
+    }
+}
