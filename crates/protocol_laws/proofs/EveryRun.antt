@@ -4,7 +4,7 @@ use Rattle.std.proofs.lemmas.List.{append-nil}
 use Rattle.protocol.specs.Settings.{Setting, IsSound}
 use Rattle.protocol.specs.Views.{Views, layout_views}
 use Rattle.protocol.specs.Worlds.{World, Event, first_world, run}
-use Rattle.protocol_laws.specs.Laws.{Follows, RefusalsWereTrue, Laws, EveryRunKeepsTheLaws}
+use Rattle.protocol_laws.specs.Laws.{Follows, RefusalsWereTrue, WritesWereGuarded, Laws, EveryRunKeepsTheLaws}
 use Rattle.protocol_laws.proofs.Books.{Books}
 use Rattle.protocol_laws.proofs.BooksEvents.{books}
 use Rattle.protocol_laws.proofs.Chains.{neighbours_follow, lowest_follows}
@@ -18,15 +18,17 @@ use Rattle.protocol_laws.proofs.Tallies.{Tallied}
 use Rattle.protocol_laws.proofs.TalliesEvents.{tallied}
 use Rattle.reg_model.proofs.StripeLives.{well_formed_stripe, numbers_from_one}
 use Rattle.protocol_laws.proofs.Walks.{happenings_strict}
+use Rattle.protocol_laws.proofs.Guards.{writes_were_guarded}
 
 -- the laws, from the books, from what quorums show, and from the history of replies
 laws : (setting : Setting) (views : Views) (w : World) (stamps : Stamping) → Books setting w → Said setting w stamps → Follows setting.layout views w
-    → QuorumFacts setting w → Tallied w → IsNumbered w → RefusalsWereTrue setting w → Laws setting views w
-laws setting views w stamps booked said follows facts history numbered truths = record {
+    → WritesWereGuarded setting views w → QuorumFacts setting w → Tallied w → IsNumbered w → RefusalsWereTrue setting w → Laws setting views w
+laws setting views w stamps booked said follows guards facts history numbered truths = record {
   one_content = one_content setting views w stamps booked said follows;
   first_is_zero = facts.first;
   contents_are_made = facts.contents;
   guarded = writes_guarded setting views w stamps booked said follows;
+  guarded_when_sent = guards;
   stored = facts.stored;
   collects = collects_stand setting views w stamps booked said follows;
   drops = drops_older setting views w stamps booked said follows;
@@ -52,6 +54,7 @@ every_run setting views events sound follows =
     let w : World = run setting events (first_world setting.layout) in
     let said = always_said setting events sound in
     laws setting views w said.0 (books setting events) said.1 (follows events [] (sym (append-nil events)))
+    (writes_were_guarded setting views events sound follows)
     (facts setting sound w said.0 (books setting events) said.1)
     (tallied setting events sound)
     (always_numbered setting events)

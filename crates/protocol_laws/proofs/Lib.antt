@@ -18,6 +18,7 @@ pub mod EveryRun
 pub mod Falls
 pub mod FirstViews
 pub mod Growth
+pub mod Guards
 pub mod Left
 pub mod Logs
 pub mod Moments
@@ -33,6 +34,7 @@ pub mod Replies
 pub mod Requests
 pub mod Said
 pub mod SaidAlways
+pub mod Sendings
 pub mod Sends
 pub mod Sorting
 pub mod StampViews

@@ -27,6 +27,7 @@ use Rattle.protocol.proofs.Packets.{OfEach, each_none, each_member, each_collect
 use Rattle.protocol_laws.proofs.Tops.{top_is_part}
 use Rattle.protocol_laws.proofs.StampViews.{StampViews, NodeViews, RequestIsOf, MessageIsOf, asks_above, always_views}
 use Rattle.protocol_laws.proofs.Left.{packet_was_sent}
+use Rattle.protocol_laws.proofs.Sendings.{Adds, adds_none, SentAt, sent_at}
 
 -- what a packet refuses is true of its sender in a world
 abbrev IsTrue : World → Packet → Type 0
@@ -152,14 +153,8 @@ invoked_true setting w me now ask = in_group (group_at setting.layout (w.nodes m
     in_group (Some group) = phase_true setting w me (new_coordinator group me now (w.nodes me.0) ask)
 
 -- the packets of a next world: those that were, and more, of which what is refused is true in the world before
-record AddsTrue (w next : World) : Type 0 where
-  more : List Packet
-  packets : next.packets ≡ w.packets ++ more
-  are_true : AreTrue w more
-
-adds_none : (w next : World) → next.packets ≡ w.packets → AddsTrue w next
-adds_none w next same =
-    record { more = []; packets = same ∙ sym (append-nil w.packets); are_true = each_none (IsTrue w) }
+abbrev AddsTrue : World → World → Type 0
+AddsTrue w next = Adds (IsTrue w) w next
 
 -- every event adds packets that refuse truly
 adds_cases : (setting : Setting) (w : World) → StampViews setting.layout w → EventCases setting w (AddsTrue w)
@@ -169,74 +164,35 @@ adds_cases setting w views = record {
       record {
         more = (invoked setting brick (w.clocks brick.0) (w.nodes brick.0) ask).packets;
         packets = refl;
-        are_true = invoked_true setting w brick (w.clocks brick.0) ask;
+        each = invoked_true setting w brick (w.clocks brick.0) ask;
       };
   handles = λ number packet at up.
       record {
         more = (step_on setting w packet).packets;
         packets = refl;
-        are_true = received_true setting w (w.clocks packet.to.0) packet.from packet.to packet.message (views.nodes packet.to.0)
+        each = received_true setting w (w.clocks packet.to.0) packet.from packet.to packet.message (views.nodes packet.to.0)
             (let sent = packet_was_sent w number packet at in views.packets sent.0 packet sent.1);
       };
-  sets = λ brick time is. adds_none w _ refl;
+  sets = λ brick time is. adds_none (IsTrue w) w _ refl;
   ticks = λ brick up.
       record {
         more = ticked setting brick (w.nodes brick.0);
         packets = refl;
-        are_true = each_ticked (IsTrue w) setting brick (w.nodes brick.0).calls (w.nodes brick.0).seq (λ k c is seat to. tt);
+        each = each_ticked (IsTrue w) setting brick (w.nodes brick.0).calls (w.nodes brick.0).seq (λ k c is seat to. tt);
       };
-  stops = λ brick during up. adds_none w (world_stopped setting w brick during) refl;
-  starts = λ brick openings found may. started_each (AddsTrue w) w brick openings (adds_none w _ refl) (adds_none w _ refl) found;
+  stops = λ brick during up. adds_none (IsTrue w) w (world_stopped setting w brick during) refl;
+  starts = λ brick openings found may. started_each (AddsTrue w) w brick openings (adds_none (IsTrue w) w _ refl) (adds_none (IsTrue w) w _ refl) found;
 }
-
--- an element of a list that grew is an old one, or one of those added, behind the old ones
-get_behind : (xs ys : List Packet) (k : ℕ) (x : Packet) → slice_get (xs ++ ys) k ≡ Some x
-    → (slice_get xs k ≡ Some x) ⊎ ((length xs ≤ k) × ((j : ℕ) × (slice_get ys j ≡ Some x)))
-get_behind [] ys k x is = inr (omega arith, (k, is))
-get_behind (y ∷ xs) ys zero x is = inl is
-get_behind (y ∷ xs) ys (suc k) x is = ⊎_elim
-    (λ (old : slice_get xs k ≡ Some x). inl old)
-    (λ (new : (length xs ≤ k) × ((j : ℕ) × (slice_get ys j ≡ Some x))). inr (omega (arith, new.0), new.1))
-    (get_behind xs ys k x is)
-
--- a packet of a place was sent at a moment when it was true
-abbrev WasTrue : Setting → World → ℕ → Packet → Type 0
-WasTrue setting w k packet = (sending : Sending setting w k) × RefusalIsTrue sending.moment packet.from packet.message
-
--- each packet of a run that goes on from a moment was there, or was sent when it was true
-true_on : (setting : Setting) (earlier events : List Event) (w : World)
-    → w ≡ run setting earlier (first_world setting.layout)
-    → (k : ℕ) (packet : Packet) → slice_get (run setting events w).packets k ≡ Some packet
-    → (slice_get w.packets k ≡ Some packet) ⊎ WasTrue setting (run setting events w) k packet
-true_on setting earlier [] w is k packet at = inl at
-true_on setting earlier (event ∷ events) w is k packet at =
-    let next : World = happens setting w event in
-    let adds : AddsTrue w next = happens_each (AddsTrue w) setting w
-    (adds_cases setting w (subst (λ (x : World). StampViews setting.layout x) (sym is) (always_views setting earlier))) (adds_none w w refl) event in
-    ⊎_elim
-    (λ (was : slice_get next.packets k ≡ Some packet). ⊎_elim
-    (λ (old : slice_get w.packets k ≡ Some packet). inl old)
-    (λ (new : (length w.packets ≤ k) × ((j : ℕ) × (slice_get adds.more j ≡ Some packet))). inr (
-      record {
-        earlier = earlier;
-        event = event;
-        later = events;
-        moment = w;
-        moment_is = is;
-        world_is = refl;
-        unsent = new.0;
-        sent = slice_get_within next.packets k packet was;
-      },
-      adds.are_true new.1.0 packet new.1.1,
-    ))
-    (get_behind w.packets adds.more k packet (ap (λ (l : List Packet). slice_get l k) (sym adds.packets) ∙ was)))
-    (λ (sent : WasTrue setting (run setting events next) k packet). inr sent)
-    (true_on setting (earlier ++ (event ∷ [])) events next
-    (ap (λ (x : World). happens setting x event) is ∙ sym (run-append setting (first_world setting.layout) earlier (event ∷ []))) k packet at)
 
 -- each refusal of a run was true when it was sent
 pub refusals_true : (setting : Setting) (events : List Event) → RefusalsWereTrue setting (run setting events (first_world setting.layout))
-refusals_true setting events k packet at = ⊎_elim
-    (λ (none : slice_get [] k ≡ Some packet). absurd (let never : ⊥ = cc in never))
-    (λ (sent : WasTrue setting (run setting events (first_world setting.layout)) k packet). sent)
-    (true_on setting [] events (first_world setting.layout) refl k packet at)
+refusals_true setting events k packet at =
+    let sent : SentAt setting (λ w next. IsTrue w) events (run setting events (first_world setting.layout)) k packet
+    = sent_at setting (λ w next. IsTrue w) adds events k packet at in
+    (sent.sending, sent.fact)
+  where
+    adds : (earlier : List Event) (event : Event)
+        → (let w = run setting earlier (first_world setting.layout) in AddsTrue w (happens setting w event))
+    adds earlier event =
+        let w : World = run setting earlier (first_world setting.layout) in
+        happens_each (AddsTrue w) setting w (adds_cases setting w (always_views setting earlier)) (adds_none (IsTrue w) w w refl) event

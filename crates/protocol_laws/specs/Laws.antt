@@ -18,7 +18,7 @@ use Rattle.messages.specs.declared.requests.Want.TheVariants as Want
 use Rattle.messages.specs.declared.replies.Reply.{Reply}
 use Rattle.quorum.specs.Quorums.{count}
 use Rattle.reg_model.specs.declared.marks.Mark.TheVariants.{End}
-use Rattle.reg_model.specs.Marks.{life_of, stripe_marks, IsWellFormed}
+use Rattle.reg_model.specs.Marks.{life_of, IsOpen, stripe_marks, IsWellFormed}
 use Rattle.reg_model.specs.Registers.{zero_registers, block_of, with_block}
 use Rattle.reg_model.specs.Strict.{IsStrict}
 use Rattle.reg_model.specs.Walk.{last_of}
@@ -303,6 +303,15 @@ pub record Sending (setting : Setting) (w : World) (k : ℕ) : Type 0 where
   pub unsent : length moment.packets ≤ k
   pub sent : k < length (happens setting moment event).packets
 
+-- Each request to store version t was sent at a moment when a quorum of the view of t took nothing below t, and the operation of its call had not ended.
+abbrev pub WritesWereGuarded : Setting → Views → World → Type 0
+WritesWereGuarded setting views w =
+    (k : ℕ) (call : Call) (from to : BrickId) (request : Request) (t : Stamp) (group : Group)
+    → slice_get w.packets k ≡ Some (record { from = from; to = to; message = Message.Request call request }) → stamp_stored request ≡ Some t
+    → group_in setting.layout views call.group.0 (view_of t) ≡ Some group
+    → (sending : Sending setting w k) × IsGuarded sending.moment call.group.0 call.stripe.0 group t
+    × IsOpen (life_of sending.moment.marks (sending.moment.numbers from.0 call.boot call.seq))
+
 -- each refusal was true of the member that told it when it was sent
 abbrev pub RefusalsWereTrue : Setting → World → Type 0
 RefusalsWereTrue setting w =
@@ -338,6 +347,7 @@ pub record Laws (setting : Setting) (views : Views) (w : World) : Type 0 where
   pub first_is_zero : FirstIsZero setting w
   pub contents_are_made : ContentsAreMade setting w
   pub guarded : WritesAreGuarded setting views w
+  pub guarded_when_sent : WritesWereGuarded setting views w
   pub stored : StoredIsHeld w
   pub collects : CollectsStand setting views w
   pub drops : DropsOnlyOlder setting views w

@@ -27,7 +27,8 @@ pub fn every_run_follows_the_layout()
 /// - One stamp has one content: every block that was sent to be written under a stamp, that was found under it, or that a member
 ///   keeps under it, is its seat's block of that content. What is sent to modify a base is what one data block changes by from the
 ///   base's content to the version's, and every other data block is the base's.
-/// - Before a version was sent to be stored, a quorum of its view took nothing below its stamp, and has so ever since.
+/// - Whenever a version was sent to be stored, a quorum of its view took nothing below its stamp then, and has so ever since; and its
+///   operation had not ended.
 /// - A member says that it stored a version only where it was asked to, and has held it.
 /// - Members are told to drop what is below a version only after a quorum of its view has held it; and what a member dropped lies
 ///   below a version that it keeps, and that a quorum has held. What a quorum "has held", each of its members has kept at some time.
