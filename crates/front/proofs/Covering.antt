@@ -13,7 +13,7 @@ use Rattle.layout.specs.declared.places.Place.{Place}
 use Rattle.layout.specs.Limits.{IsLayout}
 use Rattle.layout.specs.Places.{place_of, length_of, blocks_of}
 use Rattle.layout.proofs.PlaceLaws.{one_to_one}
-use Rattle.front.specs.declared.pieces.Piece.{Piece}
+use Rattle.front.specs.declared.pieces.StripePart.{StripePart}
 use Rattle.front.specs.declared.steps.Halt.TheVariants as halt
 use Rattle.front.specs.Halts.{halt_of}
 use Rattle.front.specs.Pieces.{Wish, Part, is_whole, piece_of, piece_at, op_of, cut_of, part_of, parts_from, wish_of}
@@ -52,14 +52,14 @@ run_of layout volume k place (suc n) i follows h =
     (ap (λ j. map Some (blocks_from place.group place.stripe j n)) at ∙ rest ∙ ap (λ j. places_at layout volume j n) number)
 
 -- the blocks of an operation on a whole stripe, and on a block
-whole_blocks : (m : ℕ) (piece : Piece) (bytes : Option (List ℕ)) → piece.whole ≡ true
+whole_blocks : (m : ℕ) (piece : StripePart) (bytes : Option (List ℕ)) → piece.whole ≡ true
     → blocks_by m piece.place.group piece.place.stripe (op_of piece bytes) ≡ blocks_from piece.place.group piece.place.stripe 0 m
 whole_blocks m piece None is =
     ap (λ (t : Bool). blocks_by m piece.place.group piece.place.stripe (op_of (record piece { whole = t }) None)) is
 whole_blocks m piece (Some bytes) is =
     ap (λ (t : Bool). blocks_by m piece.place.group piece.place.stripe (op_of (record piece { whole = t }) (Some bytes))) is
 
-one_block : (m : ℕ) (piece : Piece) (bytes : Option (List ℕ)) → piece.whole ≡ false
+one_block : (m : ℕ) (piece : StripePart) (bytes : Option (List ℕ)) → piece.whole ≡ false
     → blocks_by m piece.place.group piece.place.stripe (op_of piece bytes) ≡ block_of piece.place.group piece.place.stripe piece.place.block ∷ []
 one_block m piece None is =
     ap (λ (t : Bool). blocks_by m piece.place.group piece.place.stripe (op_of (record piece { whole = t }) None)) is
@@ -164,13 +164,13 @@ covers wish limit done (suc more) zero some held bound h =
         let k = wish.first + done in
         let follows = in_volume layout wish.volume k place some is in
         let m : width layout place.group ≡ g.m = ap blocks_of group in
-        let piece : Piece = piece_of place (width layout place.group) (suc more) in
+        let piece : StripePart = piece_of place (width layout place.group) (suc more) in
         let same : piece_of place g.m (suc more) ≡ piece = ap (λ n. piece_of place n (suc more)) (sym m) in
         let found : piece_at layout wish.volume k (suc more) ≡ Some piece =
         ap (option_and_then (λ (p : Place). option_map (λ (o : Group). piece_of p o.m (suc more)) (group_of layout p.group.0))) is
-        ∙ ap (option_map (λ (o : Group). piece_of place o.m (suc more))) group ∙ ap (λ (p : Piece). Some p) same in
+        ∙ ap (option_map (λ (o : Group). piece_of place o.m (suc more))) group ∙ ap (λ (p : StripePart). Some p) same in
         let parts : parts_from wish done (suc more) zero ≡ part_of wish done piece ∷ parts_from wish (suc done) more piece.behind =
-        ap (λ (o : Option Piece). option_map_or (λ p. part_of wish done p ∷ parts_from wish (suc done) more p.behind) o []) found in
+        ap (λ (o : Option StripePart). option_map_or (λ p. part_of wish done p ∷ parts_from wish (suc done) more p.behind) o []) found in
         let fits : piece.behind ≤ more = behind_fits place (width layout place.group) more (is_whole place (width layout place.group) (suc more)) refl in
         let at : wish.first + suc done + piece.behind ≡ k + (piece.behind + 1) = omega arith in
         let left : more - piece.behind ≡ suc more - (piece.behind + 1) = omega arith in

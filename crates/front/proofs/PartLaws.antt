@@ -3,7 +3,7 @@ use Rattle.std.proofs.Common.{◌≡◌, ℕ, zero, suc, ◌+◌, ◌-◌, ◌*�
 use Rattle.std.specs.Option.{option_map_or}
 use Rattle.std.proofs.Math.Nat.{mul-le-mul_right}
 use Rattle.std.proofs.lemmas.Bool.Decides.{nat_tests}
-use Rattle.front.specs.declared.pieces.Piece.{Piece}
+use Rattle.front.specs.declared.pieces.StripePart.{StripePart}
 use Rattle.front.specs.Pieces.{Wish, Part, part_of, parts_from, piece_at}
 use Rattle.front.specs.Inside.{first_piece}
 
@@ -24,7 +24,7 @@ passed wish done (suc more) (suc joined) h =
     ∙ ap (λ k. parts_from wish (done + suc joined) k 0) behind
 
 -- the operation on a piece comes first, and the others begin behind it
-begins : (wish : Wish) (done more : ℕ) (piece : Piece) → piece_at wish.layout wish.volume (wish.first + done) (suc more) ≡ Some piece
+begins : (wish : Wish) (done more : ℕ) (piece : StripePart) → piece_at wish.layout wish.volume (wish.first + done) (suc more) ≡ Some piece
     → piece.behind ≤ more
     → parts_from wish done (suc more) 0
     ≡ part_of wish done piece ∷ parts_from wish (done + (piece.behind + 1)) (suc more - (piece.behind + 1)) 0
@@ -32,19 +32,19 @@ unfolding parts_from
 begins wish done more piece is within =
     let at : suc done + piece.behind ≡ done + (piece.behind + 1) = omega arith in
     let behind : more - piece.behind ≡ suc more - (piece.behind + 1) = omega arith in
-    let first = ap (λ (o : Option Piece). option_map_or (λ p. part_of wish done p ∷ parts_from wish (suc done) more p.behind) o []) is in
+    let first = ap (λ (o : Option StripePart). option_map_or (λ p. part_of wish done p ∷ parts_from wish (suc done) more p.behind) o []) is in
     first
     ∙ ap (λ (parts : List Part). part_of wish done piece ∷ parts)
     (passed wish (suc done) more piece.behind within ∙ ap (λ k. parts_from wish k (more - piece.behind) 0) at
     ∙ ap (λ k. parts_from wish (done + (piece.behind + 1)) k 0) behind)
 
 -- a piece that is next is the one there
-chosen : (b : Bool) (found : Option Piece) (piece : Piece) → cond b found None ≡ Some piece → found ≡ Some piece
+chosen : (b : Bool) (found : Option StripePart) (piece : StripePart) → cond b found None ≡ Some piece → found ≡ Some piece
 chosen true found piece is = is
 chosen false found piece is = let never : None ≡ Some piece = is in cc
 
 -- the operations that are left where a piece is next
-pub left_first : (wish : Wish) (total done : ℕ) (piece : Piece) → first_piece wish.layout wish.volume wish.first total done ≡ Some piece
+pub left_first : (wish : Wish) (total done : ℕ) (piece : StripePart) → first_piece wish.layout wish.volume wish.first total done ≡ Some piece
     → done + (piece.behind + 1) ≤ total
     → parts_from wish done (total - done) 0
     ≡ part_of wish done piece ∷ parts_from wish (done + (piece.behind + 1)) (total - (done + (piece.behind + 1))) 0
@@ -62,7 +62,7 @@ nothing : (wish : Wish) (done more : ℕ) → piece_at wish.layout wish.volume (
 unfolding parts_from
 nothing wish done zero is = refl
 nothing wish done (suc more) is =
-    ap (λ (o : Option Piece). option_map_or (λ p. part_of wish done p ∷ parts_from wish (suc done) more p.behind) o []) is
+    ap (λ (o : Option StripePart). option_map_or (λ p. part_of wish done p ∷ parts_from wish (suc done) more p.behind) o []) is
 
 pub ended : (wish : Wish) (done : ℕ) → parts_from wish done 0 0 ≡ []
 unfolding parts_from

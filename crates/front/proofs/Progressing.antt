@@ -4,7 +4,7 @@ use Rattle.std.specs.Option.{ForSome}
 use Rattle.fab_base.specs.declared.answers.Answer.{Answer}
 use Rattle.fab_base.specs.declared.answers.Answer.TheVariants as answer
 use Rattle.fab_base.specs.declared.answers.Refusal.{Refusal}
-use Rattle.front.specs.declared.pieces.Piece.{Piece}
+use Rattle.front.specs.declared.pieces.StripePart.{StripePart}
 use Rattle.front.specs.declared.steps.Halt.{Halt}
 use Rattle.front.specs.declared.steps.RangeAnswer.{RangeAnswer}
 use Rattle.front.specs.declared.steps.RangeAnswer.TheVariants as range
@@ -37,7 +37,7 @@ shows_done wish total done came bytes before p is going none same =
     ap (λ (b : List ℕ). step.End (range.Done b)) same ∙ sym here ∙ ap next_of is
 
 -- the operation on the piece that is next
-pub shows_ask : (wish : Wish) (total done : ℕ) (came : List ℕ) (before : Option Halt) (p : Progress) (piece : Piece)
+pub shows_ask : (wish : Wish) (total done : ℕ) (came : List ℕ) (before : Option Halt) (p : Progress) (piece : StripePart)
     → progress_of wish total done came before ≡ p → before ≡ None
     → first_piece wish.layout wish.volume wish.first total done ≡ Some piece → done + (piece.behind + 1) ≤ total
     → step.Ask (ask_of wish.layout.block wish.content done piece) ≡ next_of p
@@ -54,7 +54,7 @@ going None total done behind over within = refl
 going (Some why) total done behind over within = let same : done ≡ total = over why refl in absurd (omega arith)
 
 -- the range behind a piece, with these bytes
-behind_piece : (wish : Wish) (total done : ℕ) (came : List ℕ) (before : Option Halt) (piece : Piece) (more : List ℕ)
+behind_piece : (wish : Wish) (total done : ℕ) (came : List ℕ) (before : Option Halt) (piece : StripePart) (more : List ℕ)
     → before ≡ None
     → record (progress_of wish total done came before) {
       left = parts_from wish (done + (piece.behind + 1)) (total - (done + (piece.behind + 1))) 0;
@@ -66,7 +66,7 @@ behind_piece wish total done came before piece more none =
     (ap (option_map (answer_of done)) none ∙ sym (ap (option_map (answer_of (done + (piece.behind + 1)))) none))
 
 -- the bytes of a read come behind those before
-pub takes_data : (wish : Wish) (total done : ℕ) (came bytes more : List ℕ) (before : Option Halt) (p : Progress) (piece : Piece)
+pub takes_data : (wish : Wish) (total done : ℕ) (came bytes more : List ℕ) (before : Option Halt) (p : Progress) (piece : StripePart)
     (end : Result Answer Refusal) → progress_of wish total done came before ≡ p → ForSome before (λ why. done ≡ total)
     → first_piece wish.layout wish.volume wish.first total done ≡ Some piece → done + (piece.behind + 1) ≤ total
     → end ≡ Ok (answer.Data bytes) → more ≡ came ++ bytes
@@ -82,7 +82,7 @@ takes_data wish total done came bytes more before p piece end is over found with
     ∙ sym there ∙ ap (λ (r : Progress). after_end r (Ok (answer.Data bytes))) is ∙ ap (after_end p) (sym end_is)
 
 -- a write that is done
-pub takes_done : (wish : Wish) (total done : ℕ) (came : List ℕ) (before : Option Halt) (p : Progress) (piece : Piece)
+pub takes_done : (wish : Wish) (total done : ℕ) (came : List ℕ) (before : Option Halt) (p : Progress) (piece : StripePart)
     (end : Result Answer Refusal) → progress_of wish total done came before ≡ p → ForSome before (λ why. done ≡ total)
     → first_piece wish.layout wish.volume wish.first total done ≡ Some piece → done + (piece.behind + 1) ≤ total
     → end ≡ Ok answer.Done

@@ -8,7 +8,7 @@ use Rattle.fab_base.specs.Layouts.{Group, Layout, group_of}
 use Rattle.layout.specs.declared.places.Place.{Place}
 use Rattle.layout.specs.Limits.{IsLayout}
 use Rattle.layout.specs.Places.{place_of, blocks_of}
-use Rattle.front.specs.declared.pieces.Piece.{Piece}
+use Rattle.front.specs.declared.pieces.StripePart.{StripePart}
 use Rattle.front.specs.Pieces.{Wish, Part, is_whole, piece_of, piece_at, op_of, cut_of, part_of, parts_from, wish_of}
 use Rattle.front.specs.Blocks.{bytes_by, WritesAll}
 use Rattle.front.proofs.StripeRuns.{in_volume}
@@ -20,7 +20,7 @@ bytes_of_parts parts = flat_map (λ ask. bytes_by ask.op) (map (λ part. part.as
 
 -- a piece is the first of the operations on so many blocks
 record Begins (wish : Wish) (done more : ℕ) : Type 0 where
-  piece : Piece
+  piece : StripePart
   fits : piece.behind ≤ more
   parts : parts_from wish done (suc more) zero ≡ part_of wish done piece ∷ parts_from wish (suc done) more piece.behind
 
@@ -29,14 +29,14 @@ begins_at : (wish : Wish) (done more : ℕ) (place : Place) (group : Group)
     → Begins wish done more
 unfolding parts_from
 begins_at wish done more place group is held =
-    let piece : Piece = piece_of place group.m (suc more) in
+    let piece : StripePart = piece_of place group.m (suc more) in
     let found : piece_at wish.layout wish.volume (wish.first + done) (suc more) ≡ Some piece =
     ap (option_and_then (λ (p : Place). option_map (λ (o : Group). piece_of p o.m (suc more)) (group_of wish.layout p.group.0))) is
     ∙ ap (option_map (λ (o : Group). piece_of place o.m (suc more))) held in
     record {
       piece = piece;
       fits = behind_fits place group.m more (is_whole place group.m (suc more)) refl;
-      parts = ap (λ (o : Option Piece). option_map_or (λ p. part_of wish done p ∷ parts_from wish (suc done) more p.behind) o []) found;
+      parts = ap (λ (o : Option StripePart). option_map_or (λ p. part_of wish done p ∷ parts_from wish (suc done) more p.behind) o []) found;
     }
 
 begins_some : (wish : Wish) (done more : ℕ) → 1 ≤ wish.layout.block
@@ -57,7 +57,7 @@ begins_some wish done more some held = by_place (place_of wish.layout wish.volum
     by_place (Some place) is found = by_group place is (group_of wish.layout place.group.0) refl
 
 -- an operation that writes bytes writes those
-op_bytes : (piece : Piece) (bytes : List ℕ) (t : Bool) → piece.whole ≡ t → bytes_by (op_of piece (Some bytes)) ≡ bytes
+op_bytes : (piece : StripePart) (bytes : List ℕ) (t : Bool) → piece.whole ≡ t → bytes_by (op_of piece (Some bytes)) ≡ bytes
 op_bytes piece bytes true is = ap (λ (t : Bool). bytes_by (op_of (record piece { whole = t }) (Some bytes))) is
 op_bytes piece bytes false is = ap (λ (t : Bool). bytes_by (op_of (record piece { whole = t }) (Some bytes))) is
 

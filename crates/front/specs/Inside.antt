@@ -3,7 +3,7 @@ use Rattle.std.specs.Prelude.{◌≡◌, ℕ, ◌+◌, ◌-◌, ◌*◌, ◌<◌
 use Rattle.std.specs.Option.{ForSome}
 use Rattle.fab_base.specs.Layouts.{Layout}
 use Rattle.front.specs.declared.steps.Halt.{Halt}
-use Rattle.front.specs.declared.pieces.Piece.{Piece}
+use Rattle.front.specs.declared.pieces.StripePart.{StripePart}
 use Rattle.front.specs.Halts.{answer_of}
 use Rattle.front.specs.Pieces.{Wish, parts_from, piece_at}
 use Rattle.front.specs.Ranges.{Progress}
@@ -29,6 +29,6 @@ pub record IsSound (wish : Wish) (total done : ℕ) (halt : Option Halt) : Type 
   pub over : ForSome halt (λ why. done ≡ total)
 
 -- the piece that is next, if one is left
-abbrev pub first_piece : Layout → List ℕ → ℕ → ℕ → ℕ → Option Piece
+abbrev pub first_piece : Layout → List ℕ → ℕ → ℕ → ℕ → Option StripePart
 first_piece layout volume first total done =
     if nat_lt done total then piece_at layout volume (first + done) (total - done) else None

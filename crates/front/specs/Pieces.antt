@@ -7,7 +7,7 @@ use Rattle.fab_base.specs.declared.asks.Op.TheVariants.{ReadBlock, WriteBlock, R
 use Rattle.fab_base.specs.Layouts.{Layout, group_of}
 use Rattle.layout.specs.declared.places.Place.{Place}
 use Rattle.layout.specs.Places.{place_of}
-use Rattle.front.specs.declared.pieces.Piece.{Piece}
+use Rattle.front.specs.declared.pieces.StripePart.{StripePart}
 
 -- A range has a whole stripe from this place on: its block 0 lies there, and the range has no fewer data blocks from there on than the
 -- stripe has.
@@ -15,7 +15,7 @@ abbrev pub is_whole : Place → ℕ → ℕ → Bool
 is_whole place blocks more = nat_eq place.block 0 && nat_le blocks more
 
 -- the piece at a place of a stripe of so many data blocks: all of the stripe where the range has it, and else the block
-abbrev pub piece_of : Place → ℕ → ℕ → Piece
+abbrev pub piece_of : Place → ℕ → ℕ → StripePart
 piece_of place blocks more =
     record {
       place = place;
@@ -24,7 +24,7 @@ piece_of place blocks more =
     }
 
 -- the piece that begins at a data block of a volume, where the range has so many data blocks from there on
-abbrev pub piece_at : Layout → List ℕ → ℕ → ℕ → Option Piece
+abbrev pub piece_at : Layout → List ℕ → ℕ → ℕ → Option StripePart
 piece_at layout name number more =
     option_and_then (λ place. option_map (λ group. piece_of place group.m more) (group_of layout place.group.0))
     (place_of layout name (number * layout.block))
@@ -34,12 +34,12 @@ abbrev pub cut_of : ℕ → ℕ → ℕ → List ℕ → List ℕ
 cut_of block done behind content = take ((behind + 1) * block) (drop (done * block) content)
 
 -- the operation on a piece: a write of these bytes, or a read
-abbrev pub op_of : Piece → Option (List ℕ) → Op
+abbrev pub op_of : StripePart → Option (List ℕ) → Op
 op_of piece None = if piece.whole then ReadStripe else ReadBlock piece.place.block
 op_of piece (Some bytes) = if piece.whole then WriteStripe bytes else WriteBlock piece.place.block bytes
 
 -- The operation on a piece before which so many data blocks of the range come: a write of its bytes of these, or a read.
-abbrev pub ask_of : ℕ → Option (List ℕ) → ℕ → Piece → Ask
+abbrev pub ask_of : ℕ → Option (List ℕ) → ℕ → StripePart → Ask
 ask_of block content done piece =
     record {
       group = piece.place.group;
@@ -60,7 +60,7 @@ pub record Part : Type 0 where
   pub blocks : ℕ
 
 -- the operation on a piece before which so many data blocks of the range come
-abbrev pub part_of : Wish → ℕ → Piece → Part
+abbrev pub part_of : Wish → ℕ → StripePart → Part
 part_of wish done piece = record { ask = ask_of wish.layout.block wish.content done piece; blocks = piece.behind + 1 }
 
 -- The operations on `more` data blocks of the range, before which `done` come, in rising order. The first `joined` of them are in the

@@ -10,7 +10,7 @@ use std::alloc::Global;
 
 // What one operation of a range is on: one data block, or all data blocks of a stripe.
 #[derive(Clone, Copy)]
-pub(crate) struct Piece {
+pub(crate) struct StripePart {
     // Where the first byte of its first data block lies.
     pub(crate) place: Place,
     // Whether it is all of a stripe.
@@ -21,7 +21,7 @@ pub(crate) struct Piece {
 
 // The piece that begins at a data block of a volume, where the range has so many data blocks from there on. None where the volume
 // has no such block.
-pub(crate) fn piece_at(layout: &Layout, volume: &str, number: u64, more: u64) -> Option<Piece>
+pub(crate) fn piece_at(layout: &Layout, volume: &str, number: u64, more: u64) -> Option<StripePart>
     requires fits { number * layout.now.block < 2 ^ 64 }
     requires some { 1 ≤ more }
     ensures value { result ≡ piece_at layout.now volume.now number more }
@@ -32,14 +32,14 @@ pub(crate) fn piece_at(layout: &Layout, volume: &str, number: u64, more: u64) ->
     let blocks = u64::from(group.policy().m());
     let whole = place.block == 0 && blocks <= more;
     let behind = if whole { blocks - 1 } else { 0 };
-    Some(Piece {
+    Some(StripePart {
         place,
         whole,
         behind,
     })
 }
 
-impl Piece {
+impl StripePart {
     // The piece's bytes of those that are to be written, where so many data blocks of the range come before it.
     pub(crate) fn cut(self, content: &[u8], block: u16, done: u64) -> &[u8]
         requires some { 1 ≤ block }

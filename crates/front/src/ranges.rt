@@ -9,7 +9,7 @@ ghost use Rattle.front.specs.declared.steps.Halt.TheVariants.{Stopped};
 ghost use Rattle.front.specs.Inside.{first_piece, progress_of, IsSound};
 ghost use Rattle.front.specs.Ranges.{begun, next_of, after_end, stopped, FitsEnd};
 
-use crate::pieces::{Piece, piece_at};
+use crate::pieces::{StripePart, piece_at};
 use crate::steps::{Halt, RangeAnswer, RangeStep, Why};
 use fab_base::{Answer, Ask, Bytes, NoMem, Refusal};
 use layout::Layout;
@@ -75,7 +75,13 @@ fn halt_of(layout: &Layout, volume: &str, byte: u64, length: u64) -> Option<Halt
 }
 
 // The piece that is next, if one is left.
-fn first_piece(layout: &Layout, volume: &str, first: u64, total: u64, done: u64) -> Option<Piece>
+fn first_piece(
+    layout: &Layout,
+    volume: &str,
+    first: u64,
+    total: u64,
+    done: u64,
+) -> Option<StripePart>
     requires some { 1 ≤ layout.now.block }
     requires fits { (first + total) * layout.now.block < 2 ^ 64 }
     ensures value { result ≡ first_piece layout.now volume.now first total done }
