@@ -1,5 +1,5 @@
 -- An opening that was cut short.
-use Rattle.std.proofs.Common.{◌≡◌, ◌⊎◌, inl, inr, ⊎_elim, ℕ, ◌+◌, ◌≤◌, ◌<◌, true, None, List, sym, subst, ◌∙◌, arith}
+use Rattle.std.proofs.Common.{◌≡◌, inl, inr, ⊎_elim, ℕ, ◌+◌, ◌≤◌, ◌<◌, true, None, List, sym, subst, ◌∙◌, arith}
 use Rattle.std.proofs.lemmas.Bool.{cases_lt}
 use Rattle.fab_disk.specs.declared.disk.Plan.{Plan}
 use Rattle.fab_disk.specs.declared.disk.Plan.TheVariants.{Never, Stop, Fail}
@@ -7,7 +7,7 @@ use Rattle.fab_disk.specs.Disk.{IsUntouched, StopsEarly}
 use Rattle.fab_disk.specs.Plan.{IsRun, IsWithin, calls_made}
 use Rattle.frame_store.specs.declared.frames.Frame.{Frame}
 use Rattle.frame_store.specs.declared.shapes.Shape.{Shape}
-use Rattle.frame_store.specs.Images.{OpensAs, KeepsSlots, IsBefore, IsAfter}
+use Rattle.frame_store.specs.Images.{OpensAs, KeepsSlots, Lists, ListsWith}
 use Rattle.frame_store.specs.Stores.{Held, Shows}
 use Rattle.version_log.specs.Versions.{Version}
 use Rattle.brick_state.specs.Entries.{Entry}
@@ -60,8 +60,8 @@ module _ {D : Type 0} (seen certain : D → List ℕ) (may_leave : D → List �
       → IsUntouched seen may_leave moment left_since old.disk mid → seen held.disk ≡ seen mid → moment held.disk ≡ moment mid + 1
       → held.shape ≡ old.shape → held.frames ≡ old.frames → folded (limits_of old.shape) (records_of old.frames) empty ≡ st
       → Leads (limits_of old.shape) after empty st
-      → StopsEarly seen certain moment 7 held.disk new (IsBefore held.shape held.frames None (seen held.disk))
-      (IsAfter held.shape after None (seen held.disk))
+      → StopsEarly seen certain moment 7 held.disk new (Lists held.shape held.frames None (seen held.disk))
+      (ListsWith held.shape after None (seen held.disk))
       → StopsReadying seen certain moment 8 old.disk new (IsKeptIn old.shape st (seen old.disk))
   rewrite_cut old held mid new after st untouched content clock shape frames is leads stops =
       let found : folded (limits_of held.shape) (records_of held.frames) empty ≡ st =
@@ -71,9 +71,9 @@ module _ {D : Type 0} (seen certain : D → List ℕ) (may_leave : D → List �
       let kept = λ (image : List ℕ) (at : IsKeptIn held.shape st (seen held.disk) image).
       subst (λ (x : List ℕ). IsKeptIn old.shape st x image) (content ∙ untouched.content)
       (subst (λ (s : Shape). IsKeptIn s st (seen held.disk) image) shape at) in
-      let before = λ (image : List ℕ) (at : IsBefore held.shape held.frames None (seen held.disk) image).
+      let before = λ (image : List ℕ) (at : Lists held.shape held.frames None (seen held.disk) image).
       kept image (record { frames = held.frames; opens = at.opens; state = found; slots = at.slots }) in
-      let later = λ (image : List ℕ) (at : IsAfter held.shape after None (seen held.disk) image).
+      let later = λ (image : List ℕ) (at : ListsWith held.shape after None (seen held.disk) image).
       kept image (record { frames = after; opens = at.opens; state = leads_folded (limits_of held.shape) after empty st lead; slots = at.slots }) in
       record {
         clock = omega (arith, stops.clock, clock, untouched.clock);

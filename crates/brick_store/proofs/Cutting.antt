@@ -1,12 +1,12 @@
 -- A change of a store's list of frames that was cut short.
-use Rattle.std.proofs.Common.{◌≡◌, ◌⊎◌, ⊎_elim, ℕ, ◌+◌, ◌≤◌, ◌<◌, true, Option, None, List, Result, Ok, Err, refl, sym, ap, subst, arith}
+use Rattle.std.proofs.Common.{◌≡◌, ⊎_elim, ℕ, ◌+◌, ◌≤◌, ◌<◌, true, Option, None, List, Result, Ok, Err, refl, sym, ap, subst, arith}
 use Rattle.std.proofs.lemmas.Bool.{cases_lt}
 use Rattle.fab_disk.specs.Disk.{IsUntouched, StopsEarly}
 use Rattle.frame_store.specs.declared.frames.Frame.{Frame}
 use Rattle.frame_store.specs.declared.shapes.Shape.{Shape}
 use Rattle.frame_store.specs.declared.faults.FrameFault.{FrameFault}
 use Rattle.frame_store.specs.declared.faults.FrameFault.TheVariants as frames
-use Rattle.frame_store.specs.Images.{OpensAs, KeepsSlots, IsBefore, IsAfter}
+use Rattle.frame_store.specs.Images.{OpensAs, KeepsSlots, Lists, ListsWith}
 use Rattle.frame_store.specs.Stores.{Held, IsDurable}
 use Rattle.brick_state.specs.Entries.{Entry}
 use Rattle.brick_state.specs.States.{StateOf, empty}
@@ -38,12 +38,12 @@ disk_meant frames.NotAStore is = absurd cc
 
 -- the frames of a store before a change lead to its state, and so do those after it
 unchanged_from : (shape : Shape) (put : Option (ℕ × List ℕ)) (listed : List Frame) (st : StateOf Entry) (content image : List ℕ)
-    → Leads (limits_of shape) listed empty st → IsBefore shape listed put content image → IsUnchanged shape put st content image
+    → Leads (limits_of shape) listed empty st → Lists shape listed put content image → IsUnchanged shape put st content image
 unchanged_from shape put listed st content image leads is =
     record { opens = record { frames = listed; opens = is.opens; leads = leads }; slots = is.slots }
 
 changed_from : (shape : Shape) (put : Option (ℕ × List ℕ)) (listed : List Frame) (st : StateOf Entry) (content image : List ℕ)
-    → Leads (limits_of shape) listed empty st → IsAfter shape listed put content image → IsChanged shape put st content image
+    → Leads (limits_of shape) listed empty st → ListsWith shape listed put content image → IsChanged shape put st content image
 changed_from shape put listed st content image leads is =
     record { opens = record { frames = listed; opens = is.opens; leads = leads }; stands = is.stands; slots = is.slots }
 
@@ -53,13 +53,13 @@ module _ {D : Type 0} (tells : Type 0) (seen certain : D → List ℕ) (may_leav
   pub call_cut : (calls : ℕ) (put : Option (ℕ × List ℕ)) (before after : StateOf Entry) (listed : List Frame) (old new : Held D) (fault : FrameFault)
       → MayStep tells seen may_leave moment left_since before old → Leads (limits_of old.shape) listed empty after
       → (IsDurable tells seen may_leave old → old.closed ≡ true → refused fault ≡ refused frames.Disk
-      → StopsEarly seen certain moment calls old.disk new.disk (IsBefore old.shape old.frames put (seen old.disk))
-      (IsAfter old.shape listed put (seen old.disk)))
+      → StopsEarly seen certain moment calls old.disk new.disk (Lists old.shape old.frames put (seen old.disk))
+      (ListsWith old.shape listed put (seen old.disk)))
       → CutsShort tells seen certain moment calls put before after old new (Err (fault_of fault))
   call_cut calls put before after listed old new fault may leads run told is =
       let settled = may.settled told in
-      stops_as seen certain moment calls old.disk new.disk (IsBefore old.shape old.frames put (seen old.disk))
-      (IsAfter old.shape listed put (seen old.disk)) (IsUnchanged old.shape put before (seen old.disk))
+      stops_as seen certain moment calls old.disk new.disk (Lists old.shape old.frames put (seen old.disk))
+      (ListsWith old.shape listed put (seen old.disk)) (IsUnchanged old.shape put before (seen old.disk))
       (IsChanged old.shape put after (seen old.disk))
       (λ image at. unchanged_from old.shape put old.frames before (seen old.disk) image may.leads at)
       (λ image at. changed_from old.shape put listed after (seen old.disk) image leads at)

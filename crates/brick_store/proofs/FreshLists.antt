@@ -1,10 +1,10 @@
 -- A list of frames that is written anew.
-use Rattle.std.proofs.Common.{◌≡◌, ◌⊎◌, inl, inr, ℕ, true, Some, None, List, map, sym, subst, ◌∙◌}
+use Rattle.std.proofs.Common.{◌≡◌, ◌⊎◌, inl, inr, ℕ, Some, None, List, map, sym, subst, ◌∙◌}
 use Rattle.fab_disk.specs.Disk.{IsUntouched, LeavesOnly, Elapses}
 use Rattle.fab_disk.proofs.Moments.{goes_on, widened, joined}
 use Rattle.frame_store.specs.declared.frames.Frame.{Frame}
 use Rattle.frame_store.specs.declared.shapes.Shape.{Shape}
-use Rattle.frame_store.specs.Images.{OpensAs, IsBeforeOrAfter}
+use Rattle.frame_store.specs.Images.{Lists, ListsWith}
 use Rattle.frame_store.specs.Stores.{Held}
 use Rattle.brick_state.specs.Entries.{Entry}
 use Rattle.brick_state.specs.States.{StateOf, empty}
@@ -26,12 +26,9 @@ live_lead limits frames st kept same = leads_from_records limits frames (live_re
 
 kept_either : (shape : Shape) (frames after : List Frame) (st : StateOf Entry) (content image : List ℕ)
     → folded (limits_of shape) (records_of frames) empty ≡ st → folded (limits_of shape) (records_of after) empty ≡ st
-    → IsBeforeOrAfter shape frames after None content image → IsKeptIn shape st content image
-kept_either shape frames after st content image is then moment = by moment.opens
-  where
-    by : OpensAs shape frames true image ⊎ (OpensAs shape after true image × Unit {0}) → IsKeptIn shape st content image
-    by (inl opens) = record { frames = frames; opens = opens; state = is; slots = moment.slots }
-    by (inr opens) = record { frames = after; opens = opens.0; state = then; slots = moment.slots }
+    → Lists shape frames None content image ⊎ ListsWith shape after None content image → IsKeptIn shape st content image
+kept_either shape frames after st content image is then (inl at) = record { frames = frames; opens = at.opens; state = is; slots = at.slots }
+kept_either shape frames after st content image is then (inr at) = record { frames = after; opens = at.opens; state = then; slots = at.slots }
 
 module _ {D : Type 0} (tells : Type 0) (seen : D → List ℕ) (may_leave : D → List ℕ → Type 0) (moment : D → ℕ)
     (left_since : D → ℕ → List ℕ → Type 0) where
@@ -48,10 +45,10 @@ module _ {D : Type 0} (tells : Type 0) (seen : D → List ℕ) (may_leave : D �
   -- a list that is being replaced by one of the same state
   pub replaced_kept : (held : Held D) (new : D) (after : List Frame) (st : StateOf Entry) → folded (limits_of held.shape)
       (records_of held.frames) empty ≡ st → Leads (limits_of held.shape) after empty st
-      → LeavesOnly moment left_since held.disk new (IsBeforeOrAfter held.shape held.frames after None (seen held.disk))
+      → LeavesOnly moment left_since held.disk new (λ image. Lists held.shape held.frames None (seen held.disk) image ⊎ ListsWith held.shape after None (seen held.disk) image)
       → LeavesOnly moment left_since held.disk new (IsKeptIn held.shape st (seen held.disk))
   replaced_kept held new after st is leads run =
-      widened moment left_since held.disk new (IsBeforeOrAfter held.shape held.frames after None (seen held.disk))
+      widened moment left_since held.disk new (λ image. Lists held.shape held.frames None (seen held.disk) image ⊎ ListsWith held.shape after None (seen held.disk) image)
       (IsKeptIn held.shape st (seen held.disk))
       (λ image at. kept_either held.shape held.frames after st (seen held.disk) image is
       (leads_folded (limits_of held.shape) after empty st leads) at) run
@@ -63,7 +60,7 @@ module _ {D : Type 0} (tells : Type 0) (seen : D → List ℕ) (may_leave : D �
       → ((image : List ℕ) → may_leave held.disk image → may_leave mid image) → seen held.disk ≡ seen mid
       → held.shape ≡ old.shape → held.frames ≡ old.frames → folded (limits_of old.shape) (records_of old.frames) empty ≡ st
       → Leads (limits_of old.shape) after empty st
-      → LeavesOnly moment left_since held.disk new (IsBeforeOrAfter held.shape held.frames after None (seen held.disk))
+      → LeavesOnly moment left_since held.disk new (λ image. Lists held.shape held.frames None (seen held.disk) image ⊎ ListsWith held.shape after None (seen held.disk) image)
       → LeavesOnly moment left_since old.disk new (IsAllowedOr (may_leave old.disk) (IsKeptIn old.shape st (seen old.disk)))
   renewed only_now old held mid new after st untouched time crash content shape frames is leads run =
       let Q : List ℕ → Type 0 = IsKeptIn old.shape st (seen old.disk) in

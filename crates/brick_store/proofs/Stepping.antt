@@ -2,16 +2,19 @@
 use Rattle.std.proofs.Common.{◌≡◌, ◌⊎◌, inl, inr, ⊎_elim, ℕ, ◌≤◌, Bool, true, false, Option, Some, None, List, [], ◌∷◌, ◌++◌, map, Result, Ok, Err, refl, sym, ap, subst, ◌∙◌, arith}
 use Rattle.std.specs.Option.{IsSome, unwrap_or}
 use Rattle.std.specs.Result.{OnOk, OnErr}
+use Rattle.fab_disk.specs.declared.disk.Disk as on_disk
 use Rattle.fab_disk.specs.Disk.{IsUntouched, LeavesOnly}
 use Rattle.fab_disk.proofs.Moments.{started, goes_on, joined, widened}
 use Rattle.frame_store.specs.declared.frames.Frame.{Frame}
 use Rattle.frame_store.specs.declared.shapes.Shape.{Shape}
 use Rattle.frame_store.specs.declared.faults.FrameFault.{FrameFault}
 use Rattle.frame_store.specs.declared.faults.FrameFault.TheVariants as frames
-use Rattle.frame_store.specs.Images.{OpensAs, StandsIn, KeepsSlots, IsAfter, IsBeforeOrAfter}
+use Rattle.frame_store.specs.Images.{OpensAs, StandsIn, KeepsSlots, Lists, ListsWith}
 use Rattle.frame_store.specs.Layouts.{store_end}
 use Rattle.frame_store.specs.Stores.{Held, IsDurable, IsRead, Shows, IsSame, HasNow, HasRoom}
 use Rattle.frame_store.specs.Stores as held
+use Rattle.frame_store.specs.Ends.{end_of, ListChange}
+use Rattle.frame_store.proofs.Words.{Words, words_of}
 use Rattle.brick_state.specs.declared.records.Record.{Record}
 use Rattle.brick_state.specs.Entries.{Entry}
 use Rattle.brick_state.specs.States.{StateOf, empty}
@@ -101,12 +104,11 @@ slots_wider shape put a b kept = record { size = kept.size; same = λ slot has f
 pub moment_from : (shape : Shape) (put : Option (ℕ × List ℕ)) (frames after_frames : List Frame) (before after : StateOf Entry)
     (content image : List ℕ)
     → Leads (limits_of shape) frames empty before → Leads (limits_of shape) after_frames empty after
-    → IsBeforeOrAfter shape frames after_frames put content image → IsMoment shape put before after content image
-moment_from shape put frames after_frames before after content image leads leads_after is = record {
-  opens = ⊎_elim (λ opens. inl (record { frames = frames; opens = opens; leads = leads }))
-      (λ made. inr (record { frames = after_frames; opens = made.0; leads = leads_after }, made.1)) is.opens;
-  slots = is.slots;
-}
+    → Lists shape frames put content image ⊎ ListsWith shape after_frames put content image → IsMoment shape put before after content image
+moment_from shape put frames after_frames before after content image leads leads_after (inl is) =
+    record { opens = inl (record { frames = frames; opens = is.opens; leads = leads }); slots = is.slots }
+moment_from shape put frames after_frames before after content image leads leads_after (inr is) =
+    record { opens = inr (record { frames = after_frames; opens = is.opens; leads = leads_after }, is.stands); slots = is.slots }
 
 -- nothing has happened yet
 pub moment_before : (shape : Shape) (put : Option (ℕ × List ℕ)) (frames : List Frame) (before after : StateOf Entry) (content image : List ℕ)
@@ -141,6 +143,17 @@ memory_refused frames.Disk is = absurd cc
 memory_refused frames.NoMemory is = refl
 memory_refused frames.Halted is = absurd cc
 memory_refused frames.NotAStore is = absurd cc
+
+-- the words of a change of the list of a store that may be changed
+pub words : {D : Type 0} (d : on_disk.Ghosts D) (calls : ℕ) (put : Option (ℕ × List ℕ)) (before : StateOf Entry) (listed : List Frame) (old new : Held D)
+    (r : Result (Unit {0}) FrameFault) → MayStep d.tells d.seen d.may_leave d.moment d.left_since before old → held.IsAnswer old.halted new.halted r
+    → ListChange d calls old listed put new.disk (end_of r) → Words d calls old new listed put r
+words d calls put before listed old new r may answer change =
+    words_of d calls old new listed put r (λ told runs. (may.settled told).shows) (runs r answer.halts) change
+  where
+    runs : (a : Result (Unit {0}) FrameFault) → new.halted ≡ held.halted_after old.halted a → OnOk a (new.halted ≡ false)
+    runs (Ok value) halts = halts ∙ may.runs
+    runs (Err fault) halts = tt
 
 -- room for more is room for less
 pub room_less : {D : Type 0} (has_room : D → ℕ → ℕ → ℕ → Type 0) (for_less : (disk : D) (calls bytes end fewer less nearer : ℕ) → fewer ≤ calls
@@ -177,11 +190,11 @@ module _ {D : Type 0} (tells : Type 0) (seen : D → List ℕ) (may_leave : D �
   pub call_moments : (put : Option (ℕ × List ℕ)) (before after : StateOf Entry) (listed : List Frame) (old : Held D) (new : D)
       → MayStep tells seen may_leave moment left_since before old → Leads (limits_of old.shape) listed empty after
       → (IsDurable tells seen may_leave old → old.closed ≡ true → LeavesOnly moment left_since old.disk new
-      (IsBeforeOrAfter old.shape old.frames listed put (seen old.disk)))
+      (λ image. Lists old.shape old.frames put (seen old.disk) image ⊎ ListsWith old.shape listed put (seen old.disk) image))
       → tells → LeavesOnly moment left_since old.disk new (IsMoment old.shape put before after (seen old.disk))
   call_moments put before after listed old new may leads run told =
       let settled = may.settled told in
-      widened moment left_since old.disk new (IsBeforeOrAfter old.shape old.frames listed put (seen old.disk))
+      widened moment left_since old.disk new (λ image. Lists old.shape old.frames put (seen old.disk) image ⊎ ListsWith old.shape listed put (seen old.disk) image)
       (IsMoment old.shape put before after (seen old.disk))
       (λ image is. moment_from old.shape put old.frames listed before after (seen old.disk) image may.leads leads is)
       (run settled.durable settled.closed)
@@ -189,9 +202,9 @@ module _ {D : Type 0} (tells : Type 0) (seen : D → List ℕ) (may_leave : D �
   -- a call that made the change
   pub call_made : (put : Option (ℕ × List ℕ)) (before after : StateOf Entry) (listed : List Frame) (old new : Held D)
       → MayStep tells seen may_leave moment left_since before old → Leads (limits_of old.shape) listed empty after → HasNow listed old new
-      → (tells → IsAfter old.shape listed put (seen old.disk) (seen new.disk)) → (tells → IsDurable tells seen may_leave new)
+      → (tells → ListsWith old.shape listed put (seen old.disk) (seen new.disk)) → (tells → IsDurable tells seen may_leave new)
       → (IsDurable tells seen may_leave old → old.closed ≡ true → LeavesOnly moment left_since old.disk new.disk
-      (IsBeforeOrAfter old.shape old.frames listed put (seen old.disk)))
+      (λ image. Lists old.shape old.frames put (seen old.disk) image ⊎ ListsWith old.shape listed put (seen old.disk) image))
       → IsRead tells seen new → new.halted ≡ old.halted → Step tells seen may_leave moment left_since put before after old new (Ok tt)
   call_made put before after listed old new may leads has is_after durable run read halts = record {
     shape = has.shape;

@@ -1,5 +1,5 @@
 -- What the moments of an append leave of a store.
-use Rattle.std.proofs.Common.{◌≡◌, inl, inr, ℕ, ◌+◌, ◌<◌, ◌≤◌, Bool, true, List, [], ◌∷◌, ◌++◌, length, Option, Some, None, subst, arith}
+use Rattle.std.proofs.Common.{◌≡◌, ◌⊎◌, inl, inr, ℕ, ◌+◌, ◌<◌, ◌≤◌, Bool, true, List, [], ◌∷◌, ◌++◌, length, Option, Some, None, subst, arith}
 use Rattle.fab_disk.specs.Disk.{Torn, written}
 use Rattle.fab_disk.proofs.Writes.{written_torn}
 use Rattle.frame_store.specs.declared.frames.Frame.{Frame}
@@ -8,7 +8,7 @@ use Rattle.frame_store.specs.declared.shapes.Half.{Half}
 use Rattle.frame_store.specs.Layouts.{IsShape, half_at, slot_at}
 use Rattle.frame_store.specs.Listed.{size_of, line_of, Fits}
 use Rattle.frame_store.specs.Laid.{Laid}
-use Rattle.frame_store.specs.Images.{part, StandsIn, KeepsSlots, OpensAs, IsBefore, IsAfter, IsBeforeOrAfter}
+use Rattle.frame_store.specs.Images.{part, StandsIn, KeepsSlots, OpensAs, Lists, ListsWith}
 use Rattle.frame_store.specs.Steps.{IsStaged, IsGated, IsBothGated}
 use Rattle.frame_store.proofs.Parts.{above, part_written, length-written}
 use Rattle.frame_store.proofs.Indexes.{Index, index_opens, index_kept}
@@ -27,7 +27,7 @@ module _ (shape : Shape) (half : Half) (frames : List Frame) (frame : Frame) (p 
     (fits : Fits shape frames (length frame.body)) (put : Option (ℕ × List ℕ)) (content : List ℕ) where
   -- before the gate is opened
   pub still_before : (d image : List ℕ) → Index shape half frames d → KeepsSlots shape put content d → Torn (p + 1) (length (line_of frame)) d image
-      → IsBefore shape frames put content image
+      → Lists shape frames put content image
   still_before d image index slots torn = record {
     opens = index_opens shape half frames image limits (index_staged shape half frames frame p limits place fits d image index torn);
     slots = slots_kept shape put content d image (p + 1) (length (line_of frame)) torn
@@ -35,14 +35,12 @@ module _ (shape : Shape) (half : Half) (frames : List Frame) (frame : Frame) (p 
   }
 
   pub moment_before : (d image : List ℕ) → Index shape half frames d → KeepsSlots shape put content d → Torn (p + 1) (length (line_of frame)) d image
-      → IsBeforeOrAfter shape frames (frames ++ frame ∷ []) put content image
-  moment_before d image index slots torn =
-      let before = still_before d image index slots torn in
-      record { opens = inl before.opens; slots = before.slots }
+      → Lists shape frames put content image ⊎ ListsWith shape (frames ++ frame ∷ []) put content image
+  moment_before d image index slots torn = inl (still_before d image index slots torn)
 
   -- while it is opened
   pub moment_gated : (staged image : List ℕ) → Index shape half frames staged → KeepsSlots shape put content staged → StandsIn shape put staged
-      → Torn p 1 (written (p + 1) (line_of frame) staged) image → IsBeforeOrAfter shape frames (frames ++ frame ∷ []) put content image
+      → Torn p 1 (written (p + 1) (line_of frame) staged) image → Lists shape frames put content image ⊎ ListsWith shape (frames ++ frame ∷ []) put content image
   moment_gated staged image index slots stands torn =
       let behind = written (p + 1) (line_of frame) staged in
       let torn_behind = written_torn (p + 1) (line_of frame) staged in
@@ -50,19 +48,21 @@ module _ (shape : Shape) (half : Half) (frames : List Frame) (frame : Frame) (p 
       (λ slot is other. clear_behind shape half (p + 1) (length (line_of frame)) slot (omega (arith, place)) is) slots in
       let stands_now = stands_behind shape half put behind image p 1 torn (omega (arith, place))
       (stands_behind shape half put staged behind (p + 1) (length (line_of frame)) torn_behind (omega (arith, place)) stands) in
-      record {
-        opens = elim (index_gated shape half frames frame p limits place fits staged image index torn) [
-          | inl before ↦ inl (index_opens shape half frames image limits before)
-          | inr after ↦ inr (index_opens shape half (frames ++ frame ∷ []) image limits after, stands_now)
-        ];
-        slots = slots_kept shape put content behind image p 1 torn
-            (λ slot is other. clear_behind shape half p 1 slot (omega (arith, place)) is) slots_behind;
-      }
+      let slots_now = slots_kept shape put content behind image p 1 torn
+      (λ slot is other. clear_behind shape half p 1 slot (omega (arith, place)) is) slots_behind in
+      elim (index_gated shape half frames frame p limits place fits staged image index torn) [
+        | inl before ↦ inl (record { opens = index_opens shape half frames image limits before; slots = slots_now })
+        | inr after ↦ inr (record {
+          opens = index_opens shape half (frames ++ frame ∷ []) image limits after;
+          stands = stands_now;
+          slots = slots_now;
+        })
+      ]
 
   -- and afterwards
   pub after_append : (number : ℕ) (other_shut : Bool) (staged : List ℕ) → Rooted shape half number other_shut frames staged
       → KeepsSlots shape put content staged → StandsIn shape put staged
-      → IsAfter shape (frames ++ frame ∷ []) put content (appended shape half frames frame p limits place fits staged)
+      → ListsWith shape (frames ++ frame ∷ []) put content (appended shape half frames frame p limits place fits staged)
   after_append number other_shut staged rooted slots stands =
       let behind = written (p + 1) (line_of frame) staged in
       let image = appended shape half frames frame p limits place fits staged in
@@ -84,19 +84,19 @@ module _ (shape : Shape) (half : Half) (frames : List Frame) (frame : Frame) (p 
     (place : p ≡ half_at shape half + size_of frames)
     (fits : Fits shape frames (length frame.body)) (content : List ℕ) where
   pub append_before : (image : List ℕ) → Index shape half frames content → Torn (p + 1) (length (line_of frame)) content image
-      → IsBefore shape frames None content image
+      → Lists shape frames None content image
   append_before image index torn =
       still_before shape half frames frame p limits place fits None content content image index (slots_same shape None content) torn
 
   pub append_moment : (image : List ℕ) → Index shape half frames content → IsGated (p + 1) (line_of frame) p content image
-      → IsBeforeOrAfter shape frames (frames ++ frame ∷ []) None content image
+      → Lists shape frames None content image ⊎ ListsWith shape (frames ++ frame ∷ []) None content image
   append_moment image index (inl torn) = moment_before shape half frames frame p limits place fits None content content image index
       (slots_same shape None content) torn
   append_moment image index (inr torn) = moment_gated shape half frames frame p limits place fits None content content image index
       (slots_same shape None content) tt torn
 
   pub append_after : (number : ℕ) (other_shut : Bool) → Rooted shape half number other_shut frames content
-      → IsAfter shape (frames ++ frame ∷ []) None content (appended shape half frames frame p limits place fits content)
+      → ListsWith shape (frames ++ frame ∷ []) None content (appended shape half frames frame p limits place fits content)
   append_after number other_shut rooted = after_append shape half frames frame p limits place fits None content number other_shut content rooted
       (slots_same shape None content) tt
 
@@ -132,13 +132,13 @@ module _ (shape : Shape) (half : Half) (frames : List Frame) (frame : Frame) (p 
       )
 
   pub put_before : (image : List ℕ) → Index shape half frames content
-      → IsStaged (slot_at shape slot) (length block) (p + 1) (length (line_of frame)) content image → IsBefore shape frames put content image
+      → IsStaged (slot_at shape slot) (length block) (p + 1) (length (line_of frame)) content image → Lists shape frames put content image
   put_before image index staged =
       still_before shape half frames frame p limits place fits put content staged.between image (index_put staged.between index staged.first)
       (slots_put staged.between staged.first) staged.second
 
   pub put_moment : (image : List ℕ) → Index shape half frames content → IsBothGated (slot_at shape slot) block (p + 1) (line_of frame) p content image
-      → IsBeforeOrAfter shape frames (frames ++ frame ∷ []) put content image
+      → Lists shape frames put content image ⊎ ListsWith shape (frames ++ frame ∷ []) put content image
   put_moment image index (inl staged) =
       moment_before shape half frames frame p limits place fits put content staged.between image (index_put staged.between index staged.first)
       (slots_put staged.between staged.first) staged.second
@@ -155,7 +155,7 @@ module _ (shape : Shape) (half : Half) (frames : List Frame) (frame : Frame) (p 
       (written_torn (slot_at shape slot) block content) (omega arith) (above apart) rooted
 
   pub put_after : (number : ℕ) (other_shut : Bool) → Rooted shape half number other_shut frames content
-      → IsAfter shape (frames ++ frame ∷ []) put content
+      → ListsWith shape (frames ++ frame ∷ []) put content
       (appended shape half frames frame p limits place fits (written (slot_at shape slot) block content))
   put_after number other_shut rooted =
       after_append shape half frames frame p limits place fits put content number other_shut (written (slot_at shape slot) block content)

@@ -3,6 +3,8 @@ pub mod Parts
 pub mod Listing
 pub mod Runs
 pub mod Stopping
+pub mod Ends
+pub mod Gates
 pub mod Headers
 pub mod Indexes
 pub mod Slots
@@ -12,3 +14,4 @@ pub mod Rewriting
 pub mod Exits
 pub mod Openings
 pub mod Formatting
+pub mod Words

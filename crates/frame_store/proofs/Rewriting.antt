@@ -1,5 +1,5 @@
 -- A list in the other half, in the place of the one that is there.
-use Rattle.std.proofs.Common.{◌≡◌, inl, inr, ℕ, ◌+◌, ◌-◌, ◌^◌, ◌<◌, ◌≤◌, Bool, true, false, List, [], ◌∷◌, length, get_or, None, refl, sym, ◌∙◌, ap, subst, arith, length-append}
+use Rattle.std.proofs.Common.{◌≡◌, ◌⊎◌, inl, inr, ℕ, ◌+◌, ◌-◌, ◌^◌, ◌<◌, ◌≤◌, Bool, true, false, List, [], ◌∷◌, length, get_or, None, refl, sym, ◌∙◌, ap, subst, arith, length-append}
 use Rattle.std.proofs.lemmas.Bool.{cases_eq}
 use Rattle.std.proofs.lemmas.List.{take_at}
 use Rattle.std.proofs.Math.Seq.{get_or-append_right}
@@ -12,7 +12,7 @@ use Rattle.frame_store.specs.declared.shapes.Half.TheVariants.{A, B}
 use Rattle.frame_store.specs.Layouts.{IsShape, header_at, half_at, half_size, header_rest}
 use Rattle.frame_store.specs.Listed.{spelled, size_of, closed_list}
 use Rattle.frame_store.specs.Laid.{other, Laid}
-use Rattle.frame_store.specs.Images.{part, IsOpen, InForce, IsLater, IsShut, EndsClosed, IsBefore, IsAfter, IsBeforeOrAfter, KeepsSlots, generation_at}
+use Rattle.frame_store.specs.Images.{part, IsOpen, InForce, IsLater, IsShut, EndsClosed, Lists, ListsWith, KeepsSlots, generation_at}
 use Rattle.frame_store.specs.Steps.{IsStaged, IsShutFirst, IsBothGated, both_written, closing, next_of}
 use Rattle.frame_store.proofs.Parts.{IsClear, below, above, unwritten, part_get, part_kept, same_part, byte_kept, part_of_part, part_written, written_get, length-written}
 use Rattle.frame_store.proofs.Listing.{length-spelled}
@@ -287,17 +287,16 @@ module _ (shape : Shape) (half : Half) (number : ℕ) (other_shut : Bool) (frame
 
   -- the moments of a rewrite: while the other header's gate is shut, and afterwards
   pub rewrite_first : Index shape half frames content → (image : List ℕ) → Torn gate_at (length (closing other_shut)) content image
-      → IsBeforeOrAfter shape frames new None content image
-  rewrite_first index image torn = record {
-    opens = inl
-        (index_opens shape half frames image limits (index_closing image index torn));
+      → Lists shape frames None content image ⊎ ListsWith shape new None content image
+  rewrite_first index image torn = inl (record {
+    opens = index_opens shape half frames image limits (index_closing image index torn);
     slots = slots_shut image torn;
-  }
+  })
 
   -- before it is opened again
   pub rewrite_before : Index shape half frames content → (image : List ℕ)
       → IsShutFirst gate_at (closing other_shut) (header_rest shape (next_of number)) list_at (closed_list new) content image
-      → IsBefore shape frames None content image
+      → Lists shape frames None content image
   rewrite_before index image (inl torn) =
       record { opens = index_opens shape half frames image limits (index_closing image index torn); slots = slots_shut image torn }
   rewrite_before index image (inr staged) = record {
@@ -307,29 +306,30 @@ module _ (shape : Shape) (half : Half) (number : ℕ) (other_shut : Bool) (frame
 
   pub rewrite_then : Index shape half frames content → (image : List ℕ) → IsBothGated (gate_at + 1) (header_rest shape (next_of number)) list_at
       (closed_list new) gate_at shut_content image
-      → IsBeforeOrAfter shape frames new None content image
-  rewrite_then index image (inl staged) = record {
-    opens = inl (index_opens shape half frames image limits (index_written image (index_closing shut_content index torn_shut) staged));
+      → Lists shape frames None content image ⊎ ListsWith shape new None content image
+  rewrite_then index image (inl staged) = inl (record {
+    opens = index_opens shape half frames image limits (index_written image (index_closing shut_content index torn_shut) staged);
     slots = slots_list staged.between image (slots_header shut_content staged.between (slots_shut shut_content torn_shut) staged.first) staged.second;
-  }
-  rewrite_then index image (inr torn) = record {
-    opens = elim (cases_eq (get_or image gate_at 0) 165) [
-      | inl is_open ↦
-          let now = opened image torn is_open in
-          inr (
-            index_opens shape (other half) new image limits
-                (record { whole = now.0.whole; in_force = now.0.in_force; stands = now.0.stands; ends = now.1 }),
-            tt,
-          )
-      | inr shut ↦
-          let before = index_list header_written behind_content (index_header shut_content header_written (index_closing shut_content index torn_shut)
-          (is_shut other_shut refl) torn_header) torn_list in
-          inl (index_opens shape half frames image limits
-          (index_kept_header shape half frames behind_content image gate_at 1 limits torn (omega arith) (omega arith)
-          (λ is_open. absurd (shut_is_not_open shape (other half) image shut is_open)) before))
-    ];
-    slots = slots_gate image torn;
-  }
+  })
+  rewrite_then index image (inr torn) = elim (cases_eq (get_or image gate_at 0) 165) [
+    | inl is_open ↦
+        let now = opened image torn is_open in
+        inr (record {
+          opens = index_opens shape (other half) new image limits
+              (record { whole = now.0.whole; in_force = now.0.in_force; stands = now.0.stands; ends = now.1 });
+          stands = tt;
+          slots = slots_gate image torn;
+        })
+    | inr shut ↦
+        let before = index_list header_written behind_content (index_header shut_content header_written (index_closing shut_content index torn_shut)
+        (is_shut other_shut refl) torn_header) torn_list in
+        inl (record {
+          opens = index_opens shape half frames image limits
+              (index_kept_header shape half frames behind_content image gate_at 1 limits torn (omega arith) (omega arith)
+              (λ is_open. absurd (shut_is_not_open shape (other half) image shut is_open)) before);
+          slots = slots_gate image torn;
+        })
+  ]
 
   -- and the content at its end
   torn_gate : Torn gate_at 1 behind_content rewritten
@@ -345,7 +345,7 @@ module _ (shape : Shape) (half : Half) (number : ℕ) (other_shut : Bool) (frame
       let now = opened rewritten torn_gate gate_open in
       laid_of shape (other half) (next_of number) false new rewritten limits now.0 now.1
 
-  pub rewrite_after : IsAfter shape new None content rewritten
+  pub rewrite_after : ListsWith shape new None content rewritten
   rewrite_after = record {
     opens = laid_opens shape (other half) (next_of number) false new true rewritten rewritten_laid;
     stands = tt;

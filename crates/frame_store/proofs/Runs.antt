@@ -30,6 +30,13 @@ module _ {D : Type 0} (may_leave : D → List ℕ → Type 0) (moment : D → �
       → LeavesOnly moment left_since disk disk P
   begun disk content P only here = started moment left_since disk P (λ image left. subst P (sym (only image (only_now disk image left))) here)
 
+  -- a write
+  pub write_one : (old mid : D) (content : List ℕ) (at n : ℕ) → Only content (may_leave old) → Follows (Torn at n) (may_leave old) (may_leave mid)
+      → Elapses (moment old) (moment mid) (left_since old) (left_since mid) (may_leave mid) → LeavesOnly moment left_since old mid (Torn at n content)
+  write_one old mid content at n only follows time =
+      goes_on moment left_since old old mid (Torn at n content) (may_leave mid) (begun old content (Torn at n content) only (torn_same at n content)) time
+      (torn_from at n content (may_leave old) (may_leave mid) only follows)
+
   -- a write and a sync
   pub write_then_sync : (old mid new : D) (content : List ℕ) (at n : ℕ) → Only content (may_leave old) → Follows (Torn at n) (may_leave old)
       (may_leave mid)
@@ -37,10 +44,8 @@ module _ {D : Type 0} (may_leave : D → List ℕ → Type 0) (moment : D → �
       → ((image : List ℕ) → may_leave new image → may_leave mid image)
       → Elapses (moment mid) (moment new) (left_since mid) (left_since new) (may_leave new) → LeavesOnly moment left_since old new (Torn at n content)
   write_then_sync old mid new content at n only follows time fewer later =
-      let P : List ℕ → Type 0 = Torn at n content in
-      let first = torn_from at n content (may_leave old) (may_leave mid) only follows in
-      let written = goes_on moment left_since old old mid P (may_leave mid) (begun old content P only (torn_same at n content)) time first in
-      goes_on moment left_since old mid new P (may_leave new) written later (λ image left. first image (fewer image left))
+      goes_on moment left_since old mid new (Torn at n content) (may_leave new) (write_one old mid content at n only follows time) later
+      (λ image left. torn_from at n content (may_leave old) (may_leave mid) only follows image (fewer image left))
 
   -- the first of two writes
   pub write_first : (old mid : D) (content : List ℕ) (from n at k : ℕ) → Only content (may_leave old) → Follows (Torn from n) (may_leave old)

@@ -3,7 +3,7 @@ use Rattle.std.specs.Prelude.{ℕ, List, Option, Result, Ok, Err}
 use Rattle.fab_disk.specs.declared.disk.Disk as on_disk
 use Rattle.fab_disk.specs.Changing.{End, Whole, Cut, NotBegun, Change}
 use Rattle.frame_store.specs.declared.frames.Frame.{Frame}
-use Rattle.frame_store.specs.Images.{IsBefore, IsAfter}
+use Rattle.frame_store.specs.Images.{Lists, ListsWith}
 use Rattle.frame_store.specs.Stores.{Held}
 use Rattle.frame_store.specs.declared.faults.FrameFault.{FrameFault}
 use Rattle.frame_store.specs.declared.faults.FrameFault.TheVariants.{Disk}
@@ -16,4 +16,4 @@ end_of (Err fault) = NotBegun
 -- The list of a store is changed to these frames, with a block put in its slot if one is, by one change of its disk.
 abbrev pub ListChange : {D : Type 0} → on_disk.Ghosts D → ℕ → Held D → List Frame → Option (ℕ × List ℕ) → D → End → Type 0
 ListChange d calls s after put new end =
-    Change d calls (IsBefore s.shape s.frames put (d.seen s.disk)) (IsAfter s.shape after put (d.seen s.disk)) s.disk new end
+    Change d calls (Lists s.shape s.frames put (d.seen s.disk)) (ListsWith s.shape after put (d.seen s.disk)) s.disk new end

@@ -1,11 +1,11 @@
 -- What the bytes of a disk stand for as a store.
-use Rattle.std.specs.Prelude.{◌≡◌, ◌≢◌, ◌⊎◌, ℕ, ◌+◌, ◌-◌, ◌%◌, ◌^◌, ◌<◌, ◌≤◌, List, ◌∷◌, length, get_or, take, drop, Bool, true, Option, Some, None}
+use Rattle.std.specs.Prelude.{◌≡◌, ◌≢◌, ℕ, ◌+◌, ◌-◌, ◌%◌, ◌^◌, ◌<◌, ◌≤◌, List, [], ◌∷◌, length, get_or, take, drop, Bool, true, Option, Some, None}
 use Rattle.std.specs.Int.{w64, from_be_bytes}
 use Rattle.frame_store.specs.declared.frames.Frame.{Frame}
 use Rattle.frame_store.specs.declared.shapes.Shape.{Shape}
 use Rattle.frame_store.specs.declared.shapes.Half.{Half}
 use Rattle.frame_store.specs.declared.shapes.Half.TheVariants.{A, B}
-use Rattle.frame_store.specs.Layouts.{header_at, slot_at, half_at, half_size, identity}
+use Rattle.frame_store.specs.Layouts.{open_gate, header_at, slot_at, half_at, half_size, identity}
 use Rattle.frame_store.specs.Listed.{frames_of, size_of}
 
 -- n bytes from a place on
@@ -15,7 +15,7 @@ part at n image = take n (drop at image)
 -- a header is open: both headers are there, its gate is open, and it is of this store
 pub record IsOpen (shape : Shape) (half : Half) (image : List ℕ) : Type 0 where
   pub whole : 64 ≤ length image
-  pub front : part (header_at half) 17 image ≡ 165 ∷ identity shape
+  pub front : part (header_at half) 17 image ≡ open_gate ∷ identity shape
 
 -- how often the index had been rewritten when the header was
 abbrev pub generation_at : Half → List ℕ → ℕ
@@ -40,7 +40,7 @@ half_bytes shape half image = part (half_at shape half) (half_size shape) image
 
 -- a gate that is not open stands here
 abbrev pub IsShut : ℕ → List ℕ → Type 0
-IsShut at image = get_or image at 0 ≢ 165
+IsShut at image = get_or image at 0 ≢ open_gate
 
 -- a closed gate stands after these frames, in the half and in the file
 pub record EndsClosed (shape : Shape) (half : Half) (frames : List Frame) (image : List ℕ) : Type 0 where
@@ -85,21 +85,18 @@ pub record KeepsSlots (shape : Shape) (put : Option (ℕ × List ℕ)) (content 
   pub size : length content ≤ length image
   pub same : (slot : ℕ) → HasSlot shape (length content) slot → IsOther put slot → block_in shape slot image ≡ block_in shape slot content
 
--- The image is that of a store after a change of this content: it opens as these frames, with a closed gate after
--- them, and with the block put in its slot.
-pub record IsAfter (shape : Shape) (frames : List Frame) (put : Option (ℕ × List ℕ)) (content image : List ℕ) : Type 0 where
+-- The image opens as these frames, with a closed gate after them, and no slot differs from this content but the one that a block is put in.
+pub record Lists (shape : Shape) (frames : List Frame) (put : Option (ℕ × List ℕ)) (content image : List ℕ) : Type 0 where
+  pub opens : OpensAs shape frames true image
+  pub slots : KeepsSlots shape put content image
+
+-- The same, and the block stands in its slot.
+pub record ListsWith (shape : Shape) (frames : List Frame) (put : Option (ℕ × List ℕ)) (content image : List ℕ) : Type 0 where
   pub opens : OpensAs shape frames true image
   pub stands : StandsIn shape put image
   pub slots : KeepsSlots shape put content image
 
--- The image is that of a store before a change of this content: it opens as these frames, with a closed gate after them, and no slot differs but
--- the one that the block is put in.
-pub record IsBefore (shape : Shape) (frames : List Frame) (put : Option (ℕ × List ℕ)) (content image : List ℕ) : Type 0 where
-  pub opens : OpensAs shape frames true image
-  pub slots : KeepsSlots shape put content image
-
--- The image is that of a store at a moment of a change of this content: it opens as the frames before the change or as those
--- after it, with a closed gate after them, and then with the block put in its slot. No other slot differs.
-pub record IsBeforeOrAfter (shape : Shape) (before after : List Frame) (put : Option (ℕ × List ℕ)) (content image : List ℕ) : Type 0 where
-  pub opens : OpensAs shape before true image ⊎ (OpensAs shape after true image × StandsIn shape put image)
-  pub slots : KeepsSlots shape put content image
+-- The image is that of a store with no frames and all its slots.
+pub record IsEmptyStore (shape : Shape) (image : List ℕ) : Type 0 where
+  pub opens : OpensAs shape [] true image
+  pub slots : (slot : ℕ) → slot < shape.records → HasSlot shape (length image) slot

@@ -18,6 +18,10 @@ pub record IsShape (shape : Shape) : Type 0 where
   pub behind : 64 ≤ shape.start
   pub near : shape.start ≤ 2 ^ 39
 
+-- the byte that opens the gate of a header or of a frame
+abbrev pub open_gate : ℕ
+open_gate = 165
+
 -- where a header begins
 abbrev pub header_at : Half → ℕ
 header_at A = 0

@@ -4,3 +4,4 @@ pub mod Images
 pub mod Stores
 pub mod Steps
 pub mod Laid
+pub mod Ends

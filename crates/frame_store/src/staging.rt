@@ -1,6 +1,7 @@
 //! What a change makes ready before it changes the disk.
 
 ghost use Rattle.std.specs.Prelude.{◌≡◌, ◌+◌, ◌^◌, ◌<◌, ◌≤◌, max, length, vec_len, vec_capacity, OnOk, IsOk, IsOkUnless};
+ghost use Rattle.fab_disk.specs.Changing.{Still};
 ghost use Rattle.fab_disk.specs.Disk.{IsUntouched, Kept, KeepsRoom};
 ghost use Rattle.fab_disk.specs.Plan.{KeepsPlan};
 ghost use Rattle.frame_store.specs.Listed.{line_of, closed_list, size_of};
@@ -30,10 +31,8 @@ pub(crate) fn stage<D: Disk>(
     ensures place { OnOk result (vec_len frames.new < vec_capacity frames.new) }
     ensures made { OnOk result (D.has_room disk.new calls (block + (length frame.now.body + 7)) end) }
     ensures only { IsOkUnless result FrameFault.NoMemory }
-    ensures untouched { IsUntouched D.seen D.may_leave D.moment D.left_since disk.old disk.new }
+    ensures still { Still D.Disk disk.old disk.new ⊥ }
     ensures room { KeepsRoom (D.has_room disk.old) (D.has_room disk.new) }
-    ensures plan { KeepsPlan D.plan D.unlisted disk.old disk.new (result ≡ Err FrameFault.Disk) }
-    ensures cause { Kept (D.faults disk.old) (D.faults disk.new) (D.sound disk.old) (D.sound disk.new) (result ≡ Err FrameFault.Disk) }
     ensures enough { D.has_room disk.old calls (block + (length frame.now.body + 7)) end → length frame.now.body + 6 ≤ vec_capacity line.old
         → vec_len frames.old + 1 ≤ vec_capacity frames.old → IsOk result }
 {
@@ -61,10 +60,8 @@ pub(crate) fn stage_list<D: Disk>(
     ensures wide { vec_capacity line.old ≤ vec_capacity line.new }
     ensures made { OnOk result (D.has_room disk.new 7 (size_of frames.now + 34) end) }
     ensures only { IsOkUnless result FrameFault.NoMemory }
-    ensures untouched { IsUntouched D.seen D.may_leave D.moment D.left_since disk.old disk.new }
+    ensures still { Still D.Disk disk.old disk.new ⊥ }
     ensures room { KeepsRoom (D.has_room disk.old) (D.has_room disk.new) }
-    ensures plan { KeepsPlan D.plan D.unlisted disk.old disk.new (result ≡ Err FrameFault.Disk) }
-    ensures cause { Kept (D.faults disk.old) (D.faults disk.new) (D.sound disk.old) (D.sound disk.new) (result ≡ Err FrameFault.Disk) }
     ensures enough { D.has_room disk.old 7 (size_of frames.now + 34) end → size_of frames.now + 1 ≤ vec_capacity line.old
         → length frames.now ≤ vec_capacity listed.old → IsOk result }
 {

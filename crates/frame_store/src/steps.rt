@@ -1,8 +1,11 @@
 //! Runs of calls of a disk, for which room in memory was made before.
 
 ghost use Rattle.std.specs.Prelude.{◌≡◌, ◌+◌, ◌≤◌, ◌^◌, ◌∷◌, [], List, ℕ, length, OnOk, OnErr, IsOk, IsOkUnless};
-ghost use Rattle.fab_disk.specs.Disk.{written, Torn, Follows, Only, Elapses, IsUntouched, LeavesOnly, StopsEarly, IsWrittenOrNot, Kept, KeepsRoom};
+ghost use Rattle.fab_disk.specs.Disk.{written, Torn, Follows, Only, Elapses, IsUntouched, IsWrittenOrNot, Kept, KeepsRoom};
+ghost use Rattle.fab_disk.specs.Changing.{Run};
 ghost use Rattle.fab_disk.specs.Plan.{IsRun, KeepsPlan};
+ghost use Rattle.frame_store.specs.Layouts.{open_gate};
+ghost use Rattle.frame_store.specs.Ends.{end_of};
 ghost use Rattle.frame_store.specs.Steps.{IsStaged, IsShutFirst, IsGated, IsBothGated, IsRewritten, both_written};
 
 use crate::faults::FrameFault;
@@ -77,17 +80,12 @@ fn sync<D: Disk>(disk: &mut D) -> Result<(), FrameFault>
 pub(crate) fn write_synced<D: Disk>(disk: &mut D, at: u64, bytes: &[u8]) -> Result<(), FrameFault>
     requires reach { at + length bytes.now ≤ 2 ^ 48 }
     requires room { D.has_room disk.old 2 (length bytes.now) (at + length bytes.now) }
-    ensures written { D.tells → OnOk result (D.seen disk.new ≡ written at bytes.now (D.seen disk.old)) }
-    ensures durable { D.tells → OnOk result (Only (D.seen disk.new) (D.may_leave disk.new)) }
-    ensures moments { Only (D.seen disk.old) (D.may_leave disk.old) → LeavesOnly D.moment D.left_since disk.old disk.new
-        (Torn at (length bytes.now) (D.seen disk.old)) }
+    ensures change { Run D.Disk 2 (λ image. image ≡ D.seen disk.old)
+        (Torn at (length bytes.now) (D.seen disk.old))
+        (λ image. image ≡ written at bytes.now (D.seen disk.old)) disk.old disk.new (end_of result) }
     ensures left { OnOk result ((calls room end : ℕ) → at + length bytes.now ≤ end → D.has_room disk.old (calls + 2) (room + length bytes.now) end
         → D.has_room disk.new calls room end) }
-    ensures run { IsRun D.tells D.moment D.plan D.unlisted 2 disk.old disk.new (IsOk result) (result ≡ Err FrameFault.Disk) }
-    ensures cut { D.tells → Only (D.seen disk.old) (D.may_leave disk.old) → result ≡ Err FrameFault.Disk → StopsEarly D.seen D.certain D.moment 2 disk.old disk.new
-        (λ image. image ≡ D.seen disk.old) (λ image. image ≡ written at bytes.now (D.seen disk.old)) }
     ensures only { IsOkUnless result FrameFault.Disk }
-    ensures cause { Kept (D.faults disk.old) (D.faults disk.new) (D.sound disk.old) (D.sound disk.new) (result ≡ Err FrameFault.Disk) }
 {
     write(disk, at, bytes)?;
     sync(disk)
@@ -103,17 +101,12 @@ pub(crate) fn write_gated<D: Disk>(
     requires reach { at + length bytes.now ≤ 2 ^ 48 }
     requires gate { gate + 1 ≤ at + length bytes.now }
     requires room { D.has_room disk.old 4 (length bytes.now + 1) (at + length bytes.now) }
-    ensures written { D.tells → OnOk result (D.seen disk.new ≡ written gate (165 ∷ []) (written at bytes.now (D.seen disk.old))) }
-    ensures durable { D.tells → OnOk result (Only (D.seen disk.new) (D.may_leave disk.new)) }
-    ensures moments { D.tells → Only (D.seen disk.old) (D.may_leave disk.old) → LeavesOnly D.moment D.left_since disk.old disk.new
-        (IsGated at bytes.now gate (D.seen disk.old)) }
+    ensures change { Run D.Disk 4 (Torn at (length bytes.now) (D.seen disk.old))
+        (IsGated at bytes.now gate (D.seen disk.old))
+        (λ image. image ≡ written gate (open_gate ∷ []) (written at bytes.now (D.seen disk.old))) disk.old disk.new (end_of result) }
     ensures left { OnOk result ((calls room end : ℕ) → at + length bytes.now ≤ end → D.has_room disk.old (calls + 4)
         (room + (length bytes.now + 1)) end → D.has_room disk.new calls room end) }
-    ensures run { IsRun D.tells D.moment D.plan D.unlisted 4 disk.old disk.new (IsOk result) (result ≡ Err FrameFault.Disk) }
-    ensures cut { D.tells → Only (D.seen disk.old) (D.may_leave disk.old) → result ≡ Err FrameFault.Disk → StopsEarly D.seen D.certain D.moment 4 disk.old disk.new
-        (Torn at (length bytes.now) (D.seen disk.old)) (λ image. image ≡ written gate (165 ∷ []) (written at bytes.now (D.seen disk.old))) }
     ensures only { IsOkUnless result FrameFault.Disk }
-    ensures cause { Kept (D.faults disk.old) (D.faults disk.new) (D.sound disk.old) (D.sound disk.new) (result ≡ Err FrameFault.Disk) }
 {
     write_synced(disk, at, bytes)?;
     write_synced(disk, gate, &[0xA5])
@@ -130,17 +123,12 @@ fn write_both_synced<D: Disk>(
     requires reach { at + length second.now ≤ 2 ^ 48 }
     requires first { from + length first.now ≤ at + length second.now }
     requires room { D.has_room disk.old 3 (length first.now + length second.now) (at + length second.now) }
-    ensures written { D.tells → OnOk result (D.seen disk.new ≡ both_written from first.now at second.now (D.seen disk.old)) }
-    ensures durable { D.tells → OnOk result (Only (D.seen disk.new) (D.may_leave disk.new)) }
-    ensures moments { Only (D.seen disk.old) (D.may_leave disk.old) → LeavesOnly D.moment D.left_since disk.old disk.new
-        (IsStaged from (length first.now) at (length second.now) (D.seen disk.old)) }
+    ensures change { Run D.Disk 3 (IsStaged from (length first.now) at (length second.now) (D.seen disk.old))
+        (IsStaged from (length first.now) at (length second.now) (D.seen disk.old))
+        (λ image. image ≡ both_written from first.now at second.now (D.seen disk.old)) disk.old disk.new (end_of result) }
     ensures left { OnOk result ((calls room end : ℕ) → at + length second.now ≤ end → D.has_room disk.old (calls + 3)
         (room + (length first.now + length second.now)) end → D.has_room disk.new calls room end) }
-    ensures run { IsRun D.tells D.moment D.plan D.unlisted 3 disk.old disk.new (IsOk result) (result ≡ Err FrameFault.Disk) }
-    ensures cut { D.tells → Only (D.seen disk.old) (D.may_leave disk.old) → result ≡ Err FrameFault.Disk → StopsEarly D.seen D.certain D.moment 3 disk.old disk.new
-        (IsStaged from (length first.now) at (length second.now) (D.seen disk.old)) (λ image. image ≡ both_written from first.now at second.now (D.seen disk.old)) }
     ensures only { IsOkUnless result FrameFault.Disk }
-    ensures cause { Kept (D.faults disk.old) (D.faults disk.new) (D.sound disk.old) (D.sound disk.new) (result ≡ Err FrameFault.Disk) }
 {
     write(disk, from, first)?;
     write(disk, at, second)?;
@@ -160,18 +148,12 @@ pub(crate) fn write_both_gated<D: Disk>(
     requires first { from + length first.now ≤ at + length second.now }
     requires gate { gate + 1 ≤ at + length second.now }
     requires room { D.has_room disk.old 5 (length first.now + length second.now + 1) (at + length second.now) }
-    ensures written { D.tells → OnOk result (D.seen disk.new ≡ written gate (165 ∷ [])
-        (both_written from first.now at second.now (D.seen disk.old))) }
-    ensures durable { D.tells → OnOk result (Only (D.seen disk.new) (D.may_leave disk.new)) }
-    ensures moments { D.tells → Only (D.seen disk.old) (D.may_leave disk.old) → LeavesOnly D.moment D.left_since disk.old disk.new
-        (IsBothGated from first.now at second.now gate (D.seen disk.old)) }
+    ensures change { Run D.Disk 5 (IsStaged from (length first.now) at (length second.now) (D.seen disk.old))
+        (IsBothGated from first.now at second.now gate (D.seen disk.old))
+        (λ image. image ≡ written gate (open_gate ∷ []) (both_written from first.now at second.now (D.seen disk.old))) disk.old disk.new (end_of result) }
     ensures left { OnOk result ((calls room end : ℕ) → at + length second.now ≤ end → D.has_room disk.old (calls + 5)
         (room + (length first.now + length second.now + 1)) end → D.has_room disk.new calls room end) }
-    ensures run { IsRun D.tells D.moment D.plan D.unlisted 5 disk.old disk.new (IsOk result) (result ≡ Err FrameFault.Disk) }
-    ensures cut { D.tells → Only (D.seen disk.old) (D.may_leave disk.old) → result ≡ Err FrameFault.Disk → StopsEarly D.seen D.certain D.moment 5 disk.old disk.new
-        (IsStaged from (length first.now) at (length second.now) (D.seen disk.old)) (λ image. image ≡ written gate (165 ∷ []) (both_written from first.now at second.now (D.seen disk.old))) }
     ensures only { IsOkUnless result FrameFault.Disk }
-    ensures cause { Kept (D.faults disk.old) (D.faults disk.new) (D.sound disk.old) (D.sound disk.new) (result ≡ Err FrameFault.Disk) }
 {
     write_both_synced(disk, from, first, at, second)?;
     write_synced(disk, gate, &[0xA5])
@@ -190,19 +172,13 @@ pub(crate) fn rewrite_gated<D: Disk>(
     requires shut { gate + length shut.now ≤ at + length list.now }
     requires rest { gate + 1 + length rest.now ≤ at + length list.now }
     requires room { D.has_room disk.old 7 (length shut.now + (length rest.now + length list.now + 1)) (at + length list.now) }
-    ensures written { D.tells → OnOk result (D.seen disk.new ≡ written gate (165 ∷ [])
-        (both_written (gate + 1) rest.now at list.now (written gate shut.now (D.seen disk.old)))) }
-    ensures durable { D.tells → OnOk result (Only (D.seen disk.new) (D.may_leave disk.new)) }
-    ensures moments { D.tells → Only (D.seen disk.old) (D.may_leave disk.old) → LeavesOnly D.moment D.left_since disk.old disk.new
-        (IsRewritten gate shut.now rest.now at list.now (D.seen disk.old)) }
+    ensures change { Run D.Disk 7 (IsShutFirst gate shut.now rest.now at list.now (D.seen disk.old))
+        (IsRewritten gate shut.now rest.now at list.now (D.seen disk.old))
+        (λ image. image ≡ written gate (open_gate ∷ [])
+        (both_written (gate + 1) rest.now at list.now (written gate shut.now (D.seen disk.old)))) disk.old disk.new (end_of result) }
     ensures left { OnOk result ((calls room end : ℕ) → at + length list.now ≤ end → D.has_room disk.old (calls + 7)
         (room + (length shut.now + (length rest.now + length list.now + 1))) end → D.has_room disk.new calls room end) }
-    ensures run { IsRun D.tells D.moment D.plan D.unlisted 7 disk.old disk.new (IsOk result) (result ≡ Err FrameFault.Disk) }
-    ensures cut { D.tells → Only (D.seen disk.old) (D.may_leave disk.old) → result ≡ Err FrameFault.Disk → StopsEarly D.seen D.certain D.moment 7 disk.old disk.new
-        (IsShutFirst gate shut.now rest.now at list.now (D.seen disk.old)) (λ image. image ≡ written gate (165 ∷ [])
-        (both_written (gate + 1) rest.now at list.now (written gate shut.now (D.seen disk.old)))) }
     ensures only { IsOkUnless result FrameFault.Disk }
-    ensures cause { Kept (D.faults disk.old) (D.faults disk.new) (D.sound disk.old) (D.sound disk.new) (result ≡ Err FrameFault.Disk) }
 {
     write_synced(disk, gate, shut)?;
     write_both_gated(disk, gate + 1, rest, at, list, gate)

@@ -1,11 +1,13 @@
 //! The store.
 
 ghost use Rattle.std.specs.Prelude.{max, ◌≡◌, ◌≢◌, ◌⊎◌, ◌↔◌, ◌+◌, ◌≤◌, ◌<◌, ◌^◌, ◌++◌, ◌∷◌, [], ℕ, List, true, false, length, IsTrue, IsOk, IfOk, IfErr, OnOk, OnErr, Some, None};
-ghost use Rattle.fab_disk.specs.Disk.{Only, Elapses, IsUntouched, LeavesOnly, StopsEarly, Kept, KeepsRoom};
+ghost use Rattle.fab_disk.specs.Changing.{Run, IsAny};
+ghost use Rattle.fab_disk.specs.Disk.{Elapses, IsUntouched, Kept, KeepsRoom};
 ghost use Rattle.fab_disk.specs.Plan.{IsRun, KeepsPlan};
 ghost use Rattle.frame_store.specs.Layouts.{shape_of, half_size};
 ghost use Rattle.frame_store.specs.Listed.{Fits, size_of, frame_of};
-ghost use Rattle.frame_store.specs.Images.{OpensAs, IsNoStore, HasSlot, block_in, IsBefore, IsAfter, IsBeforeOrAfter};
+ghost use Rattle.frame_store.specs.Images.{IsNoStore, IsEmptyStore, HasSlot, block_in};
+ghost use Rattle.frame_store.specs.Ends.{end_of, ListChange};
 ghost use Rattle.frame_store.specs.Stores.{Shows, IsRead, IsDurable, IsSame, HasNow, IsAnswer, HasRoom};
 
 use crate::buffers::{closing, copied, header_rest, shut_headers, size_of};
@@ -70,14 +72,8 @@ pub fn format<D: Disk>(
 ) -> Result<(), FrameFault>
     requires block_range { (1 ≤ block) × (block ≤ 4096) }
     requires records_range { (1 ≤ records) × (records ≤ 1048576) }
-    // Each image opens as a store with no frames, and has all slots.
-    ensures empty { D.tells → OnOk result (OpensAs (shape_of me block records) [] true (D.seen disk.new)) }
-    ensures slots { D.tells → OnOk result ((slot : ℕ) → slot < records → HasSlot (shape_of me block records) (length (D.seen disk.new)) slot) }
-    ensures durable { D.tells → OnOk result (Only (D.seen disk.new) (D.may_leave disk.new)) }
+    ensures change { Run D.Disk 5 IsAny IsAny (IsEmptyStore (shape_of me block records)) disk.old disk.new (end_of result) }
     ensures only { OnErr result ((result ≡ Err FrameFault.Disk) ⊎ (result ≡ Err FrameFault.NoMemory)) }
-    ensures no_memory { result ≡ Err FrameFault.NoMemory → IsUntouched D.seen D.may_leave D.moment D.left_since disk.old disk.new }
-    ensures run { IsRun D.tells D.moment D.plan D.unlisted 5 disk.old disk.new (IsOk result) (result ≡ Err FrameFault.Disk) }
-    ensures cause { Kept (D.faults disk.old) (D.faults disk.new) (D.sound disk.old) (D.sound disk.new) (result ≡ Err FrameFault.Disk) }
 {
     let shape = Shape {
         me,
@@ -231,26 +227,12 @@ impl<D: Disk> FrameStore<D> {
     /// [`FrameFault::Halted`], [`FrameFault::Disk`]; [`FrameFault::NoMemory`], before the disk changed.
     pub fn append(&mut self, kind: u8, body: &[u8]) -> Result<(), FrameFault>
         requires fits { Fits self.old.shape self.old.frames (length body.now) }
-        // After Ok each image opens as the new list.
-        ensures after { D.tells → OnOk result (IsAfter self.old.shape (self.old.frames ++ frame_of kind body.now ∷ []) None (D.seen self.old.disk)
-            (D.seen self.new.disk)) }
-        ensures durable { D.tells → OnOk result (IsDurable D.tells D.seen D.may_leave self.new) }
-        // At each moment of the call each image opens as the list before it or as the one after it.
-        ensures any_moment { IsDurable D.tells D.seen D.may_leave self.old → self.old.closed ≡ true
-            → LeavesOnly D.moment D.left_since self.old.disk self.new.disk
-            (IsBeforeOrAfter self.old.shape self.old.frames (self.old.frames ++ frame_of kind body.now ∷ []) None (D.seen self.old.disk)) }
-        // Where it is cut short, what the last sync left opens as the list before it, and so does what a read gives until its last call but one was made.
-        ensures cut { IsDurable D.tells D.seen D.may_leave self.old → self.old.closed ≡ true → result ≡ Err FrameFault.Disk
-            → StopsEarly D.seen D.certain D.moment 4 self.old.disk self.new.disk (IsBefore self.old.shape self.old.frames None (D.seen self.old.disk))
-            (IsAfter self.old.shape (self.old.frames ++ frame_of kind body.now ∷ []) None (D.seen self.old.disk)) }
+        // One change of the list: each image shows it as it was before or as it is after.
+        ensures change { ListChange D.Disk 4 self.old (self.old.frames ++ frame_of kind body.now ∷ []) None self.new.disk (end_of result) }
         ensures ok { OnOk result (HasNow (self.old.frames ++ frame_of kind body.now ∷ []) self.old self.new) }
-        ensures run { IsRun D.tells D.moment D.plan D.unlisted 4 self.old.disk self.new.disk (IsOk result) (result ≡ Err FrameFault.Disk) }
         ensures answer { IsAnswer self.old.halted self.new.halted result }
         ensures refused { OnErr result (IsSame self.old self.new) }
-        ensures no_memory { result ≡ Err FrameFault.NoMemory → IsUntouched D.seen D.may_leave D.moment D.left_since self.old.disk self.new.disk }
         ensures no_call { result ≡ Err FrameFault.Halted → self.new ≡ self.old }
-        ensures cause { Kept (D.faults self.old.disk) (D.faults self.new.disk) (D.sound self.old.disk) (D.sound self.new.disk)
-            (result ≡ Err FrameFault.Disk) }
         ensures read { IsRead D.tells D.seen self.new }
         // Within what `reserve` made, memory is not refused.
         ensures room { HasRoom D.has_room self.old 4 (length body.now + 7) (length body.now + 6) (length self.old.frames + 1) (length body.now)
@@ -267,26 +249,12 @@ impl<D: Disk> FrameStore<D> {
     fn append_frame(&mut self, frame: Frame) -> Result<(), FrameFault>
         requires runs { self.old.halted ≡ false }
         requires fits { Fits self.old.shape self.old.frames (length frame.body) }
-        // After Ok each image opens as the new list.
-        ensures after { D.tells → OnOk result (IsAfter self.old.shape (self.old.frames ++ frame ∷ []) None (D.seen self.old.disk)
-            (D.seen self.new.disk)) }
-        ensures durable { D.tells → OnOk result (IsDurable D.tells D.seen D.may_leave self.new) }
-        // At each moment of the call each image opens as the list before it or as the one after it.
-        ensures any_moment { IsDurable D.tells D.seen D.may_leave self.old → self.old.closed ≡ true
-            → LeavesOnly D.moment D.left_since self.old.disk self.new.disk
-            (IsBeforeOrAfter self.old.shape self.old.frames (self.old.frames ++ frame ∷ []) None (D.seen self.old.disk)) }
-        // Where it is cut short, what the last sync left opens as the list before it, and so does what a read gives until its last call but one was made.
-        ensures cut { IsDurable D.tells D.seen D.may_leave self.old → self.old.closed ≡ true → result ≡ Err FrameFault.Disk
-            → StopsEarly D.seen D.certain D.moment 4 self.old.disk self.new.disk (IsBefore self.old.shape self.old.frames None (D.seen self.old.disk))
-            (IsAfter self.old.shape (self.old.frames ++ frame ∷ []) None (D.seen self.old.disk)) }
+        // One change of the list: each image shows it as it was before or as it is after.
+        ensures change { ListChange D.Disk 4 self.old (self.old.frames ++ frame ∷ []) None self.new.disk (end_of result) }
         ensures ok { OnOk result (HasNow (self.old.frames ++ frame ∷ []) self.old self.new) }
-        ensures run { IsRun D.tells D.moment D.plan D.unlisted 4 self.old.disk self.new.disk (IsOk result) (result ≡ Err FrameFault.Disk) }
         ensures answer { IsAnswer self.old.halted self.new.halted result }
         ensures refused { OnErr result (IsSame self.old self.new) }
-        ensures no_memory { result ≡ Err FrameFault.NoMemory → IsUntouched D.seen D.may_leave D.moment D.left_since self.old.disk self.new.disk }
         ensures no_call { result ≡ Err FrameFault.Halted → self.new ≡ self.old }
-        ensures cause { Kept (D.faults self.old.disk) (D.faults self.new.disk) (D.sound self.old.disk) (D.sound self.new.disk)
-            (result ≡ Err FrameFault.Disk) }
         ensures read { IsRead D.tells D.seen self.new }
         ensures room { HasRoom D.has_room self.old 4 (length frame.body + 7) (length frame.body + 6) (length self.old.frames + 1) 0
             → result ≢ Err FrameFault.NoMemory }
@@ -327,26 +295,12 @@ impl<D: Disk> FrameStore<D> {
         requires fits { Fits self.old.shape self.old.frames (length frame.body) }
         requires slot { slot < self.old.shape.records }
         requires block { length block.now ≡ self.old.shape.block }
-        // After Ok each image opens as the new list.
-        ensures after { D.tells → OnOk result (IsAfter self.old.shape (self.old.frames ++ frame ∷ []) (Some (slot, block.now)) (D.seen self.old.disk)
-            (D.seen self.new.disk)) }
-        ensures durable { D.tells → OnOk result (IsDurable D.tells D.seen D.may_leave self.new) }
-        // At each moment of the call each image opens as the list before it or as the one after it.
-        ensures any_moment { IsDurable D.tells D.seen D.may_leave self.old → self.old.closed ≡ true
-            → LeavesOnly D.moment D.left_since self.old.disk self.new.disk
-            (IsBeforeOrAfter self.old.shape self.old.frames (self.old.frames ++ frame ∷ []) (Some (slot, block.now)) (D.seen self.old.disk)) }
-        // Where it is cut short, what the last sync left opens as the list before it, and so does what a read gives until its last call but one was made.
-        ensures cut { IsDurable D.tells D.seen D.may_leave self.old → self.old.closed ≡ true → result ≡ Err FrameFault.Disk
-            → StopsEarly D.seen D.certain D.moment 5 self.old.disk self.new.disk (IsBefore self.old.shape self.old.frames (Some (slot, block.now)) (D.seen self.old.disk))
-            (IsAfter self.old.shape (self.old.frames ++ frame ∷ []) (Some (slot, block.now)) (D.seen self.old.disk)) }
+        // One change of the list and of the slot: each image shows both as they were before or both as they are after.
+        ensures change { ListChange D.Disk 5 self.old (self.old.frames ++ frame ∷ []) (Some (slot, block.now)) self.new.disk (end_of result) }
         ensures ok { OnOk result (HasNow (self.old.frames ++ frame ∷ []) self.old self.new) }
-        ensures run { IsRun D.tells D.moment D.plan D.unlisted 5 self.old.disk self.new.disk (IsOk result) (result ≡ Err FrameFault.Disk) }
         ensures answer { IsAnswer self.old.halted self.new.halted result }
         ensures refused { OnErr result (IsSame self.old self.new) }
-        ensures no_memory { result ≡ Err FrameFault.NoMemory → IsUntouched D.seen D.may_leave D.moment D.left_since self.old.disk self.new.disk }
         ensures no_call { result ≡ Err FrameFault.Halted → self.new ≡ self.old }
-        ensures cause { Kept (D.faults self.old.disk) (D.faults self.new.disk) (D.sound self.old.disk) (D.sound self.new.disk)
-            (result ≡ Err FrameFault.Disk) }
         ensures read { IsRead D.tells D.seen self.new }
         // Within what `reserve` made, memory is not refused.
         ensures room { HasRoom D.has_room self.old 5 (self.old.shape.block + (length frame.body + 7)) (length frame.body + 6)
@@ -389,27 +343,14 @@ impl<D: Disk> FrameStore<D> {
     /// [`FrameFault::Halted`], [`FrameFault::Disk`]; [`FrameFault::NoMemory`], before the disk changed.
     pub fn rewrite(&mut self, frames: Vec<Frame>) -> Result<(), FrameFault>
         requires fits { size_of frames.items + 1 ≤ half_size self.old.shape }
-        // After Ok each image opens as the new list.
-        ensures after { D.tells → OnOk result (IsAfter self.old.shape (frames.items) None (D.seen self.old.disk) (D.seen self.new.disk)) }
+        // One change of the list: each image shows it as it was before or as it is after.
+        ensures change { ListChange D.Disk 7 self.old frames.items None self.new.disk (end_of result) }
         // It stands in the other half, one generation later.
         ensures renewed { D.tells → OnOk result (IsRenewed self.old.shape (D.seen self.old.disk) (D.seen self.new.disk)) }
-        ensures durable { D.tells → OnOk result (IsDurable D.tells D.seen D.may_leave self.new) }
-        // At each moment of the call each image opens as the list before it or as the one after it.
-        ensures any_moment { IsDurable D.tells D.seen D.may_leave self.old → self.old.closed ≡ true
-            → LeavesOnly D.moment D.left_since self.old.disk self.new.disk (IsBeforeOrAfter self.old.shape self.old.frames (frames.items) None
-            (D.seen self.old.disk)) }
-        // Where it is cut short, what the last sync left opens as the list before it, and so does what a read gives until its last call but one was made.
-        ensures cut { IsDurable D.tells D.seen D.may_leave self.old → self.old.closed ≡ true → result ≡ Err FrameFault.Disk
-            → StopsEarly D.seen D.certain D.moment 7 self.old.disk self.new.disk (IsBefore self.old.shape self.old.frames None (D.seen self.old.disk))
-            (IsAfter self.old.shape frames.items None (D.seen self.old.disk)) }
         ensures ok { OnOk result (HasNow (frames.items) self.old self.new) }
-        ensures run { IsRun D.tells D.moment D.plan D.unlisted 7 self.old.disk self.new.disk (IsOk result) (result ≡ Err FrameFault.Disk) }
         ensures answer { IsAnswer self.old.halted self.new.halted result }
         ensures refused { OnErr result (IsSame self.old self.new) }
-        ensures no_memory { result ≡ Err FrameFault.NoMemory → IsUntouched D.seen D.may_leave D.moment D.left_since self.old.disk self.new.disk }
         ensures no_call { result ≡ Err FrameFault.Halted → self.new ≡ self.old }
-        ensures cause { Kept (D.faults self.old.disk) (D.faults self.new.disk) (D.sound self.old.disk) (D.sound self.new.disk)
-            (result ≡ Err FrameFault.Disk) }
         ensures read { IsRead D.tells D.seen self.new }
         // Within what `reserve` made, memory is not refused, and what was made beyond this call is left.
         ensures room { HasRoom D.has_room self.old 7 (size_of frames.items + 34) (size_of frames.items + 1) (length frames.items) 0

@@ -1,5 +1,5 @@
 -- The append, after room was made for it.
-use Rattle.std.proofs.Common.{◌≡◌, ◌++◌, ◌∷◌, [], ℕ, Some, None, List, length, Ok, Err, refl, sym, ap, subst, ◌∙◌, arith}
+use Rattle.std.proofs.Common.{rules, ◌≡◌, ◌++◌, ◌∷◌, [], ℕ, Some, None, List, length, Ok, Err, refl, sym, ap, subst, ◌∙◌, arith}
 use Rattle.std.proofs.lemmas.Result.{err_from_is_err_and}
 use Rattle.frame_store.specs.declared.faults.FrameFault.{FrameFault}
 use Rattle.frame_store.specs.Listed.{frame_of}
@@ -10,9 +10,10 @@ use Rattle.brick_store.specs.Bricks.{fault_of}
 use Rattle.brick_store.specs.Steps.{changed, HasAppendRoom}
 use Rattle.fab_disk.proofs.Plans.{run_both, run_whole}
 use Rattle.frame_store.specs.Listed.{size_of}
+use Rattle.frame_store.proofs.Words.{run_by, cause_by}
 use Rattle.brick_store.specs.Calls.{calls_with}
 use Rattle.brick_store.proofs.Counting.{room_then}
-use Rattle.brick_store.proofs.Stepping.{call_made, call_refused, call_moments, steps_both, may_go_on, nothing_changed, change_leads, memory_refused, refused, room_less}
+use Rattle.brick_store.proofs.Stepping.{words, call_made, call_refused, call_moments, steps_both, may_go_on, nothing_changed, change_leads, memory_refused, refused, room_less}
 use Rattle.brick_store.proofs.Cutting.{call_cut, first_cut, then_cut}
 use Rattle.brick_store.proofs.commits.append_record.Goals as goal
 
@@ -35,9 +36,10 @@ returns-in_err-append-clause-step g c =
     (sym c.as_slice.ensures.value) c.in_ok-frame.ensures.read in
     let leads = change_leads d.tells d.seen d.may_leave d.moment d.left_since (limits_of index) c.args.item.now st old mid
     (frame_of frame.kind bytes) first c.requires.indexed.limits_are read c.requires.can in
+    let words = words d 4 None st (mid.frames ++ frame_of frame.kind bytes ∷ []) mid new (refused f) may call.answer call.change in
     let run = call_moments d.tells d.seen d.may_leave d.moment d.left_since None st next
-    (mid.frames ++ frame_of frame.kind bytes ∷ []) mid new.disk may leads call.any_moment in
-    let second = call_refused d.tells d.seen d.may_leave d.moment d.left_since None st next mid new f may call.refused run call.no_memory call.read call.answer in
+    (mid.frames ++ frame_of frame.kind bytes ∷ []) mid new.disk may leads words.any_moment in
+    let second = call_refused d.tells d.seen d.may_leave d.moment d.left_since None st next mid new f may call.refused run words.no_memory call.read call.answer in
     let len : c.len.result ≡ length bytes = c.len.ensures ∙ sym (ap length c.as_slice.ensures.value) in
     let never = λ (room : HasAppendRoom d.has_room mid c.len.result) (is : refused (fault_of f) ≡ refused NoMemory).
     call.room (room_less d.has_room g.met.D.Disk.room_for_less mid _ _ _ _ _ _ _ _ _ _ (omega arith) (omega (arith, len)) (omega (arith, len))
@@ -65,8 +67,10 @@ returns-in_err-append-clause-cut g c =
     (sym c.as_slice.ensures.value) c.in_ok-frame.ensures.read in
     let leads = change_leads d.tells d.seen d.may_leave d.moment d.left_since (limits_of index) c.args.item.now st old mid
     (frame_of frame.kind bytes) made.step c.requires.indexed.limits_are read c.requires.can in
+    let call = c.in_err-append.ensures in
+    let words = words d 4 None st (mid.frames ++ frame_of frame.kind bytes ∷ []) mid new (refused f) may call.answer call.change in
     let second = call_cut d.tells d.seen d.certain d.may_leave d.moment d.left_since 4 None st next
-    (mid.frames ++ frame_of frame.kind bytes ∷ []) mid new f may leads c.in_err-append.ensures.cut in
+    (mid.frames ++ frame_of frame.kind bytes ∷ []) mid new f may leads words.cut in
     let body = c.len.ensures ∙ c.in_ok-frame.ensures.length in
     let sum = ap (λ (n : ℕ). calls_with old.shape (size_of old.frames) n 4) (sym body) ∙ room_then old.shape (size_of old.frames) c.len.result 4 in
     let p = err_from_is_err_and c.from_residual-in_err-append.result c.from_residual-in_err-append.ensures.1 in
@@ -103,8 +107,9 @@ returns-clause-step g c =
     (sym c.as_slice.ensures.value) c.in_ok-frame.ensures.read in
     let leads = change_leads d.tells d.seen d.may_leave d.moment d.left_since (limits_of index) c.args.item.now st old mid
     (frame_of frame.kind bytes) first c.requires.indexed.limits_are read c.requires.can in
+    let words = words d 4 None st (mid.frames ++ frame_of frame.kind bytes ∷ []) mid new (Ok tt) may call.answer call.change in
     let second = call_made d.tells d.seen d.may_leave d.moment d.left_since None st next
-    (mid.frames ++ frame_of frame.kind bytes ∷ []) mid new may leads call.ok call.after call.durable call.any_moment call.read call.answer.halts in
+    (mid.frames ++ frame_of frame.kind bytes ∷ []) mid new may leads call.ok words.after words.durable words.any_moment call.read call.answer.halts in
     steps_both d.tells d.seen d.may_leave d.moment d.left_since None st next old mid new (Ok tt) first second (λ bad. absurd cc)
 
 pub returns-clause-run : goal.returns-clause-run
@@ -116,4 +121,20 @@ returns-clause-run g c =
     let sum = ap (λ (n : ℕ). calls_with old.shape (size_of old.frames) n 4) (sym body) ∙ room_then old.shape (size_of old.frames) c.len.result 4 in
     run_whole d.tells d.moment d.plan d.unlisted _ old.disk c.append.new.self.disk _ _ _ _ refl refl (λ bad. absurd cc)
     (run_both d.tells d.moment d.plan d.unlisted _ 4 _ old.disk mid.disk c.append.new.self.disk _ _ _ _ sum refl (λ a b. a refl)
-    c.in_ok-make_room.ensures.run c.in_ok-append.ensures.run)
+    c.in_ok-make_room.ensures.run
+    (run_by d 4 _ _ _ mid.disk c.append.new.self.disk (Ok tt) c.in_ok-append.ensures.change))
+
+pub returns-in_err-append-clause-run : goal.returns-in_err-append-clause-run
+returns-in_err-append-clause-run g c =
+    let run = run_by g.D.Disk 4 _ _ _ c.make_room.new.frames.disk c.append.new.self.disk (refused c.in_err-append.field-0.0) c.in_err-append.ensures.change in
+    search (rules, run)
+
+pub returns-in_err-append-clause-cause : goal.returns-in_err-append-clause-cause
+returns-in_err-append-clause-cause g c =
+    let cause = cause_by g.D.Disk 4 _ _ _ c.make_room.new.frames.disk c.append.new.self.disk (refused c.in_err-append.field-0.0) c.in_err-append.ensures.change in
+    search (rules, cause)
+
+pub returns-clause-cause : goal.returns-clause-cause
+returns-clause-cause g c =
+    let cause = cause_by g.D.Disk 4 _ _ _ c.make_room.new.frames.disk c.append.new.self.disk (Ok tt) c.in_ok-append.ensures.change in
+    search (rules, cause)

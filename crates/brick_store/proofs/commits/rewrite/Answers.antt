@@ -1,16 +1,17 @@
 -- Room is made in memory, and then the list is rewritten.
-use Rattle.std.proofs.Common.{◌≡◌, ◌+◌, None, length, Ok, Err, refl, sym, ap, subst, arith}
+use Rattle.std.proofs.Common.{rules, ◌≡◌, ◌+◌, None, length, Ok, Err, refl, sym, ap, subst, arith}
 use Rattle.std.proofs.lemmas.Result.{err_from_is_err_and}
 use Rattle.frame_store.specs.declared.faults.FrameFault.{FrameFault}
 use Rattle.frame_store.specs.declared.shapes.Shape.{Shape}
 use Rattle.frame_store.specs.Listed.{size_of}
 use Rattle.frame_store.specs.Stores.{HasRoom}
+use Rattle.frame_store.proofs.Words.{run_by, cause_by}
 use Rattle.brick_state.specs.KeptStates.{IsKeptState}
 use Rattle.brick_state.specs.Indexes.{state_of}
 use Rattle.brick_store.specs.Images as images
 use Rattle.brick_store.specs.declared.faults.StoreFault.TheVariants.{NoMemory}
 use Rattle.brick_store.specs.Bricks.{fault_of}
-use Rattle.brick_store.proofs.Stepping.{call_made, call_refused, call_moments, idle_moments, idle_made, steps_both, may_go_on, memory_refused, refused, room_less}
+use Rattle.brick_store.proofs.Stepping.{words, call_made, call_refused, call_moments, idle_moments, idle_made, steps_both, may_go_on, memory_refused, refused, room_less}
 use Rattle.brick_store.proofs.FreshLists.{live_lead}
 use Rattle.brick_store.proofs.Cutting.{call_cut, idle_cut, then_cut}
 use Rattle.brick_store.proofs.commits.rewrite.Goals as goal
@@ -50,7 +51,9 @@ returns-in_err-rewrite-clause-cut g c =
     let may = may_go_on d.tells d.seen d.may_leave d.moment d.left_since st st None old mid first in
     let kept = subst (λ (s : Shape). IsKeptState (images.limits_of s) st) (sym first.shape) c.requires.indexed.kept in
     let leads = live_lead (images.limits_of mid.shape) live st kept c.in_ok-live.ensures.read in
-    let second = call_cut d.tells d.seen d.certain d.may_leave d.moment d.left_since 7 None st st live mid new f may leads c.in_err-rewrite.ensures.cut in
+    let call = c.in_err-rewrite.ensures in
+    let words = words d 7 None st live mid new (refused f) may call.answer call.change in
+    let second = call_cut d.tells d.seen d.certain d.may_leave d.moment d.left_since 7 None st st live mid new f may leads words.cut in
     let p = err_from_is_err_and c.from_residual-in_err-rewrite.result c.from_residual-in_err-rewrite.ensures.1 in
     rw (p.1, p.2) (then_cut d.tells d.seen d.certain d.may_leave d.moment d.left_since 0 7 7 None st st old mid new (Err (fault_of f)) refl
     (λ told. omega (arith, made.untouched.clock)) first second)
@@ -71,8 +74,9 @@ returns-in_err-rewrite-clause-step g c =
     let may = may_go_on d.tells d.seen d.may_leave d.moment d.left_since st st None old mid first in
     let kept = subst (λ (s : Shape). IsKeptState (images.limits_of s) st) (sym first.shape) c.requires.indexed.kept in
     let leads = live_lead (images.limits_of mid.shape) live st kept c.in_ok-live.ensures.read in
-    let run = call_moments d.tells d.seen d.may_leave d.moment d.left_since None st st live mid new.disk may leads call.any_moment in
-    let second = call_refused d.tells d.seen d.may_leave d.moment d.left_since None st st mid new f may call.refused run call.no_memory call.read call.answer in
+    let words = words d 7 None st live mid new (refused f) may call.answer call.change in
+    let run = call_moments d.tells d.seen d.may_leave d.moment d.left_since None st st live mid new.disk may leads words.any_moment in
+    let second = call_refused d.tells d.seen d.may_leave d.moment d.left_since None st st mid new f may call.refused run words.no_memory call.read call.answer in
     let are : c.deref.result.now ≡ live = c.deref.ensures.value in
     let never = λ (is : refused (fault_of f) ≡ refused NoMemory).
     absurd (call.room (room_less d.has_room g.met.D.Disk.room_for_less mid _ _ _ _ _ _ _ _ _ _ (omega arith) (omega (arith, ap size_of are))
@@ -96,7 +100,8 @@ returns-clause-step g c =
     let may = may_go_on d.tells d.seen d.may_leave d.moment d.left_since st st None old mid first in
     let kept = subst (λ (s : Shape). IsKeptState (images.limits_of s) st) (sym first.shape) c.requires.indexed.kept in
     let leads = live_lead (images.limits_of mid.shape) live st kept c.in_ok-live.ensures.read in
-    let second = call_made d.tells d.seen d.may_leave d.moment d.left_since None st st live mid new may leads call.ok call.after call.durable call.any_moment call.read call.answer.halts in
+    let words = words d 7 None st live mid new (Ok tt) may call.answer call.change in
+    let second = call_made d.tells d.seen d.may_leave d.moment d.left_since None st st live mid new may leads call.ok words.after words.durable words.any_moment call.read call.answer.halts in
     steps_both d.tells d.seen d.may_leave d.moment d.left_since None st st old mid new (Ok tt) first second (λ bad. absurd cc)
 
 pub returns-clause-room : goal.returns-clause-room
@@ -119,3 +124,23 @@ returns-clause-room g c =
     let listed = ap length call.ok.frames in
     room_less d.has_room g.met.D.Disk.room_for_less new _ _ _ _ _ _ _ _ _ _ (omega arith) (omega (arith, shape)) (omega arith) (omega (arith, listed))
     (omega arith) after
+
+pub returns-in_err-rewrite-clause-run : goal.returns-in_err-rewrite-clause-run
+returns-in_err-rewrite-clause-run g c =
+    let run = run_by g.D.Disk 7 _ _ _ c.reserve.new.self.disk c.rewrite.new.self.disk (refused c.in_err-rewrite.field-0.0) c.in_err-rewrite.ensures.change in
+    search (rules, run)
+
+pub returns-in_err-rewrite-clause-cause : goal.returns-in_err-rewrite-clause-cause
+returns-in_err-rewrite-clause-cause g c =
+    let cause = cause_by g.D.Disk 7 _ _ _ c.reserve.new.self.disk c.rewrite.new.self.disk (refused c.in_err-rewrite.field-0.0) c.in_err-rewrite.ensures.change in
+    search (rules, cause)
+
+pub returns-clause-cause : goal.returns-clause-cause
+returns-clause-cause g c =
+    let cause = cause_by g.D.Disk 7 _ _ _ c.reserve.new.self.disk c.rewrite.new.self.disk (Ok tt) c.in_ok-rewrite.ensures.change in
+    search (rules, cause)
+
+pub returns-clause-run : goal.returns-clause-run
+returns-clause-run g c =
+    let run = run_by g.D.Disk 7 _ _ _ c.reserve.new.self.disk c.rewrite.new.self.disk (Ok tt) c.in_ok-rewrite.ensures.change in
+    search (rules, run)

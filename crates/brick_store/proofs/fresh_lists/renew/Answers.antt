@@ -1,5 +1,5 @@
 -- The frames of the live records bring the state back, and all memory is taken first.
-use Rattle.std.proofs.Common.{rules, ◌≡◌, ◌+◌, false, List, length, Err, refl, sym, ap, subst, ◌∙◌, arith}
+use Rattle.std.proofs.Common.{rules, ◌≡◌, ◌+◌, false, List, length, None, Ok, Err, refl, sym, ap, subst, ◌∙◌, arith}
 use Rattle.std.specs.Prelude.{IsOk}
 use Rattle.std.proofs.lemmas.Result.{err_from_is_err_and}
 use Rattle.frame_store.specs.declared.faults.FrameFault.{FrameFault}
@@ -7,6 +7,7 @@ use Rattle.frame_store.specs.declared.frames.Frame.{Frame}
 use Rattle.frame_store.specs.declared.shapes.Shape.{Shape}
 use Rattle.frame_store.specs.Listed.{size_of}
 use Rattle.frame_store.specs.Stores.{HasRoom}
+use Rattle.frame_store.proofs.Words.{run_by, cause_by, words_of}
 use Rattle.brick_state.specs.States.{empty}
 use Rattle.brick_state.specs.Indexes.{state_of}
 use Rattle.brick_store.specs.Bricks.{fault_of}
@@ -46,11 +47,13 @@ returns-in_err-rewrite-clause-cut g c =
     let call = c.in_ok-sync.ensures in
     let meant = λ (is : refused (fault_of f) ≡ refused Disk). ap (refused {E = FrameFault}) (disk_meant f is) in
     let leads = live_lead (limits_of old.shape) c.in_ok-live.live.items st c.requires.kept c.in_ok-live.ensures.read in
+    let held = c.sync.new.self in
+    let words = words_of d 7 held c.rewrite.new.self c.in_ok-live.live.items None (refused f) call.read tt c.in_err-rewrite.ensures.change in
     let p = err_from_is_err_and c.from_residual-in_err-rewrite.result c.from_residual-in_err-rewrite.ensures.1 in
     rw (p.1, p.2) (λ told free closed is. rewrite_cut d.seen d.certain d.may_leave d.moment d.left_since old c.sync.new.self c.reserve.new.self.disk
     c.rewrite.new.self.disk c.in_ok-live.live.items st made.untouched call.content (call.run.counted told refl) (call.same.shape ∙ made.same.shape)
     (call.same.frames ∙ made.same.frames) c.requires.found leads
-    (c.in_err-rewrite.ensures.cut (call.durable told) (call.same.closed ∙ made.same.closed ∙ closed) (meant is)))
+    (words.cut (call.durable told) (call.same.closed ∙ made.same.closed ∙ closed) (meant is)))
 
 pub returns-in_err-rewrite-clause-moments : goal.returns-in_err-rewrite-clause-moments
 returns-in_err-rewrite-clause-moments g c = λ told closed.
@@ -60,9 +63,11 @@ returns-in_err-rewrite-clause-moments g c = λ told closed.
     let made = c.in_ok-reserve.ensures in
     let call = c.in_ok-sync.ensures in
     let leads = live_lead (limits_of old.shape) c.in_ok-live.live.items st c.requires.kept c.in_ok-live.ensures.read in
+    let held = c.sync.new.self in
+    let words = words_of d 7 held c.rewrite.new.self c.in_ok-live.live.items None (refused c.in_err-rewrite.field-0.0) call.read tt c.in_err-rewrite.ensures.change in
     renewed d.tells d.seen d.may_leave d.moment d.left_since g.met.D.Disk.only_now old c.sync.new.self c.reserve.new.self.disk c.rewrite.new.self.disk c.in_ok-live.live.items st made.untouched
     call.time call.crash call.content (call.same.shape ∙ made.same.shape) (call.same.frames ∙ made.same.frames) c.requires.found leads
-    (c.rewrite.ensures.any_moment (call.durable told) (call.same.closed ∙ made.same.closed ∙ closed))
+    (words.any_moment (call.durable told) (call.same.closed ∙ made.same.closed ∙ closed))
 
 pub returns-in_err-rewrite-clause-no_memory : goal.returns-in_err-rewrite-clause-no_memory
 returns-in_err-rewrite-clause-no_memory g c =
@@ -101,7 +106,8 @@ returns-in_err-rewrite-clause-run g c =
     (λ not_whole not_cut. absurd (not_cut (ap (refused {E = StoreFault}) (ap fault_of is))))
     (run_after d.tells d.moment d.plan d.unlisted 8 old.disk c.reserve.new.self.disk new _ _ _ made.plan made.untouched.clock
     (run_both d.tells d.moment d.plan d.unlisted 1 7 8 c.reserve.new.self.disk held.disk new _ _ _ _ refl refl
-    (λ not_whole not_cut. not_cut (ap Err is)) synced.run call.run)))
+    (λ not_whole not_cut. not_cut (ap Err is)) synced.run
+    (run_by d 7 _ _ _ held.disk new (refused f) call.change))))
 
 pub returns-clause-moments : goal.returns-clause-moments
 returns-clause-moments g c = λ told closed.
@@ -111,9 +117,11 @@ returns-clause-moments g c = λ told closed.
     let made = c.in_ok-reserve.ensures in
     let call = c.in_ok-sync.ensures in
     let leads = live_lead (limits_of old.shape) c.in_ok-live.live.items st c.requires.kept c.in_ok-live.ensures.read in
+    let held = c.sync.new.self in
+    let words = words_of d 7 held c.rewrite.new.self c.in_ok-live.live.items None (Ok tt) call.read (c.in_ok-rewrite.ensures.answer.halts ∙ call.answer.halts ∙ made.answer.halts ∙ c.requires.runs) c.in_ok-rewrite.ensures.change in
     renewed d.tells d.seen d.may_leave d.moment d.left_since g.met.D.Disk.only_now old c.sync.new.self c.reserve.new.self.disk c.rewrite.new.self.disk c.in_ok-live.live.items st made.untouched
     call.time call.crash call.content (call.same.shape ∙ made.same.shape) (call.same.frames ∙ made.same.frames) c.requires.found leads
-    (c.rewrite.ensures.any_moment (call.durable told) (call.same.closed ∙ made.same.closed ∙ closed))
+    (words.any_moment (call.durable told) (call.same.closed ∙ made.same.closed ∙ closed))
 
 pub returns-clause-may : goal.returns-clause-may
 returns-clause-may g c =
@@ -130,7 +138,7 @@ returns-clause-may g c =
     record {
       runs = runs;
       leads = subst (λ (s : Shape). Leads (limits_of s) new.frames empty st) (sym shape) listed;
-      settled = λ told. record { durable = here.durable told; shows = here.read told runs; closed = here.ok.closed };
+      settled = λ told. record { durable = record { told = told; runs = runs; only = (here.change.whole refl told).only }; shows = here.read told runs; closed = here.ok.closed };
     }
 
 pub returns-clause-room : goal.returns-clause-room
@@ -166,3 +174,24 @@ returns-in_err-live g c = search rules
 
 pub returns-in_err-reserve : goal.returns-in_err-reserve
 returns-in_err-reserve g c = search rules
+
+pub returns-in_err-rewrite-clause-cause : goal.returns-in_err-rewrite-clause-cause
+returns-in_err-rewrite-clause-cause g c =
+    let cause = cause_by g.D.Disk 7 _ _ _ c.sync.new.self.disk c.rewrite.new.self.disk (refused c.in_err-rewrite.field-0.0)
+    c.in_err-rewrite.ensures.change in
+    search (rules, cause)
+
+pub returns-clause-cause : goal.returns-clause-cause
+returns-clause-cause g c =
+    let cause = cause_by g.D.Disk 7 _ _ _ c.sync.new.self.disk c.rewrite.new.self.disk (Ok tt) c.in_ok-rewrite.ensures.change in
+    search (rules, cause)
+
+pub returns-clause-run : goal.returns-clause-run
+returns-clause-run g c =
+    let run = run_by g.D.Disk 7 _ _ _ c.sync.new.self.disk c.rewrite.new.self.disk (Ok tt) c.in_ok-rewrite.ensures.change in
+    search (rules, run)
+
+pub returns-clause-slots : goal.returns-clause-slots
+returns-clause-slots g c =
+    let slots = λ (told : g.D.Disk.tells). (c.in_ok-rewrite.ensures.change.whole refl told).has.slots in
+    search (rules, slots)

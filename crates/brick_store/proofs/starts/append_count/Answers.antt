@@ -1,15 +1,16 @@
 -- The append of a frame for which there is room.
-use Rattle.std.proofs.Common.{rules, ◌≡◌, ◌++◌, ◌∷◌, [], ℕ, Some, None, List, length, sym, ap, subst, arith}
+use Rattle.std.proofs.Common.{rules, ◌≡◌, ◌++◌, ◌∷◌, [], ℕ, Some, None, List, length, Ok, sym, ap, subst, arith}
 use Rattle.std.proofs.lemmas.Result.{err_from_is_err_and}
 use Rattle.frame_store.specs.declared.faults.FrameFault.{FrameFault}
 use Rattle.frame_store.specs.Listed.{frame_of}
+use Rattle.frame_store.proofs.Words.{run_by, cause_by}
 use Rattle.brick_state.specs.Indexes.{state_of, limits_of}
 use Rattle.brick_store.specs.Images.{record_of}
 use Rattle.brick_store.specs.Images as images
 use Rattle.brick_store.specs.declared.faults.StoreFault.TheVariants.{NoMemory}
 use Rattle.brick_store.specs.Bricks.{fault_of}
 use Rattle.brick_store.specs.Steps.{changed}
-use Rattle.brick_store.proofs.Stepping.{call_made, call_refused, call_moments, leads_changed, memory_refused, refused, room_less}
+use Rattle.brick_store.proofs.Stepping.{words, call_made, call_refused, call_moments, leads_changed, memory_refused, refused, room_less}
 use Rattle.brick_store.proofs.Cutting.{call_cut}
 use Rattle.brick_store.proofs.starts.append_count.Goals as goal
 
@@ -29,10 +30,11 @@ returns-in_err-append-clause-step g c =
     let read = subst (λ (b : List ℕ). record_of (frame_of frame.kind b) ≡ Some c.args.item.now) (sym c.as_slice.ensures.value) c.requires.read in
     let leads = leads_changed (limits_of index) (images.limits_of old.shape) old.frames
     (frame_of frame.kind bytes) c.args.item.now st c.requires.limits may.leads read c.requires.can in
+    let words = words d 4 None st (old.frames ++ frame_of frame.kind bytes ∷ []) old new (refused f) may call.answer call.change in
     let run = call_moments d.tells d.seen d.may_leave d.moment d.left_since None st next
-    (old.frames ++ frame_of frame.kind bytes ∷ []) old new.disk may leads call.any_moment in
+    (old.frames ++ frame_of frame.kind bytes ∷ []) old new.disk may leads words.any_moment in
     let p = err_from_is_err_and c.from_residual.result c.from_residual.ensures.1 in
-    rw (p.1, p.2) (call_refused d.tells d.seen d.may_leave d.moment d.left_since None st next old new f may call.refused run call.no_memory call.read call.answer)
+    rw (p.1, p.2) (call_refused d.tells d.seen d.may_leave d.moment d.left_since None st next old new f may call.refused run words.no_memory call.read call.answer)
 
 pub returns-in_err-append-clause-cut : goal.returns-in_err-append-clause-cut
 returns-in_err-append-clause-cut g c =
@@ -46,9 +48,11 @@ returns-in_err-append-clause-cut g c =
     let read = subst (λ (b : List ℕ). record_of (frame_of frame.kind b) ≡ Some c.args.item.now) (sym c.as_slice.ensures.value) c.requires.read in
     let leads = leads_changed (limits_of index) (images.limits_of old.shape) old.frames
     (frame_of frame.kind bytes) c.args.item.now st c.requires.limits may.leads read c.requires.can in
+    let call = c.in_err-append.ensures in
+    let words = words d 4 None st (old.frames ++ frame_of frame.kind bytes ∷ []) old c.append.new.self (refused c.in_err-append.field-0.0) may call.answer call.change in
     let p = err_from_is_err_and c.from_residual.result c.from_residual.ensures.1 in
     rw (p.1, p.2) (call_cut d.tells d.seen d.certain d.may_leave d.moment d.left_since 4 None st (changed (limits_of index) c.args.item.now st)
-    (old.frames ++ frame_of frame.kind bytes ∷ []) old c.append.new.self c.in_err-append.field-0.0 may leads c.in_err-append.ensures.cut)
+    (old.frames ++ frame_of frame.kind bytes ∷ []) old c.append.new.self c.in_err-append.field-0.0 may leads words.cut)
 
 pub returns-in_err-append-clause-no_memory : goal.returns-in_err-append-clause-no_memory
 returns-in_err-append-clause-no_memory g c =
@@ -78,7 +82,20 @@ returns g c =
     let read = subst (λ (b : List ℕ). record_of (frame_of frame.kind b) ≡ Some c.args.item.now) (sym c.as_slice.ensures.value) c.requires.read in
     let leads = leads_changed (limits_of index) (images.limits_of old.shape) old.frames
     (frame_of frame.kind bytes) c.args.item.now st c.requires.limits may.leads read c.requires.can in
+    let words = words d 4 None st (old.frames ++ frame_of frame.kind bytes ∷ []) old new (Ok tt) may call.answer call.change in
     call_made d.tells d.seen d.may_leave d.moment d.left_since None st next
-    (old.frames ++ frame_of frame.kind bytes ∷ []) old new may leads call.ok call.after call.durable call.any_moment call.read call.answer.halts
+    (old.frames ++ frame_of frame.kind bytes ∷ []) old new may leads call.ok words.after words.durable words.any_moment call.read call.answer.halts
     ) in
-    search (rules, step)
+    let run = run_by g.D.Disk 4 _ _ _ c.args.frames.now.disk c.append.new.self.disk (Ok tt) c.in_ok-append.ensures.change in
+    let cause = cause_by g.D.Disk 4 _ _ _ c.args.frames.now.disk c.append.new.self.disk (Ok tt) c.in_ok-append.ensures.change in
+    search (rules, step, run, cause)
+
+pub returns-in_err-append-clause-run : goal.returns-in_err-append-clause-run
+returns-in_err-append-clause-run g c =
+    let run = run_by g.D.Disk 4 _ _ _ c.args.frames.now.disk c.append.new.self.disk (refused c.in_err-append.field-0.0) c.in_err-append.ensures.change in
+    search (rules, run)
+
+pub returns-in_err-append-clause-cause : goal.returns-in_err-append-clause-cause
+returns-in_err-append-clause-cause g c =
+    let cause = cause_by g.D.Disk 4 _ _ _ c.args.frames.now.disk c.append.new.self.disk (refused c.in_err-append.field-0.0) c.in_err-append.ensures.change in
+    search (rules, cause)

@@ -1,12 +1,13 @@
-use Rattle.std.proofs.Common.{rules, inl, inr, ◌≡◌, ◌+◌, ◌∷◌, [], ℕ, List, length, Err, arith, refl, sym, ap, subst, ◌∙◌}
-use Rattle.fab_disk.proofs.Moments.{kept_both}
+use Rattle.std.proofs.Common.{rules, inl, inr, ◌≡◌, ◌+◌, ◌∷◌, [], ℕ, List, length, Err, arith, refl, sym, subst}
+use Rattle.fab_disk.specs.Disk.{written, Torn}
 use Rattle.frame_store.specs.declared.faults.FrameFault.TheVariants.{Disk}
-use Rattle.fab_disk.proofs.Plans.{run_both}
-use Rattle.fab_disk.specs.Disk.{written, Only, StopsEarly}
 use Rattle.fab_disk.proofs.Writes.{written_torn}
-use Rattle.frame_store.specs.Steps.{IsStaged, IsShutFirst, both_written}
-use Rattle.frame_store.proofs.Runs.{made_or_cut, torn_same}
-use Rattle.frame_store.proofs.Stopping.{stops_first, stops_second}
+use Rattle.frame_store.specs.Ends.{end_of}
+use Rattle.frame_store.specs.Steps.{IsStaged, IsBothGated, IsShutFirst, IsRewritten, both_written}
+use Rattle.frame_store.proofs.Ends.{begun}
+use Rattle.frame_store.proofs.Gates.{then_on, cut_on}
+use Rattle.frame_store.proofs.Runs.{torn_same}
+use Rattle.frame_store.proofs.Stopping.{staged_none}
 use Rattle.frame_store.proofs.steps.rewrite_gated.Goals as goal
 
 pub write_synced-requires-clause-room : goal.write_synced-requires-clause-room
@@ -23,53 +24,42 @@ write_both_gated-requires-clause-room g c =
     c.in_ok-write_synced.ensures.left 5 n end (omega (arith, c.requires.shut))
     (g.met.D.Disk.room_for_less c.args.disk.now 7 (s + n) end (5 + 2) (n + s) end (omega arith) (omega arith) (omega arith) c.requires.room)
 
-pub returns : goal.returns
-returns g c =
-    let run = (
-    let d = g.D.Disk in
-    run_both d.tells d.moment d.plan d.unlisted 2 5 7 c.args.disk.now c.write_synced.new.disk c.write_both_gated.new.disk _ _ _ _ refl refl
-    (made_or_cut c.write_both_gated.result c.write_both_gated.ensures.only) c.in_ok-write_synced.ensures.run c.write_both_gated.ensures.run
-    ) in
-    let cause = (
-    kept_both (g.D.Disk.faults c.args.disk.now) (g.D.Disk.faults c.write_synced.new.disk) (g.D.Disk.faults c.write_both_gated.new.disk)
-    (g.D.Disk.sound c.args.disk.now)
-    (g.D.Disk.sound c.write_synced.new.disk) (g.D.Disk.sound c.write_both_gated.new.disk) (c.write_synced.result ≡ Err Disk)
-    (c.write_both_gated.result ≡ Err Disk)
-    c.write_synced.ensures.cause c.write_both_gated.ensures.cause
-    ) in
+pub returns-clause-change : goal.returns-clause-change
+returns-clause-change g c =
     let d = g.D.Disk in
     let old = c.args.disk.now in
-    let before = IsShutFirst c.args.gate c.args.shut.now c.args.rest.now c.args.at c.args.list.now (d.seen old) in
-    let staged : List ℕ → List ℕ → Type 0 = λ x.
-    IsStaged (c.args.gate + 1) (length c.args.rest.now) c.args.at (length c.args.list.now) x in
-    let cut : d.tells → Only (d.seen old) (d.may_leave old) → c.write_both_gated.result ≡ Err Disk
-    → StopsEarly d.seen d.certain d.moment 7 old c.write_both_gated.new.disk (before) (λ (image : List ℕ). image ≡ written c.args.gate (165 ∷ [])
-    (both_written (c.args.gate + 1) c.args.rest.now c.args.at c.args.list.now (written c.args.gate c.args.shut.now (d.seen old)))) = (λ told only failed.
-    let first : d.seen c.write_synced.new.disk ≡ written c.args.gate c.args.shut.now (d.seen old) = c.in_ok-write_synced.ensures.written told in
-    stops_second d.seen d.certain d.moment 2 5 7 old c.write_synced.new.disk c.write_both_gated.new.disk (staged (d.seen c.write_synced.new.disk))
-    (λ (image : List ℕ). image ≡ written c.args.gate (165 ∷ [])
-    (both_written (c.args.gate + 1) c.args.rest.now c.args.at c.args.list.now (d.seen c.write_synced.new.disk))) before
-    (λ (image : List ℕ). image ≡ written c.args.gate (165 ∷ [])
-    (both_written (c.args.gate + 1) c.args.rest.now c.args.at c.args.list.now (written c.args.gate c.args.shut.now (d.seen old)))) refl
-    (c.in_ok-write_synced.ensures.run.counted told refl)
-    (λ image is. inr (subst (λ (x : List ℕ). staged x image) first is))
-    (λ image is. is ∙ ap (λ (x : List ℕ). written c.args.gate (165 ∷ [])
-    (both_written (c.args.gate + 1) c.args.rest.now c.args.at c.args.list.now x)) first)
-    (c.write_both_gated.ensures.cut told (c.in_ok-write_synced.ensures.durable told) failed)) in
-    search (rules, run, cause, cut)
+    let content = d.seen old in
+    let C : List ℕ → Type 0 = Torn c.args.gate (length c.args.shut.now) content in
+    let P : List ℕ → Type 0 = IsShutFirst c.args.gate c.args.shut.now c.args.rest.now c.args.at c.args.list.now content in
+    let W : List ℕ → Type 0 = IsRewritten c.args.gate c.args.shut.now c.args.rest.now c.args.at c.args.list.now content in
+    let shut = written c.args.gate c.args.shut.now content in
+    let shut_torn : C shut = written_torn c.args.gate c.args.shut.now content in
+    let n = length c.args.rest.now in
+    let k = length c.args.list.now in
+    then_on d 2 5 7 (λ image. image ≡ content) C shut (IsStaged (c.args.gate + 1) n c.args.at k)
+    (IsBothGated (c.args.gate + 1) c.args.rest.now c.args.at c.args.list.now c.args.gate)
+    (λ x. written c.args.gate (165 ∷ []) (both_written (c.args.gate + 1) c.args.rest.now c.args.at c.args.list.now x)) P W old
+    c.write_synced.new.disk c.write_both_gated.new.disk (end_of c.write_both_gated.result) refl
+    (begun c.write_both_gated.result c.write_both_gated.ensures.only) refl
+    (λ image is. inl (subst C (sym is) (torn_same c.args.gate (length c.args.shut.now) content))) (λ image is. inl is) (inl shut_torn)
+    (staged_none (c.args.gate + 1) n c.args.at k shut) (λ image is. inr is) (λ image is. inr is)
+    c.in_ok-write_synced.ensures.change c.write_both_gated.ensures.change
 
-pub returns-in_err-write_synced : goal.returns-in_err-write_synced
-returns-in_err-write_synced g c =
+pub returns-in_err-write_synced-clause-change : goal.returns-in_err-write_synced-clause-change
+returns-in_err-write_synced-clause-change g c =
     let d = g.D.Disk in
     let old = c.args.disk.now in
-    let before = IsShutFirst c.args.gate c.args.shut.now c.args.rest.now c.args.at c.args.list.now (d.seen old) in
-    let n = length c.args.shut.now in
-    let cut : d.tells → Only (d.seen old) (d.may_leave old) → c.from_residual.result ≡ Err Disk
-    → StopsEarly d.seen d.certain d.moment 7 old c.write_synced.new.disk (before) (λ (image : List ℕ). image ≡ written c.args.gate (165 ∷ [])
-    (both_written (c.args.gate + 1) c.args.rest.now c.args.at c.args.list.now (written c.args.gate c.args.shut.now (d.seen old)))) = (λ told only failed.
-    stops_first d.seen d.certain d.moment 2 7 old c.write_synced.new.disk (λ (image : List ℕ). image ≡ d.seen old)
-    (λ (image : List ℕ). image ≡ written c.args.gate c.args.shut.now (d.seen old)) before _ (omega arith)
-    (λ image is. subst before (sym is) (inl (torn_same c.args.gate n (d.seen old))))
-    (λ image is. subst before (sym is) (inl (written_torn c.args.gate c.args.shut.now (d.seen old))))
-    (c.write_synced.ensures.cut told only (let is : c.write_synced.result ≡ Err Disk = search (rules, failed) in is))) in
-    search (rules, cut)
+    let content = d.seen old in
+    let C : List ℕ → Type 0 = Torn c.args.gate (length c.args.shut.now) content in
+    let P : List ℕ → Type 0 = IsShutFirst c.args.gate c.args.shut.now c.args.rest.now c.args.at c.args.list.now content in
+    let W : List ℕ → Type 0 = IsRewritten c.args.gate c.args.shut.now c.args.rest.now c.args.at c.args.list.now content in
+    let shut = written c.args.gate c.args.shut.now content in
+    let shut_torn : C shut = written_torn c.args.gate c.args.shut.now content in
+    let R : List ℕ → Type 0 = λ image. image ≡ written c.args.gate (165 ∷ [])
+    (both_written (c.args.gate + 1) c.args.rest.now c.args.at c.args.list.now shut) in
+    let failed : c.write_synced.result ≡ Err Disk = search rules in
+    let is : c.from_residual.result ≡ Err Disk = search rules in
+    cut_on d 2 7 (λ image. image ≡ content) C shut P W R old c.write_synced.new.disk c.write_synced.result c.from_residual.result failed is
+    (omega arith) refl
+    (λ image is. inl (subst C (sym is) (torn_same c.args.gate (length c.args.shut.now) content))) (λ image is. inl is) (inl shut_torn)
+    c.write_synced.ensures.change

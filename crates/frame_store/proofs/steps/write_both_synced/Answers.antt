@@ -1,10 +1,14 @@
 use Rattle.std.proofs.Common.{◌≡◌, ◌+◌, length, ℕ, List, arith, refl, sym, subst, ap, ◌∙◌, Err, rules}
 use Rattle.fab_disk.specs.Disk.{written}
-use Rattle.frame_store.specs.Steps.{IsStaged, both_written}
-use Rattle.frame_store.proofs.Stopping.{stops_early, stops_write, stops_sync, staged_none, staged_one, Stops}
+use Rattle.fab_disk.specs.Changing.{Run}
+use Rattle.fab_disk.proofs.Moments.{kept_both}
 use Rattle.fab_disk.proofs.Plans.{run_both}
 use Rattle.frame_store.specs.declared.faults.FrameFault.TheVariants.{Disk}
+use Rattle.frame_store.specs.Steps.{IsStaged, both_written}
+use Rattle.frame_store.proofs.Ends.{of_cut, on_ok}
+use Rattle.frame_store.proofs.Gates.{run_of, cut_of}
 use Rattle.frame_store.proofs.Runs.{made_or_cut, write_first, write_twice, staged_now, then_sync}
+use Rattle.frame_store.proofs.Stopping.{Stops, stops_early, stops_write, stops_sync, staged_none, staged_one}
 use Rattle.frame_store.proofs.steps.write_both_synced.Goals as goal
 
 pub sync-requires : goal.sync-requires
@@ -21,72 +25,90 @@ sync-requires g c =
           (c.in_ok-write-2.ensures.left 1 0 end (omega arith) then_had);
     }
 
-pub returns-in_err-write-clause-moments : goal.returns-in_err-write-clause-moments
-returns-in_err-write-clause-moments g c = λ only.
-    write_first g.D.Disk.may_leave g.D.Disk.moment g.D.Disk.left_since g.met.D.Disk.only_now c.args.disk.now c.write.new.disk
-    (g.D.Disk.seen c.args.disk.now) c.args.from (length c.args.first.now) c.args.at
-    (length c.args.second.now) only c.write.ensures.crash c.write.ensures.time
-
-pub returns-in_err-write-2-clause-moments : goal.returns-in_err-write-2-clause-moments
-returns-in_err-write-2-clause-moments g c = λ only.
-    write_twice g.D.Disk.may_leave g.D.Disk.moment g.D.Disk.left_since g.met.D.Disk.only_now c.args.disk.now c.write.new.disk c.write-2.new.disk
-    (g.D.Disk.seen c.args.disk.now) c.args.from (length c.args.first.now) c.args.at
-    (length c.args.second.now) only c.write.ensures.crash c.write.ensures.time c.write-2.ensures.crash c.write-2.ensures.time
-
-pub returns-clause-moments : goal.returns-clause-moments
-returns-clause-moments g c = λ only.
-    let n = length c.args.first.now in
-    let k = length c.args.second.now in
-    let content = g.D.Disk.seen c.args.disk.now in
-    then_sync g.D.Disk.may_leave g.D.Disk.moment g.D.Disk.left_since g.met.D.Disk.only_now c.args.disk.now c.write-2.new.disk c.sync.new.disk
-    (IsStaged c.args.from n c.args.at k content)
-    (write_twice g.D.Disk.may_leave g.D.Disk.moment g.D.Disk.left_since g.met.D.Disk.only_now c.args.disk.now c.write.new.disk c.write-2.new.disk content c.args.from n c.args.at k only c.write.ensures.crash c.write.ensures.time c.write-2.ensures.crash c.write-2.ensures.time)
-    (staged_now g.D.Disk.may_leave g.D.Disk.moment g.D.Disk.left_since g.met.D.Disk.only_now c.args.disk.now c.write.new.disk c.write-2.new.disk content c.args.from n c.args.at k only c.write.ensures.crash c.write-2.ensures.crash)
-    c.sync.ensures.crash c.sync.ensures.time
-
-pub returns-clause-run : goal.returns-clause-run
-returns-clause-run g c =
-    let d = g.D.Disk in
-    let both = run_both d.tells d.moment d.plan d.unlisted 1 1 2 c.args.disk.now c.write.new.disk c.write-2.new.disk _ _ _ _ refl refl
-    (λ not_whole not_cut. not_whole refl) c.in_ok-write.ensures.run c.in_ok-write-2.ensures.run in
-    run_both d.tells d.moment d.plan d.unlisted 2 1 3 c.args.disk.now c.write-2.new.disk c.sync.new.disk _ _ _ _ refl refl
-    (made_or_cut c.sync.result c.sync.ensures.only) both c.sync.ensures.run
-
-pub returns-in_err-write-clause-cut : goal.returns-in_err-write-clause-cut
-returns-in_err-write-clause-cut g c = λ told only failed.
+pub returns-in_err-write-clause-change : goal.returns-in_err-write-clause-change
+returns-in_err-write-clause-change g c =
     let d = g.D.Disk in
     let old = c.args.disk.now in
+    let content = d.seen old in
     let n = length c.args.first.now in
     let k = length c.args.second.now in
-    stops_early d.seen d.certain d.moment d.may_leave g.met.D.Disk.certain_is_left 3 old c.write.new.disk
-    (written c.args.from c.args.first.now (d.seen old)) (IsStaged c.args.from n c.args.at k (d.seen old)) _ (omega arith) only
-    (staged_none c.args.from n c.args.at k (d.seen old)) (staged_one c.args.from c.args.at k c.args.first.now (d.seen old)) c.write.ensures.certain
-    (c.write.ensures.cut told (let is : c.write.result ≡ Err Disk = search (rules, failed) in is))
+    let P : List ℕ → Type 0 = IsStaged c.args.from n c.args.at k content in
+    let R : List ℕ → Type 0 = λ image. image ≡ both_written c.args.from c.args.first.now c.args.at c.args.second.now content in
+    let new = c.write.new.disk in
+    let failed : c.write.result ≡ Err Disk = search rules in
+    of_cut (Run d 3 P P R old new) c.from_residual.result (search rules) (cut_of d 1 3 P P R old new c.write.result failed (omega arith)
+    (λ told stands.
+    write_first d.may_leave d.moment d.left_since g.met.D.Disk.only_now old new content c.args.from n c.args.at k stands.only
+    c.write.ensures.crash c.write.ensures.time)
+    (λ told stands.
+    stops_early d.seen d.certain d.moment d.may_leave g.met.D.Disk.certain_is_left 3 old new (written c.args.from c.args.first.now content) P R
+    (omega arith) stands.only (staged_none c.args.from n c.args.at k content) (staged_one c.args.from c.args.at k c.args.first.now content)
+    c.write.ensures.certain (c.write.ensures.cut told failed))
+    c.write.ensures.run c.write.ensures.cause)
 
-pub returns-in_err-write-2-clause-cut : goal.returns-in_err-write-2-clause-cut
-returns-in_err-write-2-clause-cut g c = λ told only failed.
+pub returns-in_err-write-2-clause-change : goal.returns-in_err-write-2-clause-change
+returns-in_err-write-2-clause-change g c =
     let d = g.D.Disk in
     let old = c.args.disk.now in
+    let content = d.seen old in
     let n = length c.args.first.now in
     let k = length c.args.second.now in
-    let first : d.seen c.write.new.disk ≡ written c.args.from c.args.first.now (d.seen old) = c.in_ok-write.ensures.written told in
-    let cut = stops_write d.seen d.certain d.moment d.may_leave g.met.D.Disk.certain_is_left 3 old c.write.new.disk c.write-2.new.disk
-    (written c.args.at c.args.second.now (d.seen c.write.new.disk)) (IsStaged c.args.from n c.args.at k (d.seen old)) only
-    (staged_none c.args.from n c.args.at k (d.seen old))
-    (subst (IsStaged c.args.from n c.args.at k (d.seen old)) (sym first) (staged_one c.args.from c.args.at k c.args.first.now (d.seen old)))
-    c.write.ensures.certain (omega (arith, c.in_ok-write.ensures.run.counted told refl)) c.write-2.ensures.certain (c.write-2.ensures.cut told (let is : c.write-2.result ≡ Err Disk = search (rules, failed) in is)) in
-    subst (λ (x : List ℕ). Stops d.seen d.certain d.moment 3 old c.write-2.new.disk (IsStaged c.args.from n c.args.at k (d.seen old))
-    (λ (image : List ℕ). image ≡ written c.args.at c.args.second.now x)) first cut
+    let P : List ℕ → Type 0 = IsStaged c.args.from n c.args.at k content in
+    let R : List ℕ → Type 0 = λ image. image ≡ both_written c.args.from c.args.first.now c.args.at c.args.second.now content in
+    let mid = c.write.new.disk in
+    let new = c.write-2.new.disk in
+    let failed : c.write-2.result ≡ Err Disk = search rules in
+    of_cut (Run d 3 P P R old new) c.from_residual-in_err-write-2.result (search rules) (cut_of d 2 3 P P R old new c.write-2.result failed (omega arith)
+    (λ told stands.
+    write_twice d.may_leave d.moment d.left_since g.met.D.Disk.only_now old mid new content c.args.from n c.args.at k stands.only
+    c.write.ensures.crash c.write.ensures.time c.write-2.ensures.crash c.write-2.ensures.time)
+    (λ told stands.
+    let first : d.seen mid ≡ written c.args.from c.args.first.now content = c.in_ok-write.ensures.written told in
+    subst (λ (x : List ℕ). Stops d.seen d.certain d.moment 3 old new P (λ (image : List ℕ). image ≡ written c.args.at c.args.second.now x)) first
+    (stops_write d.seen d.certain d.moment d.may_leave g.met.D.Disk.certain_is_left 3 old mid new
+    (written c.args.at c.args.second.now (d.seen mid)) P stands.only (staged_none c.args.from n c.args.at k content)
+    (subst P (sym first) (staged_one c.args.from c.args.at k c.args.first.now content)) c.write.ensures.certain
+    (omega (arith, c.in_ok-write.ensures.run.counted told refl)) c.write-2.ensures.certain (c.write-2.ensures.cut told failed)))
+    (run_both d.tells d.moment d.plan d.unlisted 1 1 2 old mid new _ _ _ _ refl refl (made_or_cut c.write-2.result c.write-2.ensures.only)
+    c.in_ok-write.ensures.run c.write-2.ensures.run)
+    (kept_both (d.faults old) (d.faults mid) (d.faults new) (d.sound old) (d.sound mid) (d.sound new) (c.write.result ≡ Err Disk) (c.write-2.result ≡ Err Disk)
+    c.write.ensures.cause c.write-2.ensures.cause))
 
-pub returns-clause-cut : goal.returns-clause-cut
-returns-clause-cut g c = λ told only failed.
+pub returns-clause-change : goal.returns-clause-change
+returns-clause-change g c =
     let d = g.D.Disk in
     let old = c.args.disk.now in
+    let content = d.seen old in
     let n = length c.args.first.now in
     let k = length c.args.second.now in
-    stops_sync d.seen d.certain d.moment d.may_leave g.met.D.Disk.certain_is_left 3 old c.write-2.new.disk c.sync.new.disk
-    (both_written c.args.from c.args.first.now c.args.at c.args.second.now (d.seen old)) (IsStaged c.args.from n c.args.at k (d.seen old)) only
-    (staged_none c.args.from n c.args.at k (d.seen old)) (c.write-2.ensures.certain ∙ c.write.ensures.certain)
+    let P : List ℕ → Type 0 = IsStaged c.args.from n c.args.at k content in
+    let R : List ℕ → Type 0 = λ image. image ≡ both_written c.args.from c.args.first.now c.args.at c.args.second.now content in
+    let mid = c.write.new.disk in
+    let both = c.write-2.new.disk in
+    let new = c.sync.new.disk in
+    run_of d 3 P P R old new c.sync.result c.sync.ensures.only
+    (λ told stands.
+    then_sync d.may_leave d.moment d.left_since g.met.D.Disk.only_now old both new P
+    (write_twice d.may_leave d.moment d.left_since g.met.D.Disk.only_now old mid both content c.args.from n c.args.at k stands.only
+    c.write.ensures.crash c.write.ensures.time c.write-2.ensures.crash c.write-2.ensures.time)
+    (staged_now d.may_leave d.moment d.left_since g.met.D.Disk.only_now old mid both content c.args.from n c.args.at k stands.only
+    c.write.ensures.crash c.write-2.ensures.crash)
+    c.sync.ensures.crash c.sync.ensures.time)
+    (λ told. on_ok c.sync.result (λ settled. record {
+      only = λ image left. settled image left ∙ sym c.sync.ensures.content;
+      has = c.sync.ensures.content ∙ c.in_ok-write-2.ensures.written told ∙ ap (written c.args.at c.args.second.now) (c.in_ok-write.ensures.written told);
+    }) (c.sync.ensures.durable told))
+    (λ told stands failed.
+    stops_sync d.seen d.certain d.moment d.may_leave g.met.D.Disk.certain_is_left 3 old both new
+    (both_written c.args.from c.args.first.now c.args.at c.args.second.now content) P stands.only
+    (staged_none c.args.from n c.args.at k content) (c.write-2.ensures.certain ∙ c.write.ensures.certain)
     (c.in_ok-write-2.ensures.written told ∙ ap (written c.args.at c.args.second.now) (c.in_ok-write.ensures.written told))
     (omega (arith, c.in_ok-write.ensures.run.counted told refl, c.in_ok-write-2.ensures.run.counted told refl)) (c.sync.ensures.certain failed)
-    c.sync.ensures.content c.sync.ensures.time.later (c.sync.ensures.cut failed)
+    c.sync.ensures.content c.sync.ensures.time.later (c.sync.ensures.cut failed))
+    (run_both d.tells d.moment d.plan d.unlisted 2 1 3 old both new _ _ _ _ refl refl (made_or_cut c.sync.result c.sync.ensures.only)
+    (run_both d.tells d.moment d.plan d.unlisted 1 1 2 old mid both _ _ _ _ refl refl (λ not_whole not_cut. not_whole refl)
+    c.in_ok-write.ensures.run c.in_ok-write-2.ensures.run)
+    c.sync.ensures.run)
+    (kept_both (d.faults old) (d.faults both) (d.faults new) (d.sound old) (d.sound both) (d.sound new) (c.write-2.result ≡ Err Disk) (c.sync.result ≡ Err Disk)
+    (kept_both (d.faults old) (d.faults mid) (d.faults both) (d.sound old) (d.sound mid) (d.sound both) (c.write.result ≡ Err Disk) (c.write-2.result ≡ Err Disk)
+    c.write.ensures.cause c.write-2.ensures.cause) c.sync.ensures.cause)

@@ -1,8 +1,12 @@
-use Rattle.std.proofs.Common.{◌≡◌, ◌+◌, length, ℕ, List, arith, refl, Err, rules}
+use Rattle.std.proofs.Common.{◌≡◌, ◌+◌, length, ℕ, List, arith, refl, sym, ◌∙◌, Err, rules}
+use Rattle.fab_disk.specs.Disk.{written, Torn}
+use Rattle.fab_disk.specs.Changing.{Run}
+use Rattle.fab_disk.proofs.Moments.{kept_both}
 use Rattle.fab_disk.proofs.Plans.{run_both}
-use Rattle.fab_disk.specs.Disk.{written}
 use Rattle.frame_store.specs.declared.faults.FrameFault.TheVariants.{Disk}
-use Rattle.frame_store.proofs.Runs.{made_or_cut, write_then_sync}
+use Rattle.frame_store.proofs.Ends.{of_cut, on_ok}
+use Rattle.frame_store.proofs.Gates.{run_of, cut_of}
+use Rattle.frame_store.proofs.Runs.{made_or_cut, write_one, write_then_sync}
 use Rattle.frame_store.proofs.Stopping.{stops_write, stops_sync}
 use Rattle.frame_store.proofs.steps.write_synced.Goals as goal
 
@@ -16,30 +20,46 @@ sync-requires g c =
           (c.in_ok-write.ensures.left 1 0 end (omega arith) had);
     }
 
-pub returns-clause-moments : goal.returns-clause-moments
-returns-clause-moments g c = λ only.
-    write_then_sync g.D.Disk.may_leave g.D.Disk.moment g.D.Disk.left_since g.met.D.Disk.only_now c.args.disk.now c.write.new.disk c.sync.new.disk
-    (g.D.Disk.seen c.args.disk.now) c.args.at (length c.args.bytes.now) only c.write.ensures.crash c.write.ensures.time c.sync.ensures.crash c.sync.ensures.time
-
-pub returns-clause-run : goal.returns-clause-run
-returns-clause-run g c =
-    let d = g.D.Disk in
-    run_both d.tells d.moment d.plan d.unlisted 1 1 2 c.args.disk.now c.write.new.disk c.sync.new.disk _ _ _ _ refl refl
-    (made_or_cut c.sync.result c.sync.ensures.only) c.in_ok-write.ensures.run c.sync.ensures.run
-
-pub returns-in_err-write-clause-cut : goal.returns-in_err-write-clause-cut
-returns-in_err-write-clause-cut g c = λ told only failed.
+pub returns-in_err-write-clause-change : goal.returns-in_err-write-clause-change
+returns-in_err-write-clause-change g c =
     let d = g.D.Disk in
     let old = c.args.disk.now in
-    stops_write d.seen d.certain d.moment d.may_leave g.met.D.Disk.certain_is_left 2 old old c.write.new.disk
-    (written c.args.at c.args.bytes.now (d.seen old)) (λ (image : List ℕ). image ≡ d.seen old) only refl refl refl refl c.write.ensures.certain
-    (c.write.ensures.cut told (let is : c.write.result ≡ Err Disk = search (rules, failed) in is))
+    let new = c.write.new.disk in
+    let content = d.seen old in
+    let failed : c.write.result ≡ Err Disk = search rules in
+    let P : List ℕ → Type 0 = λ image. image ≡ content in
+    let Q : List ℕ → Type 0 = Torn c.args.at (length c.args.bytes.now) content in
+    let R : List ℕ → Type 0 = λ image. image ≡ written c.args.at c.args.bytes.now content in
+    of_cut (Run d 2 P Q R old new) c.from_residual.result (search rules) (cut_of d 1 2 P Q R old new c.write.result failed (omega arith)
+    (λ told stands.
+    write_one d.may_leave d.moment d.left_since g.met.D.Disk.only_now old new content c.args.at (length c.args.bytes.now) stands.only
+    c.write.ensures.crash c.write.ensures.time)
+    (λ told stands.
+    stops_write d.seen d.certain d.moment d.may_leave g.met.D.Disk.certain_is_left 2 old old new (written c.args.at c.args.bytes.now content) P
+    stands.only refl refl refl refl c.write.ensures.certain (c.write.ensures.cut told failed))
+    c.write.ensures.run c.write.ensures.cause)
 
-pub returns-clause-cut : goal.returns-clause-cut
-returns-clause-cut g c = λ told only failed.
+pub returns-clause-change : goal.returns-clause-change
+returns-clause-change g c =
     let d = g.D.Disk in
     let old = c.args.disk.now in
-    stops_sync d.seen d.certain d.moment d.may_leave g.met.D.Disk.certain_is_left 2 old c.write.new.disk c.sync.new.disk
-    (written c.args.at c.args.bytes.now (d.seen old)) (λ (image : List ℕ). image ≡ d.seen old) only refl c.write.ensures.certain
+    let mid = c.write.new.disk in
+    let content = d.seen old in
+    run_of d 2 (λ image. image ≡ content) (Torn c.args.at (length c.args.bytes.now) content)
+    (λ image. image ≡ written c.args.at c.args.bytes.now content) old c.sync.new.disk c.sync.result c.sync.ensures.only
+    (λ told stands.
+    write_then_sync d.may_leave d.moment d.left_since g.met.D.Disk.only_now old mid c.sync.new.disk content c.args.at (length c.args.bytes.now)
+    stands.only c.write.ensures.crash c.write.ensures.time c.sync.ensures.crash c.sync.ensures.time)
+    (λ told. on_ok c.sync.result (λ settled. record {
+      only = λ image left. settled image left ∙ sym c.sync.ensures.content;
+      has = c.sync.ensures.content ∙ c.in_ok-write.ensures.written told;
+    }) (c.sync.ensures.durable told))
+    (λ told stands failed.
+    stops_sync d.seen d.certain d.moment d.may_leave g.met.D.Disk.certain_is_left 2 old mid c.sync.new.disk
+    (written c.args.at c.args.bytes.now content) (λ (image : List ℕ). image ≡ content) stands.only refl c.write.ensures.certain
     (c.in_ok-write.ensures.written told) (omega (arith, c.in_ok-write.ensures.run.counted told refl)) (c.sync.ensures.certain failed)
-    c.sync.ensures.content c.sync.ensures.time.later (c.sync.ensures.cut failed)
+    c.sync.ensures.content c.sync.ensures.time.later (c.sync.ensures.cut failed))
+    (run_both d.tells d.moment d.plan d.unlisted 1 1 2 old mid c.sync.new.disk _ _ _ _ refl refl
+    (made_or_cut c.sync.result c.sync.ensures.only) c.in_ok-write.ensures.run c.sync.ensures.run)
+    (kept_both (d.faults old) (d.faults mid) (d.faults c.sync.new.disk) (d.sound old) (d.sound mid) (d.sound c.sync.new.disk)
+    (c.write.result ≡ Err Disk) (c.sync.result ≡ Err Disk) c.write.ensures.cause c.sync.ensures.cause)

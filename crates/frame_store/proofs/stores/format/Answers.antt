@@ -1,41 +1,51 @@
-use Rattle.std.proofs.Common.{rules, ℕ, ◌∷◌, [], List, Result, Ok, Err, OnOk, length, ◌<◌, true, sym, ◌∙◌, ap, subst, arith}
+use Rattle.std.proofs.Common.{rules, ℕ, ◌∷◌, [], List, sym, ◌∙◌, ap, subst, arith, ◌≡◌}
 use Rattle.fab_disk.specs.Disk.{written}
-use Rattle.frame_store.specs.declared.faults.FrameFault.{FrameFault}
+use Rattle.fab_disk.specs.Changing.{IsAny, Still, Run}
+use Rattle.fab_disk.proofs.Changing.{widen, still, behind}
+use Rattle.frame_store.specs.Ends.{end_of}
+use Rattle.frame_store.specs.Images.{IsEmptyStore}
 use Rattle.frame_store.specs.Layouts.{IsShape, shape_of}
-use Rattle.frame_store.specs.Images.{OpensAs, HasSlot}
 use Rattle.frame_store.specs.Steps.{both_written}
+use Rattle.frame_store.proofs.Ends.{of_refused}
 use Rattle.frame_store.proofs.Formatting.{formatted, shut_pair, formatted_opens, formatted_slots}
+use Rattle.frame_store.proofs.Stopping.{staged_none}
 use Rattle.frame_store.proofs.stores.format.Goals as goal
 
--- what follows from a fact on Ok
-on_ok : {P Q : Type 0} (r : Result (Unit {0}) FrameFault) → (P → Q) → OnOk r P → OnOk r Q
-on_ok (Ok value) means p = means p
-on_ok (Err fault) means p = tt
-
-pub returns-clause-empty : goal.returns-clause-empty
-returns-clause-empty g c = λ told.
+pub returns-clause-change : goal.returns-clause-change
+returns-clause-change g c =
+    let d = g.D.Disk in
+    let old = c.args.disk.now in
+    let mid = c.reserve.new.disk in
+    let new = c.write_both_gated.new.disk in
+    let end = end_of c.write_both_gated.result in
     let shape = shape_of c.args.me c.args.block c.args.records in
-    let limits : IsShape shape = record { some_bytes = c.requires.block_range.0; few_bytes = c.requires.block_range.1; some_slots = c.requires.records_range.0; few_slots = c.requires.records_range.1; behind = omega arith; near = omega arith } in
-    let content = g.D.Disk.seen c.args.disk.now in
-    let same = ap (λ (l : List ℕ). written 0 (165 ∷ [])
-    (both_written 0 l c.half_at-first.result (0 ∷ []) (g.D.Disk.seen c.reserve.new.disk))) c.shut_headers-headers.ensures
-    ∙ ap (λ (n : ℕ). written 0 (165 ∷ []) (both_written 0 (shut_pair shape) n (0 ∷ []) (g.D.Disk.seen c.reserve.new.disk))) c.half_at-first.ensures
-    ∙ ap (formatted shape) c.in_ok-reserve.ensures.untouched.content in
-    on_ok c.write_both_gated.result
-    (λ is. subst (OpensAs shape [] true) (sym (is ∙ same)) (formatted_opens shape limits content)) (c.write_both_gated.ensures.written told)
+    let limits : IsShape shape = record {
+      some_bytes = c.requires.block_range.0;
+      few_bytes = c.requires.block_range.1;
+      some_slots = c.requires.records_range.0;
+      few_slots = c.requires.records_range.1;
+      behind = omega arith;
+      near = omega arith;
+    } in
+    let same : written 0 (165 ∷ []) (both_written 0 c.shut_headers-headers.result c.half_at-first.result (0 ∷ []) (d.seen mid))
+    ≡ formatted shape (d.seen mid) =
+    ap (λ (l : List ℕ). written 0 (165 ∷ []) (both_written 0 l c.half_at-first.result (0 ∷ []) (d.seen mid))) c.shut_headers-headers.ensures
+    ∙ ap (λ (n : ℕ). written 0 (165 ∷ []) (both_written 0 (shut_pair shape) n (0 ∷ []) (d.seen mid))) c.half_at-first.ensures in
+    let rest : Still d old mid ⊥ =
+    record { untouched = c.reserve.ensures.untouched; plan = c.reserve.ensures.plan; cause = c.reserve.ensures.cause } in
+    behind d g.met.D.Disk.only_now IsAny IsAny (λ image is. is) old mid ⊥ rest g.met.D.Disk.counts_now 5 (IsEmptyStore shape) new end
+    (widen d 5 _ _ _ IsAny IsAny (IsEmptyStore shape) mid new end
+    (λ told any. staged_none 0 _ c.half_at-first.result 1 (d.seen mid)) (λ told any image is. tt) (λ told any image is. tt)
+    (λ told image is. subst (IsEmptyStore shape) (sym (is ∙ same))
+    (record { opens = formatted_opens shape limits (d.seen mid); slots = formatted_slots shape limits (d.seen mid) }))
+    c.write_both_gated.ensures.change)
 
-pub returns-clause-slots : goal.returns-clause-slots
-returns-clause-slots g c = λ told.
-    let shape = shape_of c.args.me c.args.block c.args.records in
-    let limits : IsShape shape = record { some_bytes = c.requires.block_range.0; few_bytes = c.requires.block_range.1; some_slots = c.requires.records_range.0; few_slots = c.requires.records_range.1; behind = omega arith; near = omega arith } in
-    let content = g.D.Disk.seen c.args.disk.now in
-    let same = ap (λ (l : List ℕ). written 0 (165 ∷ [])
-    (both_written 0 l c.half_at-first.result (0 ∷ []) (g.D.Disk.seen c.reserve.new.disk))) c.shut_headers-headers.ensures
-    ∙ ap (λ (n : ℕ). written 0 (165 ∷ []) (both_written 0 (shut_pair shape) n (0 ∷ []) (g.D.Disk.seen c.reserve.new.disk))) c.half_at-first.ensures
-    ∙ ap (formatted shape) c.in_ok-reserve.ensures.untouched.content in
-    on_ok c.write_both_gated.result
-    (λ is. subst (λ (l : List ℕ). (slot : ℕ) → slot < c.args.records → HasSlot shape (length l) slot) (sym (is ∙ same))
-    (formatted_slots shape limits content)) (c.write_both_gated.ensures.written told)
-
-pub returns-in_err-reserve : goal.returns-in_err-reserve
-returns-in_err-reserve g c = search rules
+pub returns-in_err-reserve-clause-change : goal.returns-in_err-reserve-clause-change
+returns-in_err-reserve-clause-change g c =
+    let d = g.D.Disk in
+    let old = c.args.disk.now in
+    let mid = c.reserve.new.disk in
+    let After = IsEmptyStore (shape_of c.args.me c.args.block c.args.records) in
+    of_refused (Run d 5 IsAny IsAny After old mid) c.from_residual.result (search rules)
+    (still d g.met.D.Disk.only_now IsAny IsAny (λ image is. is) old mid ⊥
+    (record { untouched = c.reserve.ensures.untouched; plan = c.reserve.ensures.plan; cause = c.reserve.ensures.cause }) 5 After)

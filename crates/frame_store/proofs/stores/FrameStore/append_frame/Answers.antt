@@ -1,61 +1,54 @@
 use Rattle.std.proofs.lemmas.Grind.{common_steps}
-use Rattle.std.proofs.Common.{Err, ◌≡◌, ◌++◌, ◌∷◌, [], ◌+◌, max, length, ℕ, List, true, None, sym, subst, rules, arith, ◌∙◌}
-use Rattle.frame_store.specs.declared.faults.FrameFault.TheVariants.{Disk}
+use Rattle.std.proofs.Common.{◌≡◌, false, ◌++◌, ◌∷◌, [], ◌+◌, max, length, ℕ, List, true, None, refl, sym, ap, subst, rules, arith, ◌∙◌}
+use Rattle.fab_disk.specs.Changing.{Whole, Still}
 use Rattle.frame_store.specs.declared.frames.Frame.{Frame}
+use Rattle.frame_store.specs.Ends.{ListChange}
 use Rattle.frame_store.specs.Layouts.{half_at}
 use Rattle.frame_store.specs.Listed.{line_of}
 use Rattle.frame_store.specs.Laid.{Laid, IsCounted}
 use Rattle.frame_store.specs.Stores.{Held}
 use Rattle.frame_store.proofs.Changes.{laid_opens}
-use Rattle.frame_store.proofs.Exits.{Ready, Moments, moments_untouched, append_moments, append_cut, append_done, append_laid, append_counted}
+use Rattle.frame_store.proofs.Ends.{of_refused}
+use Rattle.frame_store.proofs.Exits.{Ready, still_change, append_change, append_laid, append_counted}
 use Rattle.frame_store.proofs.stores.FrameStore.append_frame.Goals as goal
 
-pub returns-in-Ok-clause-any_moment : goal.returns-in-Ok-clause-any_moment
-returns-in-Ok-clause-any_moment g c =
+pub returns-in-Ok-clause-change : goal.returns-in-Ok-clause-change
+returns-in-Ok-clause-change g c =
     let x = c.self.inside in
     let d = g.D.Disk in
+    let s = c.args.self.now in
     let p = c.half_at.result + x.used in
-    let place : p ≡ half_at x.shape x.half + x.used = omega (arith, c.half_at.ensures) in
+    let place : p ≡ half_at s.shape x.half + x.used =
+    ap (λ (n : ℕ). n + x.used) (c.half_at.ensures ∙ ap (λ (s : Held g.row.D.Denot). half_at s.shape x.half) c.self.view_is) in
     let line_is : c.deref.result.now ≡ line_of c.args.frame = c.deref.ensures.value ∙ c.in_ok-stage.ensures.line in
-    let ready = subst (λ (s : Held g.row.D.Denot). Ready d.tells d.seen d.may_leave d.moment d.left_since x.half x.generation x.other_shut x.used c.stage.new.disk p s) c.self.view_is
-    (record { counted = c.self.invariant.0; invariant = c.self.invariant.1; untouched = c.stage.ensures.untouched; place = place }) in
-    append_moments d.tells d.seen d.may_leave d.moment d.left_since c.args.self.now x.half x.generation x.other_shut x.used c.stage.new.disk c.write_gated.new.disk p c.args.frame c.deref.result.now
-    ready c.requires.fits line_is g.met.D.Disk.only_now c.write_gated.ensures.moments
-
-pub returns-in-Ok-clause-after : goal.returns-in-Ok-clause-after
-returns-in-Ok-clause-after g c =
-    let x = c.self.inside in
-    let d = g.D.Disk in
-    let p = c.half_at.result + x.used in
-    let place : p ≡ half_at x.shape x.half + x.used = omega (arith, c.half_at.ensures) in
-    let line_is : c.deref.result.now ≡ line_of c.args.frame = c.deref.ensures.value ∙ c.in_ok-stage.ensures.line in
-    let ready = subst (λ (s : Held g.row.D.Denot). Ready d.tells d.seen d.may_leave d.moment d.left_since x.half x.generation x.other_shut x.used c.stage.new.disk p s) c.self.view_is
-    (record { counted = c.self.invariant.0; invariant = c.self.invariant.1; untouched = c.stage.ensures.untouched; place = place }) in
-    append_done d.tells d.seen d.may_leave d.moment d.left_since c.args.self.now x.half x.generation x.other_shut x.used c.stage.new.disk c.write_gated.new.disk p c.args.frame c.deref.result.now
-    ready c.requires.fits line_is c.requires.runs c.in-Ok.ensures.written
+    let ready = subst (Ready d x.half x.generation x.other_shut x.used c.stage.new.disk) c.self.view_is
+    (record { counted = c.self.invariant.0; invariant = c.self.invariant.1; runs = subst (λ (s : Held g.row.D.Denot). s.halted ≡ false) (sym c.self.view_is) c.requires.runs; rest = c.stage.ensures.still }) in
+    append_change d s x.half x.generation x.other_shut x.used c.stage.new.disk c.write_gated.new.disk ready p c.args.frame c.deref.result.now place c.requires.fits line_is
+    g.met.D.Disk.only_now g.met.D.Disk.counts_now Whole c.in-Ok.ensures.change
 
 -- the new list is laid, and counted
 pub invariant_of-self-in-Ok : goal.invariant_of-self-in-Ok
 invariant_of-self-in-Ok g c =
     let x = c.self.inside in
     let d = g.D.Disk in
+    let s = c.args.self.now in
     let p = c.half_at.result + x.used in
-    let place : p ≡ half_at x.shape x.half + x.used = omega (arith, c.half_at.ensures) in
+    let place : p ≡ half_at s.shape x.half + x.used =
+    ap (λ (n : ℕ). n + x.used) (c.half_at.ensures ∙ ap (λ (s : Held g.row.D.Denot). half_at s.shape x.half) c.self.view_is) in
     let line_is : c.deref.result.now ≡ line_of c.args.frame = c.deref.ensures.value ∙ c.in_ok-stage.ensures.line in
+    let ready = subst (Ready d x.half x.generation x.other_shut x.used c.stage.new.disk) c.self.view_is
+    (record { counted = c.self.invariant.0; invariant = c.self.invariant.1; runs = subst (λ (s : Held g.row.D.Denot). s.halted ≡ false) (sym c.self.view_is) c.requires.runs; rest = c.stage.ensures.still }) in
     let bytes : c.len-bytes.result ≡ length c.deref.result.now = omega arith in
     let items : c.push.new.self.items ≡ x.frames.items ++ c.args.frame ∷ [] = search rules in
     let size : c.max-self-inside.result ≡ max x.size (p + 1 + length c.deref.result.now) = omega (arith, bytes, c.max-self-inside.ensures) in
-    let ready = subst (λ (s : Held g.row.D.Denot). Ready d.tells d.seen d.may_leave d.moment d.left_since x.half x.generation x.other_shut x.used c.stage.new.disk p s) c.self.view_is
-    (record { counted = c.self.invariant.0; invariant = c.self.invariant.1; untouched = c.stage.ensures.untouched; place = place }) in
     let laid = subst (λ (s : Held g.row.D.Denot). d.tells → Laid s.shape x.half x.generation x.other_shut (s.frames ++ c.args.frame ∷ []) true
     (d.seen c.write_gated.new.disk)
     × (length (d.seen c.write_gated.new.disk) ≡ max s.size (p + 1 + length c.deref.result.now))) (sym c.self.view_is)
-    (append_laid d.tells d.seen d.may_leave d.moment d.left_since c.args.self.now x.half x.generation x.other_shut x.used c.stage.new.disk c.write_gated.new.disk p c.args.frame c.deref.result.now
-    ready c.requires.fits line_is c.requires.runs c.in-Ok.ensures.written) in
+    (append_laid d s x.half x.generation x.other_shut x.used c.stage.new.disk c.write_gated.new.disk ready p c.args.frame c.deref.result.now place c.requires.fits line_is
+    (λ told. (c.in-Ok.ensures.change.whole refl told).has)) in
     let counted = subst (λ (s : Held g.row.D.Denot). IsCounted s.shape (s.frames ++ c.args.frame ∷ []) (x.used + length c.deref.result.now))
     (sym c.self.view_is)
-    (append_counted d.tells d.seen d.may_leave d.moment d.left_since c.args.self.now x.half x.generation x.other_shut x.used c.stage.new.disk c.write_gated.new.disk p c.args.frame c.deref.result.now
-    ready c.requires.fits line_is) in
+    (append_counted d s x.half x.generation x.other_shut x.used c.stage.new.disk c.write_gated.new.disk ready p c.args.frame c.deref.result.now place c.requires.fits line_is) in
     let used : x.used + length c.deref.result.now ≡ x.used + c.len-bytes.result = omega (arith, bytes) in (
       subst (λ (n : ℕ). IsCounted x.shape c.push.new.self.items n) used
           (subst (λ (fs : List Frame). IsCounted x.shape fs (x.used + length c.deref.result.now)) (sym items) counted),
@@ -75,46 +68,28 @@ returns-in-Ok-clause-read g c = λ told runs.
       size = now.1;
     }
 
-pub returns-in_err-stage : goal.returns-in_err-stage
-returns-in_err-stage g c =
-    let any_moment = (
-    let x = c.self.inside in
+pub returns-in_err-stage-clause-change : goal.returns-in_err-stage-clause-change
+returns-in_err-stage-clause-change g c =
     let d = g.D.Disk in
-    subst (λ (s : Held g.row.D.Denot). Moments d.tells d.seen d.may_leave d.moment d.left_since
-    (λ fs. fs ++ c.args.frame ∷ []) None c.stage.new.disk s) c.self.view_is
-    (moments_untouched d.tells d.seen d.may_leave d.moment d.left_since g.met.D.Disk.only_now _ x.half x.generation x.other_shut
-    (λ fs. fs ++ c.args.frame ∷ []) None c.stage.new.disk c.self.invariant.1 c.stage.ensures.untouched)
-    ) in
-    search (rules, any_moment)
+    let s = c.args.self.now in
+    let after = s.frames ++ c.args.frame ∷ [] in
+    of_refused (ListChange d 4 s after None c.stage.new.disk) c.from_residual.result (search rules)
+    (still_change d g.met.D.Disk.only_now 4 s after None c.stage.new.disk
+    (subst (λ (s : Held g.row.D.Denot). Still d s.disk c.stage.new.disk ⊥) c.self.view_is c.stage.ensures.still))
 
-pub returns-in-Err : goal.returns-in-Err
-returns-in-Err g c =
-    let any_moment = (
+pub returns-in-Err-clause-change : goal.returns-in-Err-clause-change
+returns-in-Err-clause-change g c =
     let x = c.self.inside in
     let d = g.D.Disk in
+    let s = c.args.self.now in
     let p = c.half_at.result + x.used in
-    let place : p ≡ half_at x.shape x.half + x.used = omega (arith, c.half_at.ensures) in
+    let place : p ≡ half_at s.shape x.half + x.used =
+    ap (λ (n : ℕ). n + x.used) (c.half_at.ensures ∙ ap (λ (s : Held g.row.D.Denot). half_at s.shape x.half) c.self.view_is) in
     let line_is : c.deref.result.now ≡ line_of c.args.frame = c.deref.ensures.value ∙ c.in_ok-stage.ensures.line in
-    let ready = subst (λ (s : Held g.row.D.Denot). Ready d.tells d.seen d.may_leave d.moment d.left_since x.half x.generation x.other_shut x.used c.stage.new.disk p s) c.self.view_is
-    (record { counted = c.self.invariant.0; invariant = c.self.invariant.1; untouched = c.stage.ensures.untouched; place = place }) in
-    append_moments d.tells d.seen d.may_leave d.moment d.left_since c.args.self.now x.half x.generation x.other_shut x.used c.stage.new.disk c.write_gated.new.disk p c.args.frame c.deref.result.now
-    ready c.requires.fits line_is g.met.D.Disk.only_now c.write_gated.ensures.moments
-    ) in
-    let cut = (
-    let x = c.self.inside in
-    let d = g.D.Disk in
-    let p = c.half_at.result + x.used in
-    let place : p ≡ half_at x.shape x.half + x.used = omega (arith, c.half_at.ensures) in
-    let line_is : c.deref.result.now ≡ line_of c.args.frame = c.deref.ensures.value ∙ c.in_ok-stage.ensures.line in
-    let ready = subst (λ (s : Held g.row.D.Denot). Ready d.tells d.seen d.may_leave d.moment d.left_since x.half x.generation x.other_shut x.used c.stage.new.disk p s) c.self.view_is
-    (record { counted = c.self.invariant.0; invariant = c.self.invariant.1; untouched = c.stage.ensures.untouched; place = place }) in
-    append_cut d.tells d.seen d.may_leave d.moment d.left_since c.args.self.now x.half x.generation x.other_shut x.used c.stage.new.disk c.write_gated.new.disk p c.args.frame c.deref.result.now
-    ready c.requires.fits line_is d.certain (c.write_gated.result ≡ Err Disk) c.write_gated.ensures.cut
-    ) in
-    search (rules, any_moment, cut)
+    let ready = subst (Ready d x.half x.generation x.other_shut x.used c.stage.new.disk) c.self.view_is
+    (record { counted = c.self.invariant.0; invariant = c.self.invariant.1; runs = subst (λ (s : Held g.row.D.Denot). s.halted ≡ false) (sym c.self.view_is) c.requires.runs; rest = c.stage.ensures.still }) in
+    append_change d s x.half x.generation x.other_shut x.used c.stage.new.disk c.write_gated.new.disk ready p c.args.frame c.deref.result.now place c.requires.fits line_is
+    g.met.D.Disk.only_now g.met.D.Disk.counts_now _ c.in-Err.ensures.change
 
 pub write_gated-requires-clause-reach : goal.write_gated-requires-clause-reach
 write_gated-requires-clause-reach g c = grind (arith, common_steps)
-
-pub returns-in-Ok-clause-durable : goal.returns-in-Ok-clause-durable
-returns-in-Ok-clause-durable g c = λ told. record { told = told; runs = search rules; only = c.in-Ok.ensures.durable told }

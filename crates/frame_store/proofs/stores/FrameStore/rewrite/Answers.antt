@@ -1,119 +1,74 @@
-use Rattle.std.proofs.Common.{Err, rules, ◌≡◌, false, ◌+◌, ◌-◌, ◌^◌, ◌<◌, ◌≤◌, max, length, ℕ, List, true, None, sym, ap, subst, arith, ◌∙◌}
-use Rattle.fab_disk.specs.Disk.{IsUntouched}
-use Rattle.frame_store.specs.Steps.{next_of}
-use Rattle.frame_store.specs.declared.faults.FrameFault.TheVariants.{Disk}
+use Rattle.std.proofs.Common.{rules, ◌≡◌, ◌+◌, ◌-◌, ◌^◌, ◌<◌, ◌≤◌, max, length, ℕ, List, true, false, None, refl, sym, ap, subst, arith, ◌∙◌}
+use Rattle.fab_disk.specs.Changing.{Whole, Still}
 use Rattle.frame_store.specs.declared.frames.Frame.{Frame}
 use Rattle.frame_store.specs.declared.shapes.Half.{Half}
+use Rattle.frame_store.specs.Ends.{ListChange}
 use Rattle.frame_store.specs.Layouts.{half_at, half_size, header_at, header_rest, store_end}
 use Rattle.frame_store.specs.Listed.{closed_list, size_of}
-use Rattle.frame_store.specs.Laid.{other, Laid, IsCounted}
+use Rattle.frame_store.specs.Images.{InForce, generation_at}
+use Rattle.frame_store.specs.Laid.{other, Laid, IsCounted, IsRenewed}
+use Rattle.frame_store.specs.Steps.{next_of}
 use Rattle.frame_store.specs.Stores.{Held, HasRoom}
-use Rattle.frame_store.proofs.Rewriting.{length-closed_list}
 use Rattle.frame_store.proofs.Changes.{laid_opens}
+use Rattle.frame_store.proofs.Ends.{of_refused}
+use Rattle.frame_store.proofs.Exits.{Ready, end_small, half_within, closing_short, still_change, rewrite_change, rewrite_laid, rewrite_counted}
 use Rattle.frame_store.proofs.Headers.{renewed}
-use Rattle.frame_store.proofs.Exits.{Moments, Invariant, end_small, half_within, closing_short, moments_untouched, rewrite_moments, rewrite_cut, rewrite_done, rewrite_laid, rewrite_counted}
+use Rattle.frame_store.proofs.Rewriting.{length-closed_list}
 use Rattle.frame_store.proofs.stores.FrameStore.rewrite.Goals as goal
 
-pub returns-in-Ok-clause-any_moment : goal.returns-in-Ok-clause-any_moment
-returns-in-Ok-clause-any_moment g c =
+pub returns-in-Ok-clause-change : goal.returns-in-Ok-clause-change
+returns-in-Ok-clause-change g c =
     let x = c.self.inside in
     let d = g.D.Disk in
+    let s = c.args.self.now in
     let fs = c.args.frames.items in
     let gate = c.header_at-gate.result in
     let at = c.half_at-at.result in
     let line = c.deref-2.result.now in
     let mid = c.stage_list.new.disk in
     let new = c.rewrite_gated.new.disk in
-    let counted = subst (λ (s : Held g.row.D.Denot). IsCounted s.shape s.frames x.used) c.self.view_is c.self.invariant.0 in
-    let inv = subst (λ (s : Held g.row.D.Denot). Invariant d.tells d.seen s x.half x.generation x.other_shut) c.self.view_is c.self.invariant.1 in
-    let untouched = subst (λ (s : Held g.row.D.Denot). IsUntouched d.seen d.may_leave d.moment d.left_since s.disk mid) c.self.view_is c.stage_list.ensures.untouched in
+    let ready = subst (Ready d x.half x.generation x.other_shut x.used mid) c.self.view_is
+    (record { counted = c.self.invariant.0; invariant = c.self.invariant.1; runs = c.if-self.false; rest = c.stage_list.ensures.still }) in
     let small : x.generation < 2 ^ 64 = omega arith in
     let gate_is : gate ≡ header_at (other x.half) = c.header_at-gate.ensures ∙ ap header_at c.other-other.ensures in
-    let at_is : at ≡ half_at c.args.self.now.shape (other x.half) = c.half_at-at.ensures ∙ ap (half_at x.shape) c.other-other.ensures
+    let at_is : at ≡ half_at s.shape (other x.half) = c.half_at-at.ensures ∙ ap (half_at x.shape) c.other-other.ensures
     ∙ ap (λ (s : Held g.row.D.Denot). half_at s.shape (other x.half)) c.self.view_is in
-    let rest_is : c.header_rest-rest.result ≡ header_rest c.args.self.now.shape (next_of x.generation) = c.header_rest-rest.ensures
+    let rest_is : c.header_rest-rest.result ≡ header_rest s.shape (next_of x.generation) = c.header_rest-rest.ensures
     ∙ ap (λ (s : Held g.row.D.Denot). header_rest s.shape (next_of x.generation)) c.self.view_is in
     let line_is : line ≡ closed_list fs = c.deref-2.ensures.value ∙ c.in_ok-stage_list.ensures.line ∙ ap closed_list c.deref.ensures.value in
-    rewrite_moments d.tells d.seen d.may_leave d.moment d.left_since c.args.self.now x.half x.generation x.other_shut x.used mid new fs gate at c.closing-shut.result.now c.header_rest-rest.result line counted inv untouched c.requires.fits small gate_is at_is c.closing-shut.ensures rest_is line_is g.met.D.Disk.only_now c.rewrite_gated.ensures.moments
-
-pub returns-in-Ok-clause-after : goal.returns-in-Ok-clause-after
-returns-in-Ok-clause-after g c =
-    let x = c.self.inside in
-    let d = g.D.Disk in
-    let fs = c.args.frames.items in
-    let gate = c.header_at-gate.result in
-    let at = c.half_at-at.result in
-    let line = c.deref-2.result.now in
-    let mid = c.stage_list.new.disk in
-    let new = c.rewrite_gated.new.disk in
-    let counted = subst (λ (s : Held g.row.D.Denot). IsCounted s.shape s.frames x.used) c.self.view_is c.self.invariant.0 in
-    let inv = subst (λ (s : Held g.row.D.Denot). Invariant d.tells d.seen s x.half x.generation x.other_shut) c.self.view_is c.self.invariant.1 in
-    let untouched = subst (λ (s : Held g.row.D.Denot). IsUntouched d.seen d.may_leave d.moment d.left_since s.disk mid) c.self.view_is c.stage_list.ensures.untouched in
-    let small : x.generation < 2 ^ 64 = omega arith in
-    let gate_is : gate ≡ header_at (other x.half) = c.header_at-gate.ensures ∙ ap header_at c.other-other.ensures in
-    let at_is : at ≡ half_at c.args.self.now.shape (other x.half) = c.half_at-at.ensures ∙ ap (half_at x.shape) c.other-other.ensures
-    ∙ ap (λ (s : Held g.row.D.Denot). half_at s.shape (other x.half)) c.self.view_is in
-    let rest_is : c.header_rest-rest.result ≡ header_rest c.args.self.now.shape (next_of x.generation) = c.header_rest-rest.ensures
-    ∙ ap (λ (s : Held g.row.D.Denot). header_rest s.shape (next_of x.generation)) c.self.view_is in
-    let line_is : line ≡ closed_list fs = c.deref-2.ensures.value ∙ c.in_ok-stage_list.ensures.line ∙ ap closed_list c.deref.ensures.value in
-    let runs = subst (λ (s : Held g.row.D.Denot). s.halted ≡ false) c.self.view_is c.if-self.false in
-    rewrite_done d.tells d.seen d.may_leave d.moment d.left_since c.args.self.now x.half x.generation x.other_shut x.used mid new fs gate at c.closing-shut.result.now c.header_rest-rest.result line counted inv untouched c.requires.fits small gate_is at_is c.closing-shut.ensures rest_is line_is runs c.in-Ok.ensures.written
-
-pub returns-in-Ok-clause-renewed : goal.returns-in-Ok-clause-renewed
-returns-in-Ok-clause-renewed g c =
-    let x = c.self.inside in
-    let d = g.D.Disk in
-    let fs = c.args.frames.items in
-    let gate = c.header_at-gate.result in
-    let at = c.half_at-at.result in
-    let line = c.deref-2.result.now in
-    let mid = c.stage_list.new.disk in
-    let new = c.rewrite_gated.new.disk in
-    let counted = subst (λ (s : Held g.row.D.Denot). IsCounted s.shape s.frames x.used) c.self.view_is c.self.invariant.0 in
-    let inv = subst (λ (s : Held g.row.D.Denot). Invariant d.tells d.seen s x.half x.generation x.other_shut) c.self.view_is c.self.invariant.1 in
-    let untouched = subst (λ (s : Held g.row.D.Denot). IsUntouched d.seen d.may_leave d.moment d.left_since s.disk mid) c.self.view_is c.stage_list.ensures.untouched in
-    let small : x.generation < 2 ^ 64 = omega arith in
-    let gate_is : gate ≡ header_at (other x.half) = c.header_at-gate.ensures ∙ ap header_at c.other-other.ensures in
-    let at_is : at ≡ half_at c.args.self.now.shape (other x.half) = c.half_at-at.ensures ∙ ap (half_at x.shape) c.other-other.ensures
-    ∙ ap (λ (s : Held g.row.D.Denot). half_at s.shape (other x.half)) c.self.view_is in
-    let rest_is : c.header_rest-rest.result ≡ header_rest c.args.self.now.shape (next_of x.generation) = c.header_rest-rest.ensures
-    ∙ ap (λ (s : Held g.row.D.Denot). header_rest s.shape (next_of x.generation)) c.self.view_is in
-    let line_is : line ≡ closed_list fs = c.deref-2.ensures.value ∙ c.in_ok-stage_list.ensures.line ∙ ap closed_list c.deref.ensures.value in
-    let runs = subst (λ (s : Held g.row.D.Denot). s.halted ≡ false) c.self.view_is c.if-self.false in
-    let laid = rewrite_laid d.tells d.seen d.may_leave d.moment d.left_since c.args.self.now x.half x.generation x.other_shut x.used mid new fs gate at c.closing-shut.result.now c.header_rest-rest.result line counted inv untouched c.requires.fits small gate_is at_is c.closing-shut.ensures rest_is line_is runs c.in-Ok.ensures.written in
-    λ told. renewed c.args.self.now.shape x.half x.generation (d.seen c.args.self.now.disk) (d.seen new) (inv told runs).0.in_force
-    (inv told runs).0.generation (laid told).0.in_force (laid told).0.generation
-
-pub returns-in-Ok-clause-durable : goal.returns-in-Ok-clause-durable
-returns-in-Ok-clause-durable g c = λ told. record { told = told; runs = c.if-self.false; only = c.in-Ok.ensures.durable told }
+    rewrite_change d s x.half x.generation x.other_shut x.used mid new ready fs gate at c.closing-shut.result.now
+    c.header_rest-rest.result line c.requires.fits small gate_is at_is c.closing-shut.ensures rest_is line_is
+    g.met.D.Disk.only_now g.met.D.Disk.counts_now Whole c.in-Ok.ensures.change
 
 -- the new list is laid in the other half, and counted
 pub invariant_of-self-in-Ok : goal.invariant_of-self-in-Ok
 invariant_of-self-in-Ok g c =
     let x = c.self.inside in
     let d = g.D.Disk in
+    let s = c.args.self.now in
     let fs = c.args.frames.items in
     let gate = c.header_at-gate.result in
     let at = c.half_at-at.result in
     let line = c.deref-2.result.now in
     let mid = c.stage_list.new.disk in
     let new = c.rewrite_gated.new.disk in
-    let counted = subst (λ (s : Held g.row.D.Denot). IsCounted s.shape s.frames x.used) c.self.view_is c.self.invariant.0 in
-    let inv = subst (λ (s : Held g.row.D.Denot). Invariant d.tells d.seen s x.half x.generation x.other_shut) c.self.view_is c.self.invariant.1 in
-    let untouched = subst (λ (s : Held g.row.D.Denot). IsUntouched d.seen d.may_leave d.moment d.left_since s.disk mid) c.self.view_is c.stage_list.ensures.untouched in
+    let ready = subst (Ready d x.half x.generation x.other_shut x.used mid) c.self.view_is
+    (record { counted = c.self.invariant.0; invariant = c.self.invariant.1; runs = c.if-self.false; rest = c.stage_list.ensures.still }) in
     let small : x.generation < 2 ^ 64 = omega arith in
     let gate_is : gate ≡ header_at (other x.half) = c.header_at-gate.ensures ∙ ap header_at c.other-other.ensures in
-    let at_is : at ≡ half_at c.args.self.now.shape (other x.half) = c.half_at-at.ensures ∙ ap (half_at x.shape) c.other-other.ensures
+    let at_is : at ≡ half_at s.shape (other x.half) = c.half_at-at.ensures ∙ ap (half_at x.shape) c.other-other.ensures
     ∙ ap (λ (s : Held g.row.D.Denot). half_at s.shape (other x.half)) c.self.view_is in
-    let rest_is : c.header_rest-rest.result ≡ header_rest c.args.self.now.shape (next_of x.generation) = c.header_rest-rest.ensures
+    let rest_is : c.header_rest-rest.result ≡ header_rest s.shape (next_of x.generation) = c.header_rest-rest.ensures
     ∙ ap (λ (s : Held g.row.D.Denot). header_rest s.shape (next_of x.generation)) c.self.view_is in
     let line_is : line ≡ closed_list fs = c.deref-2.ensures.value ∙ c.in_ok-stage_list.ensures.line ∙ ap closed_list c.deref.ensures.value in
-    let runs = subst (λ (s : Held g.row.D.Denot). s.halted ≡ false) c.self.view_is c.if-self.false in
     let laid = subst (λ (s : Held g.row.D.Denot). d.tells → Laid s.shape (other x.half) (next_of x.generation) false fs true (d.seen new)
     × (length (d.seen new) ≡ max s.size (at + length line))) (sym c.self.view_is)
-    (rewrite_laid d.tells d.seen d.may_leave d.moment d.left_since c.args.self.now x.half x.generation x.other_shut x.used mid new fs gate at c.closing-shut.result.now c.header_rest-rest.result line counted inv untouched c.requires.fits small gate_is at_is c.closing-shut.ensures rest_is line_is runs c.in-Ok.ensures.written) in
+    (rewrite_laid d s x.half x.generation x.other_shut x.used mid new ready fs gate at c.closing-shut.result.now
+    c.header_rest-rest.result line c.requires.fits small gate_is at_is c.closing-shut.ensures rest_is line_is
+    (λ told. (c.in-Ok.ensures.change.whole refl told).has)) in
     let counts = subst (λ (s : Held g.row.D.Denot). IsCounted s.shape fs (length line - 1)) (sym c.self.view_is)
-    (rewrite_counted d.tells d.seen d.may_leave d.moment d.left_since c.args.self.now x.half x.generation x.other_shut x.used mid new fs gate at c.closing-shut.result.now c.header_rest-rest.result line counted inv untouched c.requires.fits small gate_is at_is c.closing-shut.ensures rest_is line_is) in
+    (rewrite_counted d s x.half x.generation x.other_shut x.used mid new ready fs gate at c.closing-shut.result.now
+    c.header_rest-rest.result line c.requires.fits small gate_is at_is c.closing-shut.ensures rest_is line_is) in
     let bytes : c.len-bytes.result ≡ length line = omega arith in
     let items : c.replace.new.listed.items ≡ fs = c.replace.ensures.items in
     let size : c.max-self-inside.result ≡ max x.size (at + length line) = omega (arith, bytes, c.max-self-inside.ensures) in
@@ -136,6 +91,18 @@ returns-in-Ok-clause-read g c = λ told runs.
           (g.D.Disk.seen c.rewrite_gated.new.disk) now.0;
       size = now.1;
     }
+
+-- the generations of the halves, by what is laid before and after
+pub returns-in-Ok-clause-renewed : goal.returns-in-Ok-clause-renewed
+returns-in-Ok-clause-renewed g c = λ told.
+    let x = c.self.inside in
+    let d = g.D.Disk in
+    let before = (c.self.invariant.1 told c.if-self.false).0 in
+    let after = ((invariant_of-self-in-Ok g c).1 told c.if-self.false).0 in
+    subst (λ (s : Held g.row.D.Denot). IsRenewed s.shape (d.seen s.disk) (d.seen c.rewrite_gated.new.disk)) c.self.view_is
+    (renewed x.shape x.half x.generation (d.seen x.disk) (d.seen c.rewrite_gated.new.disk) before.in_force before.generation
+    (subst (λ (h : Half). InForce x.shape h (d.seen c.rewrite_gated.new.disk)) c.other-other.ensures after.in_force)
+    (subst (λ (h : Half). generation_at h (d.seen c.rewrite_gated.new.disk) ≡ next_of x.generation) c.other-other.ensures after.generation))
 
 -- the list fits in its half, and so below the store's end
 pub rewrite_gated-requires-clause-reach : goal.rewrite_gated-requires-clause-reach
@@ -221,63 +188,34 @@ returns-in-Ok-clause-left g c = λ calls bytes written listed body had.
       spare = before.spare;
     }
 
-pub returns-in_err-stage_list : goal.returns-in_err-stage_list
-returns-in_err-stage_list g c =
-    let any_moment = (
-    let x = c.self.inside in
+pub returns-in_err-stage_list-clause-change : goal.returns-in_err-stage_list-clause-change
+returns-in_err-stage_list-clause-change g c =
     let d = g.D.Disk in
-    subst (λ (s : Held g.row.D.Denot). Moments d.tells d.seen d.may_leave d.moment d.left_since
-    (λ old. c.args.frames.items) None c.stage_list.new.disk s) c.self.view_is
-    (moments_untouched d.tells d.seen d.may_leave d.moment d.left_since g.met.D.Disk.only_now _ x.half x.generation x.other_shut
-    (λ old. c.args.frames.items) None c.stage_list.new.disk c.self.invariant.1 c.stage_list.ensures.untouched)
-    ) in
-    search (rules, any_moment)
+    let s = c.args.self.now in
+    of_refused (ListChange d 7 s c.args.frames.items None c.stage_list.new.disk) c.from_residual.result (search rules)
+    (still_change d g.met.D.Disk.only_now 7 s c.args.frames.items None c.stage_list.new.disk
+    (subst (λ (s : Held g.row.D.Denot). Still d s.disk c.stage_list.new.disk ⊥) c.self.view_is c.stage_list.ensures.still))
 
-pub returns-in-Err : goal.returns-in-Err
-returns-in-Err g c =
-    let any_moment = (
+pub returns-in-Err-clause-change : goal.returns-in-Err-clause-change
+returns-in-Err-clause-change g c =
     let x = c.self.inside in
     let d = g.D.Disk in
+    let s = c.args.self.now in
     let fs = c.args.frames.items in
     let gate = c.header_at-gate.result in
     let at = c.half_at-at.result in
     let line = c.deref-2.result.now in
     let mid = c.stage_list.new.disk in
     let new = c.rewrite_gated.new.disk in
-    let counted = subst (λ (s : Held g.row.D.Denot). IsCounted s.shape s.frames x.used) c.self.view_is c.self.invariant.0 in
-    let inv = subst (λ (s : Held g.row.D.Denot). Invariant d.tells d.seen s x.half x.generation x.other_shut) c.self.view_is c.self.invariant.1 in
-    let untouched = subst (λ (s : Held g.row.D.Denot). IsUntouched d.seen d.may_leave d.moment d.left_since s.disk mid) c.self.view_is c.stage_list.ensures.untouched in
+    let ready = subst (Ready d x.half x.generation x.other_shut x.used mid) c.self.view_is
+    (record { counted = c.self.invariant.0; invariant = c.self.invariant.1; runs = c.if-self.false; rest = c.stage_list.ensures.still }) in
     let small : x.generation < 2 ^ 64 = omega arith in
     let gate_is : gate ≡ header_at (other x.half) = c.header_at-gate.ensures ∙ ap header_at c.other-other.ensures in
-    let at_is : at ≡ half_at c.args.self.now.shape (other x.half) = c.half_at-at.ensures ∙ ap (half_at x.shape) c.other-other.ensures
+    let at_is : at ≡ half_at s.shape (other x.half) = c.half_at-at.ensures ∙ ap (half_at x.shape) c.other-other.ensures
     ∙ ap (λ (s : Held g.row.D.Denot). half_at s.shape (other x.half)) c.self.view_is in
-    let rest_is : c.header_rest-rest.result ≡ header_rest c.args.self.now.shape (next_of x.generation) = c.header_rest-rest.ensures
+    let rest_is : c.header_rest-rest.result ≡ header_rest s.shape (next_of x.generation) = c.header_rest-rest.ensures
     ∙ ap (λ (s : Held g.row.D.Denot). header_rest s.shape (next_of x.generation)) c.self.view_is in
     let line_is : line ≡ closed_list fs = c.deref-2.ensures.value ∙ c.in_ok-stage_list.ensures.line ∙ ap closed_list c.deref.ensures.value in
-    rewrite_moments d.tells d.seen d.may_leave d.moment d.left_since c.args.self.now x.half x.generation x.other_shut x.used mid new fs gate at c.closing-shut.result.now c.header_rest-rest.result line counted inv untouched c.requires.fits small gate_is at_is c.closing-shut.ensures rest_is line_is g.met.D.Disk.only_now c.rewrite_gated.ensures.moments
-    ) in
-    let cut = (
-    let x = c.self.inside in
-    let d = g.D.Disk in
-    let fs = c.args.frames.items in
-    let gate = c.header_at-gate.result in
-    let at = c.half_at-at.result in
-    let line = c.deref-2.result.now in
-    let mid = c.stage_list.new.disk in
-    let new = c.rewrite_gated.new.disk in
-    let counted = subst (λ (s : Held g.row.D.Denot). IsCounted s.shape s.frames x.used) c.self.view_is c.self.invariant.0 in
-    let inv = subst (λ (s : Held g.row.D.Denot). Invariant d.tells d.seen s x.half x.generation x.other_shut) c.self.view_is c.self.invariant.1 in
-    let untouched = subst (λ (s : Held g.row.D.Denot). IsUntouched d.seen d.may_leave d.moment d.left_since s.disk mid) c.self.view_is c.stage_list.ensures.untouched in
-    let small : x.generation < 2 ^ 64 = omega arith in
-    let gate_is : gate ≡ header_at (other x.half) = c.header_at-gate.ensures ∙ ap header_at c.other-other.ensures in
-    let at_is : at ≡ half_at c.args.self.now.shape (other x.half) = c.half_at-at.ensures ∙ ap (half_at x.shape) c.other-other.ensures
-    ∙ ap (λ (s : Held g.row.D.Denot). half_at s.shape (other x.half)) c.self.view_is in
-    let rest_is : c.header_rest-rest.result ≡ header_rest c.args.self.now.shape (next_of x.generation) = c.header_rest-rest.ensures
-    ∙ ap (λ (s : Held g.row.D.Denot). header_rest s.shape (next_of x.generation)) c.self.view_is in
-    let line_is : line ≡ closed_list fs = c.deref-2.ensures.value ∙ c.in_ok-stage_list.ensures.line ∙ ap closed_list c.deref.ensures.value in
-    rewrite_cut d.tells d.seen d.may_leave d.moment d.left_since c.args.self.now x.half x.generation x.other_shut x.used mid new fs gate at c.closing-shut.result.now c.header_rest-rest.result line counted inv untouched c.requires.fits small gate_is at_is c.closing-shut.ensures rest_is line_is d.certain (c.rewrite_gated.result ≡ Err Disk) c.rewrite_gated.ensures.cut
-    ) in
-    search (rules, any_moment, cut)
-
-pub returns-then-self : goal.returns-then-self
-returns-then-self g c = search rules
+    rewrite_change d s x.half x.generation x.other_shut x.used mid new ready fs gate at c.closing-shut.result.now
+    c.header_rest-rest.result line c.requires.fits small gate_is at_is c.closing-shut.ensures rest_is line_is
+    g.met.D.Disk.only_now g.met.D.Disk.counts_now _ c.in-Err.ensures.change
