@@ -21,7 +21,7 @@ use Rattle.reg_model.specs.declared.marks.Mark.TheVariants.{Begin, End, Crash}
 use Rattle.reg_model.specs.Marks.{Life, life_of, IsOpen}
 use Rattle.reg_model.specs.Registers.{block_of, read_of}
 use Rattle.reg_model.specs.Strict.{OpFits}
-use Rattle.protocol.specs.Settings.{Setting, are_bytes}
+use Rattle.protocol.specs.Settings.{are_bytes}
 use Rattle.protocol.specs.Nodes.{has_block, has_length}
 use Rattle.protocol.specs.Views.{layout_views}
 use Rattle.protocol.specs.Worlds.{World, Operation, Event, zero_content, first_world, run}

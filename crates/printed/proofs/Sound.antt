@@ -13,7 +13,7 @@ use Rattle.reg_model.specs.declared.marks.Mark.{Mark}
 use Rattle.reg_model.specs.Marks.{Life, life_of, begun_numbers, position_of, stripe_marks}
 use Rattle.reg_model.specs.Strict.{IsStrict}
 use Rattle.protocol.specs.Views.{layout_views}
-use Rattle.protocol.specs.Worlds.{World, Event, first_world, run}
+use Rattle.protocol.specs.Worlds.{World, Event, first_world}
 use Rattle.protocol.specs.Happenings.{happenings_of}
 use Rattle.protocol_laws.specs.Laws.{Laws}
 use Rattle.protocol_laws.proofs.BooksEvents.{books}
@@ -30,10 +30,10 @@ use Rattle.audit.specs.Checks.{HasStripe, HoldsIn, StripesHold, CountsHold, Mark
 use Rattle.audit.specs.declared.findings.Finding.TheVariants.{Sound}
 use Rattle.audit.specs.declared.examining.Verdict.TheVariants.{Judged}
 use Rattle.audit.specs.Examining.{Examines}
-use Rattle.world.specs.Runs.{Run, Step, world_of, all_events}
+use Rattle.world.specs.Runs.{Step, all_events}
 use Rattle.world.specs.Texts.{newline}
 use Rattle.printed.specs.Outputs as out
-use Rattle.printed.specs.Outputs.{happened_text, stripes_text, stripes_of, groups_text, most_groups, count_text, closing_text, left_by, steps_text}
+use Rattle.printed.specs.Outputs.{happened_text, stripes_text, stripes_of, groups_text, count_text, closing_text, left_by, steps_text}
 use Rattle.printed.specs.Printed.{printed_marks}
 use Rattle.printed.specs.LineSteps.{AreStepsOf}
 use Rattle.printed.specs.Sound.{IsSoundText}

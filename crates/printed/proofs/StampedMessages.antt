@@ -1,11 +1,8 @@
 -- What a brick keeps and sends has stamps that have a spelling: the messages of its open operations.
-use Rattle.std.proofs.Common.{◌≡◌, ℕ, zero, suc, ◌+◌, ◌<◌, ⊎_elim, List, [], ◌∷◌, ◌++◌, Option, Some, None, refl, sym, subst}
+use Rattle.std.proofs.Common.{◌≡◌, ℕ, ◌+◌, ◌<◌, ⊎_elim, List, [], ◌∷◌, ◌++◌, Option, Some, None, sym, subst}
 use Rattle.std.specs.Prelude.{⊤, slice_get}
-use Rattle.std.proofs.lemmas.Bool.{cond_both}
-use Rattle.std.proofs.lemmas.Option.{same_Some}
 use Rattle.fab_base.specs.declared.identities.BrickId.{BrickId}
 use Rattle.fab_base.specs.declared.stamps.Stamp.{Stamp}
-use Rattle.messages.specs.declared.calls.Call.{Call}
 use Rattle.messages.specs.declared.packets.Message.{Message}
 use Rattle.messages.specs.declared.packets.Packet.{Packet}
 use Rattle.messages.specs.declared.requests.Request.{Request}
@@ -13,13 +10,9 @@ use Rattle.messages.specs.declared.requests.Version.{Version}
 use Rattle.messages.specs.declared.replies.Reply.{Reply}
 use Rattle.protocol.specs.Settings.{Setting, Code}
 use Rattle.protocol.specs.Replicas.{Replica}
-use Rattle.protocol.specs.declared.phases.Counted.{Counted}
-use Rattle.protocol.specs.declared.phases.Phase.{Phase}
-use Rattle.protocol.specs.declared.phases.Phase.TheVariants.{Looks, LooksAt, Orders, OrdersAt, Recovers, Descends, Modifies, Bases, Stores}
-use Rattle.protocol.specs.Coordinators.{Coordinator, has_seat, request_of}
-use Rattle.protocol.specs.Nodes.{Node, view_at, to_members, phase_packets, collect_packets, resent_to, resent, resent_up_to}
+use Rattle.protocol.specs.Coordinators.{Coordinator, request_of}
+use Rattle.protocol.specs.Nodes.{Node, view_at, phase_packets, collect_packets, resent_up_to}
 use Rattle.protocol_laws.specs.Laws.{stamp_asked}
-use Rattle.protocol.proofs.Tables.{get_grown, sent_to_member}
 use Rattle.printed.proofs.MarkLines.{IsSmall, StampReads}
 use Rattle.protocol.proofs.Packets.{OfEach, OfRequests, each_member, each_collect, each_ticked}
 use Rattle.protocol_laws.proofs.StampViews.{asked_own}

@@ -13,7 +13,7 @@ use Rattle.protocol.specs.Nodes.{Node, NodeStep, put, first_node, refusal_of, in
 use Rattle.protocol.specs.declared.tellings.Told.{Told}
 use Rattle.protocol.specs.declared.tellings.Told.TheVariants.{Made, Seen}
 use Rattle.protocol.specs.declared.tellings.Answered.{Answered}
-use Rattle.protocol.specs.Worlds.{World, Event, Found, Invokes, Delivers, Sets, Ticks, Stops, Starts, Before, After, first_world, is_brick, is_up, may_begin, may_start, world_began, world_told, world_tells, world_answered, world_answers, world_stepped, world_ticked, world_stopped, world_found, world_started, left_after, packet_during, replies_with, delivered, packet_of, happens, run}
+use Rattle.protocol.specs.Worlds.{World, Event, Found, Before, After, first_world, is_brick, is_up, may_start, world_began, world_told, world_tells, world_answered, world_answers, world_stepped, world_stopped, world_found, world_started, left_after, packet_during, replies_with, packet_of, happens, run}
 use Rattle.protocol.proofs.Puts.{put_other}
 use Rattle.protocol.proofs.Tables.{put_each, put_same, get_one}
 use Rattle.printed.proofs.Clocks.{EventFits, EventsFit}

@@ -1,17 +1,12 @@
 -- Each operation of a run that begins fits the layout, and each brick that stops is one of the layout.
-use Rattle.std.proofs.Common.{◌≡◌, ℕ, ◌+◌, ◌<◌, ⊎_elim, not, List, [], ◌∷◌, ◌++◌, length, Option, Some, None, is_some, subst, true}
+use Rattle.std.proofs.Common.{◌≡◌, ℕ, ◌+◌, ◌<◌, ⊎_elim, not, List, [], ◌∷◌, ◌++◌, length, Some, None, is_some, subst}
 use Rattle.std.specs.Prelude.{⊤, slice_get}
-use Rattle.std.proofs.lemmas.Bool.{and_parts, cond_both}
-use Rattle.fab_base.specs.declared.identities.BrickId.{BrickId}
-use Rattle.messages.specs.declared.packets.Packet.{Packet}
+use Rattle.std.proofs.lemmas.Bool.{and_parts}
 use Rattle.reg_model.specs.declared.marks.Mark.{Mark}
 use Rattle.reg_model.specs.declared.marks.Mark.TheVariants.{Begin, End, Crash}
 use Rattle.protocol.specs.Settings.{Setting}
-use Rattle.protocol.specs.declared.tellings.Told.{Told}
-use Rattle.protocol.specs.declared.tellings.Told.TheVariants.{Made, Seen}
-use Rattle.protocol.specs.declared.tellings.Answered.{Answered}
-use Rattle.protocol.specs.Nodes.{NodeStep, refusal_of, invoked, received, put}
-use Rattle.protocol.specs.Worlds.{World, Found, Before, After, Event, Invokes, Delivers, Sets, Ticks, Stops, Starts, is_brick, is_up, may_begin, may_start, world_began, world_told, world_tells, world_answered, world_answers, world_stepped, world_ticked, world_stopped, world_found, world_started, replies_with, delivered, packet_of, happens, run, first_world}
+use Rattle.protocol.specs.Nodes.{refusal_of}
+use Rattle.protocol.specs.Worlds.{World, Event, is_up, run, first_world}
 use Rattle.protocol_laws.proofs.BooksEvents.{BeginFits, begin_fits}
 use Rattle.reg_model.proofs.AddedMarks.{slice_get_push}
 use Rattle.printed.proofs.StampedSteps.{up_brick}

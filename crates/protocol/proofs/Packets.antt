@@ -1,5 +1,5 @@
 -- What holds of each packet that a brick sends: to the members in a phase, again at a tick, and to collect.
-use Rattle.std.proofs.Common.{◌≡◌, ℕ, zero, suc, ◌+◌, List, [], ◌∷◌, ◌++◌, Option, Some, None, refl, sym, subst}
+use Rattle.std.proofs.Common.{◌≡◌, ℕ, zero, suc, ◌+◌, List, [], ◌∷◌, ◌++◌, Option, Some, None, refl, subst}
 use Rattle.std.specs.Prelude.{slice_get}
 use Rattle.std.proofs.lemmas.Bool.{cond_both}
 use Rattle.std.proofs.lemmas.Option.{same_Some}
@@ -13,7 +13,7 @@ use Rattle.messages.specs.declared.replies.Reply.{Reply}
 use Rattle.protocol.specs.Settings.{Setting}
 use Rattle.protocol.specs.declared.phases.Counted.{Counted}
 use Rattle.protocol.specs.Coordinators.{Coordinator, has_seat, request_of}
-use Rattle.protocol.specs.Nodes.{to_members, phase_packets, collect_packets, reply_packets, resent_to, resent, resent_up_to}
+use Rattle.protocol.specs.Nodes.{to_members, collect_packets, reply_packets, resent_to, resent, resent_up_to}
 
 -- a fact of each packet of a list
 abbrev pub OfEach : (Packet → Type 0) → List Packet → Type 0

@@ -1,6 +1,5 @@
 -- What the messages, the logs, the operations and the marks of a world say: the invariant behind the laws. The stamp of each phase of each
 -- brick's calls is remembered beside the world.
-use Rattle.protocol.specs.Views.{view_of}
 use Rattle.std.proofs.Common.{◌≡◌, ℕ, ◌*◌, ◌<◌, ◌≤◌, ◌⊎◌, Bool, true, false, not, List, [], ◌∷◌, length, Option, Some, None}
 use Rattle.std.specs.Prelude.{slice_get}
 use Rattle.fab_base.specs.declared.identities.BrickId.{BrickId}
@@ -25,7 +24,7 @@ use Rattle.reg_model.specs.Marks.{life_of}
 use Rattle.reg_model.specs.Walk.{last_of}
 use Rattle.reg_model.specs.Registers.{after_op, read_of}
 use Rattle.fab_base.specs.Layouts.{Group, group_of, seat_in}
-use Rattle.protocol.specs.Settings.{Setting, are_bytes}
+use Rattle.protocol.specs.Settings.{Setting}
 use Rattle.protocol.specs.Replicas.{top_of, stamp_max, modified_block}
 use Rattle.protocol.specs.declared.phases.Phase.{Phase}
 use Rattle.protocol.specs.declared.phases.Phase.TheVariants.{Looks, LooksAt, Orders, OrdersAt, Recovers, Descends, Modifies, Bases, Stores}
@@ -36,7 +35,6 @@ use Rattle.protocol.specs.Worlds.{World, Operation, zero_content}
 use Rattle.protocol.specs.Happenings.{writes}
 use Rattle.fab_base.specs.Layouts.{brick_at}
 use Rattle.protocol_laws.specs.Laws.{WasSent, RequestSent, AskedAt, AtQuorum, IsModified, stamp_stored, IsGuarded, IsBlocked, top_in, part_in}
-use Rattle.protocol_laws.proofs.Parts.{part_of}
 use Rattle.protocol_laws.proofs.Books.{IsOperation, IsCall}
 use Rattle.protocol_laws.proofs.Blocking.{LogsFit}
 use Rattle.protocol_laws.proofs.Logs.{IsWithin}

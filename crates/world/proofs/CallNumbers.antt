@@ -13,8 +13,8 @@ use Rattle.protocol.specs.Settings.{Setting}
 use Rattle.protocol.specs.declared.tellings.Answered.{Answered}
 use Rattle.protocol.specs.declared.tellings.Told.{Told}
 use Rattle.protocol.specs.declared.tellings.Told.TheVariants.{Made, Seen}
-use Rattle.protocol.specs.Nodes.{NodeStep, put, invoked, received}
-use Rattle.protocol.specs.Worlds.{World, Operation, Event, Invokes, Delivers, Sets, Ticks, Stops, Starts, Before, After, first_world, is_brick, is_up, may_begin, may_start, delivered, number_of, packet_of, replies_with, with_made, with_seen, with_answer, world_began, world_told, world_tells, world_answered, world_answers, world_stepped, world_ticked, world_stopped, world_found, world_started, happens, run}
+use Rattle.protocol.specs.Nodes.{NodeStep, put, invoked}
+use Rattle.protocol.specs.Worlds.{World, Operation, Event, Delivers, first_world, is_brick, is_up, number_of, with_made, with_seen, with_answer, world_began, world_told, world_tells, world_answered, world_answers, world_stepped, happens, run}
 use Rattle.world.proofs.Places.{value_here, value_elsewhere}
 use Rattle.protocol.proofs.Events.{EventCases, step_on, world_counting, world_handled, handled_or_not, stepped_each, started_each, always}
 

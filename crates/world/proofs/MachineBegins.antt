@@ -11,8 +11,8 @@ use Rattle.messages.specs.declared.packets.Packet.{Packet}
 use Rattle.fab_base.specs.Layouts.{Layout, Group, group_of}
 use Rattle.protocol.specs.Settings.{Setting}
 use Rattle.protocol.specs.Views.{kept_by}
-use Rattle.protocol.specs.Nodes.{Node, group_at, put, has_block, has_length, is_spent, most_open, refusal_in, refusal_of, began, invoked, received}
-use Rattle.protocol.specs.Worlds.{World, Invokes, Delivers, Sets, Ticks, Stops, Starts, Found, is_up, may_start, world_began, world_stepped, world_ticked, world_stopped, world_found, world_started, replies_with, delivered, packet_of, happens}
+use Rattle.protocol.specs.Nodes.{Node, group_at, put, has_block, has_length, is_spent, most_open, refusal_in, refusal_of, began, invoked}
+use Rattle.protocol.specs.Worlds.{World, Invokes, Delivers, Sets, Ticks, Stops, Starts, Found, is_up, may_start, world_began, world_ticked, world_stopped, world_found, world_started, delivered, packet_of, happens}
 use Rattle.world.specs.Runs.{ask_of, refusal_at}
 use Rattle.world.proofs.Places.{value_here, value_elsewhere}
 use Rattle.protocol.proofs.Events.{world_handled}

@@ -1,14 +1,13 @@
 -- There is no message of number 0: none such is ever delivered.
-use Rattle.std.proofs.Common.{◌≡◌, ℕ, zero, suc, Bool, true, false, nat_eq, List, [], ◌∷◌, Option, Some, None, refl, ap, ◌∙◌, arith}
+use Rattle.std.proofs.Common.{◌≡◌, ℕ, zero, suc, Bool, true, false, nat_eq, [], ◌∷◌, Option, Some, None, refl, ◌∙◌, arith}
 use Rattle.std.proofs.lemmas.Bool.{cond_both}
 use Rattle.fab_base.specs.declared.identities.BrickId.{BrickId}
 use Rattle.messages.specs.declared.packets.Packet.{Packet}
 use Rattle.protocol.specs.Settings.{Setting}
-use Rattle.protocol.specs.Nodes.{NodeStep, put, invoked, received}
-use Rattle.protocol.specs.Worlds.{World, Event, Invokes, Delivers, Sets, Ticks, Stops, Starts, Before, After, first_world, is_brick, is_up, may_begin, may_start, packet_of, delivered, replies_with, reached_at, reached_during, world_began, world_tells, world_stepped, world_ticked, world_stopped, world_found, world_started, happens, run}
+use Rattle.protocol.specs.Nodes.{put}
+use Rattle.protocol.specs.Worlds.{World, packet_of, reached_at, reached_during}
 use Rattle.stripe_code.specs.Codes.{coding}
 use Rattle.world.specs.Runs.{Run, all_events, world_of}
-use Rattle.world.proofs.LedgerLemmas.{answers_reached, told_reached}
 use Rattle.world.proofs.Places.{value_elsewhere}
 use Rattle.protocol.proofs.Events.{EventCases, step_on, world_counting, world_handled, stepped_each, started_each, always}
 
