@@ -12,7 +12,7 @@ use Rattle.frame_store.specs.declared.shapes.Half.TheVariants.{A, B}
 use Rattle.frame_store.specs.Layouts.{IsShape, header_at, header_rest, half_at, half_size, slot_at, store_end}
 use Rattle.frame_store.specs.Listed.{size_of, line_of, closed_list, Fits}
 use Rattle.frame_store.specs.Laid.{other, Laid, IsCounted}
-use Rattle.frame_store.specs.Images.{InForce, EndsClosed, OpensAs, Lists, ListsWith}
+use Rattle.frame_store.specs.Images.{OpensAs, Lists, ListsWith}
 use Rattle.frame_store.specs.Steps.{IsStaged, IsShutFirst, IsGated, IsBothGated, IsRewritten, both_written, closing, next_of}
 use Rattle.frame_store.specs.Stores.{Held}
 use Rattle.frame_store.specs.Ends.{ListChange}
@@ -22,10 +22,11 @@ use Rattle.frame_store.proofs.Parts.{length-written}
 use Rattle.frame_store.proofs.Listing.{size_of-append}
 use Rattle.frame_store.proofs.Slots.{slot_before_half}
 use Rattle.frame_store.proofs.Indexes.{Index}
+use Rattle.frame_store.proofs.Openings.{opens_once}
 use Rattle.frame_store.proofs.Appending.{Rooted, length-line, index_of, rooted_of, appended_laid}
 use Rattle.frame_store.proofs.Headers.{header_within}
 use Rattle.frame_store.proofs.Rewriting.{length-closed_list, rewrite_first, rewrite_before, rewrite_then, rewritten_laid, rewrite_after}
-use Rattle.frame_store.proofs.Changes.{append_before, append_moment, append_after, put_before, put_moment, put_after, rooted_put}
+use Rattle.frame_store.proofs.Changes.{laid_opens, append_before, append_moment, append_after, put_before, put_moment, put_after, rooted_put}
 
 -- the whole store lies below 2^48
 pub end_small : (shape : Shape) → IsShape shape → store_end shape ≤ 2 ^ 40
@@ -55,19 +56,11 @@ pub appended_size : (p : ℕ) (line content : List ℕ) → 0 < length line → 
 appended_size p line content some =
     omega (arith, length-written (p + 1) line content some, length-written p (165 ∷ []) (written (p + 1) line content) (omega arith))
 
--- an image is read by one half alone
-same_half : (shape : Shape) (one two : Half) (image : List ℕ) → InForce shape one image → InForce shape two image → one ≡ two
-same_half shape A A image first second = refl
-same_half shape A B image first second = absurd (first.1 second.0 (second.1 first.0))
-same_half shape B A image first second = absurd (second.1 first.0 (first.1 second.0))
-same_half shape B B image first second = refl
-
 -- a list that opens with a closed gate behind it is known to be closed
 pub closed_is : (shape : Shape) (half : Half) (number : ℕ) (other_shut : Bool) (frames : List Frame) (closed : Bool) (image : List ℕ)
     → Laid shape half number other_shut frames closed image → OpensAs shape frames true image → closed ≡ true
 closed_is shape half number other_shut frames closed image laid opens =
-    laid.not_ended (subst (λ (h : Half). EndsClosed shape h frames image) (same_half shape opens.half half image opens.in_force laid.in_force)
-    (opens.ended refl))
+    (opens_once shape image frames frames closed true (laid_opens shape half number other_shut frames closed image laid) opens).1
 
 module _ {D : Type 0} (d : on_disk.Ghosts D) where
   -- a call that was refused once room was being made

@@ -1,6 +1,5 @@
 -- What runs of writes and syncs leave where they are cut short.
 use Rattle.std.proofs.Common.{◌≡◌, inl, inr, ℕ, ◌+◌, ◌≤◌, List, length, ◌∙◌, sym, subst, arith}
-use Rattle.std.proofs.lemmas.Bool.{cases_lt}
 use Rattle.fab_disk.specs.Disk.{written, Only, StopsEarly, IsWrittenOrNot}
 use Rattle.fab_disk.proofs.Writes.{written_torn}
 use Rattle.frame_store.specs.Steps.{IsStaged, both_written}
@@ -9,30 +8,6 @@ use Rattle.frame_store.proofs.Runs.{torn_same}
 module _ {D : Type 0} (seen certain : D → List ℕ) (moment : D → ℕ) where
   abbrev pub Stops : ℕ → D → D → (List ℕ → Type 0) → (List ℕ → Type 0) → Type 0
   Stops calls old new Before After = StopsEarly seen certain moment calls old new Before After
-
-  -- the first part of a run was cut short, long before its change
-  pub stops_first : (first calls : ℕ) (old new : D) (B A Before After : List ℕ → Type 0) → first + 2 ≤ calls → ((image : List ℕ) → B image → Before image)
-      → ((image : List ℕ) → A image → Before image) → Stops first old new B A → Stops calls old new Before After
-  stops_first first calls old new B A Before After long so so_too cut = record {
-    clock = omega (arith, cut.clock);
-    settled = so (certain new) cut.settled;
-    early = λ is. elim (cases_lt (moment old + first) (moment new + 2)) [
-      | inl late ↦ so_too (seen new) (cut.late late)
-      | inr early ↦ so (seen new) (cut.early (omega arith))
-    ];
-    late = λ is. absurd (omega (arith, cut.clock));
-  }
-
-  -- the second part was cut short
-  pub stops_second : (first second calls : ℕ) (old mid new : D) (B A Before After : List ℕ → Type 0) → calls ≡ first + second
-      → moment mid ≡ moment old + first → ((image : List ℕ) → B image → Before image) → ((image : List ℕ) → A image → After image)
-      → Stops second mid new B A → Stops calls old new Before After
-  stops_second first second calls old mid new B A Before After sum made so then cut = record {
-    clock = omega (arith, cut.clock);
-    settled = so (certain new) cut.settled;
-    early = λ is. so (seen new) (cut.early (omega arith));
-    late = λ is. then (seen new) (cut.late (omega arith));
-  }
 
   module _ (may_leave : D → List ℕ → Type 0) (certain_is_left : (disk : D) → may_leave disk (certain disk)) where
     -- what is certain, where a crash leaves what a read gives

@@ -8,6 +8,7 @@ ghost use Rattle.frame_store.specs.Layouts.{open_gate};
 ghost use Rattle.frame_store.specs.Ends.{end_of};
 ghost use Rattle.frame_store.specs.Steps.{IsStaged, IsShutFirst, IsGated, IsBothGated, IsRewritten, both_written};
 
+use crate::buffers::OPEN;
 use crate::faults::FrameFault;
 use fab_disk::Disk;
 
@@ -109,7 +110,7 @@ pub(crate) fn write_gated<D: Disk>(
     ensures only { IsOkUnless result FrameFault.Disk }
 {
     write_synced(disk, at, bytes)?;
-    write_synced(disk, gate, &[0xA5])
+    write_synced(disk, gate, &[OPEN])
 }
 
 // Two writes that are synced.
@@ -156,7 +157,7 @@ pub(crate) fn write_both_gated<D: Disk>(
     ensures only { IsOkUnless result FrameFault.Disk }
 {
     write_both_synced(disk, from, first, at, second)?;
-    write_synced(disk, gate, &[0xA5])
+    write_synced(disk, gate, &[OPEN])
 }
 
 // Shuts a gate, writes what stands behind it and a list, and opens the gate.

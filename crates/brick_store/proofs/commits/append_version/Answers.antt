@@ -1,5 +1,5 @@
 -- The append with a block, after room was made for it.
-use Rattle.std.proofs.Common.{rules, ◌≡◌, ◌++◌, ◌∷◌, [], Some, None, length, Ok, Err, refl, sym, ap, arith, ℕ, ◌∙◌}
+use Rattle.std.proofs.Common.{rules, ◌≡◌, ◌++◌, ◌∷◌, [], List, Option, Some, None, length, Ok, Err, refl, sym, ap, arith, ℕ, ◌∙◌}
 use Rattle.std.proofs.lemmas.Result.{err_from_is_err_and}
 use Rattle.frame_store.specs.declared.faults.FrameFault.{FrameFault}
 use Rattle.brick_state.specs.Indexes.{state_of, limits_of}
@@ -25,7 +25,7 @@ returns-in_err-append_with-clause-step g c =
     let mid = c.make_room.new.frames in
     let new = c.append_with.new.self in
     let frame = c.in_ok-frame.frame in
-    let put = Some (c.args.slot, c.args.block.now) in
+    let put : Option (ℕ × List ℕ) = Some (c.args.slot, c.args.block.now) in
     let f = c.in_err-append_with.field-0.0 in
     let call = c.in_err-append_with.ensures in
     let first = c.in_ok-make_room.ensures.step in
@@ -55,7 +55,7 @@ returns-in_err-append_with-clause-cut g c =
     let mid = c.make_room.new.frames in
     let new = c.append_with.new.self in
     let frame = c.in_ok-frame.frame in
-    let put = Some (c.args.slot, c.args.block.now) in
+    let put : Option (ℕ × List ℕ) = Some (c.args.slot, c.args.block.now) in
     let f = c.in_err-append_with.field-0.0 in
     let made = c.in_ok-make_room.ensures in
     let may = may_go_on d.tells d.seen d.may_leave d.moment d.left_since st st None old mid made.step in
@@ -94,7 +94,7 @@ returns-clause-step g c =
     let mid = c.make_room.new.frames in
     let new = c.append_with.new.self in
     let frame = c.in_ok-frame.frame in
-    let put = Some (c.args.slot, c.args.block.now) in
+    let put : Option (ℕ × List ℕ) = Some (c.args.slot, c.args.block.now) in
     let call = c.in_ok-append_with.ensures in
     let first = c.in_ok-make_room.ensures.step in
     let may = may_go_on d.tells d.seen d.may_leave d.moment d.left_since st st None old mid first in
