@@ -1,5 +1,5 @@
 -- The map of the stripes, and what a clause sees of it.
-use Rattle.std.proofs.Common.{◌≡◌, ℕ, ◌+◌, Bool, true, false, not, ◌&&◌, ◌||◌, cond, eqb, Option, Some, None, Bor, List, [], ◌∷◌, length, map, refl, sym, ap, subst, ◌∙◌, arith}
+use Rattle.std.proofs.Common.{◌≡◌, ℕ, ◌+◌, Bool, true, false, not, ◌&&◌, ◌||◌, cond, eqb, Option, Some, None, List, [], ◌∷◌, length, map, refl, sym, ap, subst, ◌∙◌, arith}
 use Rattle.std.specs.declared.cmp.Ordering.{Ordering}
 use Rattle.std.specs.declared.cmp.Ordering.TheVariants.{Less, Equal, Greater}
 use Rattle.std.specs.Ordering.{nat_cmp, ordering_then}
@@ -8,7 +8,7 @@ use Rattle.std.specs.List.{filter, sum_by}
 use Rattle.std.specs.List.Sorted.{IsStrictlySortedBy}
 use Rattle.std.specs.Map.{lookup, set_value, remove_entry, keys_of, values_of}
 use Rattle.std.specs.BTreeMap.{insert_entry, is_at}
-use Rattle.std.specs.Option.{unwrap_or, option_map, option_copied, is_some, IsSome, IfSome, IfNone}
+use Rattle.std.specs.Option.{unwrap_or, option_map, is_some, IsSome}
 use Rattle.std.proofs.lemmas.Cmp.{nat_cmp_total, then_total, on_total}
 use Rattle.std.proofs.lemmas.Map.Lookups.{exact_unsigned}
 use Rattle.std.proofs.lemmas.Map.Made.{lookup-map_values, keys_of-map_values}
@@ -142,19 +142,6 @@ first_unseen entries p s none first =
 -- two finds are the same
 pub same_found : {s t : Stripe} → Some s ≡ Some t → s ≡ t
 same_found h = cc
-
--- what a look-up by reference finds
-pub found_in : (entries : List (Place × Stripe)) → IsStrictlySortedBy place_cmp (keys_of entries) → (p : Place) (found : Option (Bor Stripe))
-    → lookup (is_at (place_cmp p)) entries ≡ option_copied found
-    → IfSome found (λ s. stripe_in (listed entries) p ≡ stripe_of s.now)
-found_in entries sorted p None at = tt
-found_in entries sorted p (Some s) at = found_at entries sorted p s.now at
-
-pub not_found_in : (entries : List (Place × Stripe)) → IsStrictlySortedBy place_cmp (keys_of entries) → (p : Place) (found : Option (Bor Stripe))
-    → lookup (is_at (place_cmp p)) entries ≡ option_copied found
-    → IfNone found (stripe_in (listed entries) p ≡ first_stripe p)
-not_found_in entries sorted p None at = not_found_at entries sorted p at
-not_found_in entries sorted p (Some s) at = tt
 
 -- a filter by the places
 pub listed-filter : (keep : Place → Bool) (entries : List (Place × Stripe)) → listed (filter (λ e. keep e.0) entries) ≡ filter (λ e. keep e.0)

@@ -19,9 +19,8 @@ use fab_base::{NoMem, Stamp};
 use std::alloc::Global;
 use std::collections::BTreeMap;
 
-/// The stripes by their places, how many live records they have, how often versions name each slot, and what is known of the
-/// greatest time of their stamps. There are counts for the slots that were named: so a table of many slots and few versions
-/// takes little memory.
+/// The stripes of each view of each group, how many live records they have, and how often versions name each slot. There are
+/// counts for the slots that were named: so a table of many slots and few versions takes little memory.
 #[derive(Drop)]
 pub struct StripeTable {
     views: Views,
