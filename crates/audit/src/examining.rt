@@ -12,7 +12,7 @@ use crate::judging::judge;
 use fab_base::NoMem;
 use fab_io::{IoFault, Source};
 use layout::Layout;
-use lines::Unread;
+use lines::LineReader;
 use std::alloc::Global;
 use transcript::{Text, read};
 
@@ -52,7 +52,7 @@ pub fn examine<S: Source>(
     alloc: Global,
     layout: &Layout,
     source: &mut S,
-    unread: &mut Unread,
+    unread: &mut LineReader,
 ) -> Result<Verdict, IoFault>
     ensures verdict { IfOk result (ExaminesLeft layout.now (prepend_known unread.old (S.told source.old))) }
     ensures end { IfOk result (λ verdict. EndsJudged verdict (prepend_known unread.new (S.told source.new))) }

@@ -9,8 +9,8 @@ use Rattle.fab_io.specs.Ends.{AppendsFront}
 use Rattle.lines.specs.Grammar.{line_of}
 use Rattle.lines.specs.Lines.{content}
 use Rattle.lines.specs.Reading.{Passes, BeginsLong, Says, AreWhole, IsBegun, IsNeeded, LineReads, taken_by}
-use Rattle.lines.specs.declared.reader.Piece.{Piece}
-use Rattle.lines.specs.declared.reader.Piece.TheVariants.{Whole, Last, Long, Ended}
+use Rattle.lines.specs.declared.reader.NextLine.{NextLine}
+use Rattle.lines.specs.declared.reader.NextLine.TheVariants.{Whole, Last, Long, Ended}
 use Rattle.lines.proofs.Passing.{Passes-nil, Passes-trans}
 use Rattle.lines.proofs.WholeLines.{AreWhole-push}
 use Rattle.lines.proofs.Needs.{IsNeeded-none, IsNeeded-more}
@@ -190,7 +190,7 @@ PrintsRest-long run n left old new r within long p =
     PrintsRest-bad run n left old new r line contents within are_lines bad p
 
 -- there is a line too many
-pub PrintsRest-many : (run : Run) (left rest old new : Option (List ℕ)) (piece : Piece) (r : Result Verdict Halt) → Says 70000 left rest piece
+pub PrintsRest-many : (run : Run) (left rest old new : Option (List ℕ)) (piece : NextLine) (r : Result Verdict Halt) → Says 70000 left rest piece
     → (piece ≡ Ended → ⊥) → Prints old new too_many_lines r → PrintsRest run most_lines left old new r
 PrintsRest-many run left rest old new piece r says more p =
     let (line, contents, are_lines) = a_line piece says more in
@@ -198,7 +198,7 @@ PrintsRest-many run left rest old new piece r says more p =
     (Prints-same old new r (output_behind run.layout (world_of run) most_lines (line ∷ contents)) too_many_lines
     (output_behind-many run.layout (world_of run) line contents) p)
   where
-    a_line : (piece : Piece) → Says 70000 left rest piece → (piece ≡ Ended → ⊥) → (line : List ℕ) × (contents : List (List ℕ))
+    a_line : (piece : NextLine) → Says 70000 left rest piece → (piece ≡ Ended → ⊥) → (line : List ℕ) × (contents : List (List ℕ))
         × AreLinesOf left (line ∷ contents)
     a_line (Whole bytes) says more = let first = first_line left rest bytes says.1 in (content bytes, first.0, first.1)
     a_line (Last bytes) says more = let first = first_line left rest bytes says.1 in (content bytes, first.0, first.1)
@@ -206,7 +206,7 @@ PrintsRest-many run left rest old new piece r says more p =
     a_line Ended says more = absurd (more refl)
 
 -- what came next is a line, of which the output is this, whatever stands behind it
-pub PieceMeans-line : (run : Run) (n : ℕ) (piece : Piece) (line : List ℕ) (old new : Option (List ℕ)) (r : Result Verdict Halt)
+pub PieceMeans-line : (run : Run) (n : ℕ) (piece : NextLine) (line : List ℕ) (old new : Option (List ℕ)) (r : Result Verdict Halt)
     → (piece ≡ Whole line) ⊎ (piece ≡ Last line)
     → PrintsLine run n (content line) old new r → PieceMeans run n piece old new r
 PieceMeans-line run n piece line old new r is p left rest says =
@@ -216,7 +216,7 @@ PieceMeans-line run n piece line old new r is p left rest says =
     ]
 
 -- the last line was run, and the output closed
-pub PieceMeans-last : (before after : Run) (n : ℕ) (piece : Piece) (line : List ℕ) (old mid new : Option (List ℕ)) (r : Result Verdict Halt)
+pub PieceMeans-last : (before after : Run) (n : ℕ) (piece : NextLine) (line : List ℕ) (old mid new : Option (List ℕ)) (r : Result Verdict Halt)
     → n < most_lines → piece ≡ Last line → LineRuns before after (content line) old mid
     → Prints mid new (finished after.layout (world_of after) (n + 1)) r → PieceMeans before n piece old new r
 PieceMeans-last before after n piece line old mid new r within is l p left rest given =
@@ -224,7 +224,7 @@ PieceMeans-last before after n piece line old mid new r within is l p left rest 
     PrintsRest-last before after n left rest old mid new line r within says.1 says.2 l p
 
 -- the next line was run, or the run ended at it
-pub TurnMeans-line : (before after : Run) (n : ℕ) (piece : Piece) (line : List ℕ) (old new : Option (List ℕ)) (r : Result (Option Verdict) Halt)
+pub TurnMeans-line : (before after : Run) (n : ℕ) (piece : NextLine) (line : List ℕ) (old new : Option (List ℕ)) (r : Result (Option Verdict) Halt)
     → piece ≡ Whole line → LineTurnMeans before after n (content line) old new r → TurnMeans before after n piece old new r
 TurnMeans-line before after n piece line old new (Ok None) is means = (line, is, means)
 TurnMeans-line before after n piece line old new (Ok (Some one)) is means =
@@ -233,7 +233,7 @@ TurnMeans-line before after n piece line old new (Err halt) is means =
     PieceMeans-line before n piece line old new (Err halt) (inl is) means
 
 -- nothing is left behind what ends the input
-pub at_the_end : (left rest : Option (List ℕ)) (piece : Piece) → Says 70000 left rest piece → IsTheEnd piece → IsAtEnd rest
+pub at_the_end : (left rest : Option (List ℕ)) (piece : NextLine) → Says 70000 left rest piece → IsTheEnd piece → IsAtEnd rest
 at_the_end left rest (Whole line) says end = absurd end
 at_the_end left rest (Last line) says end = says.2
 at_the_end left rest Long says end = absurd end
@@ -385,7 +385,7 @@ HasRun-line first run after n unread now next told told_now told_next old mid ne
 
 -- the same, of what came next
 pub HasRun-turn : (first run after : Run) (n : ℕ) (unread now next : List ℕ) (told told_now told_next old mid new : Option (List ℕ)) (came came_next : ℕ)
-    (untouched same untouched_next : Type 0) (piece : Piece) (failed : Type 0) → n < most_lines
+    (untouched same untouched_next : Type 0) (piece : NextLine) (failed : Type 0) → n < most_lines
     → HasRun first run n unread now told told_now old mid came untouched
     → Says 70000 (prepend_known now told_now) (prepend_known next told_next) piece
     → LineReads 70000 now next told_now told_next came_next same (taken_by {E = Halt} (Ok piece)) failed
@@ -395,7 +395,7 @@ pub HasRun-turn : (first run after : Run) (n : ℕ) (unread now next : List ℕ)
 HasRun-turn first run after n unread now next told told_now told_next old mid new came came_next untouched same untouched_next piece failed within h says r stays (line, is, l) =
     HasRun-line first run after n unread now next told told_now told_next old mid new came came_next untouched same untouched_next line failed within h
     (subst (Says 70000 (prepend_known now told_now) (prepend_known next told_next)) is says)
-    (subst (λ (p : Piece). LineReads 70000 now next told_now told_next came_next same (taken_by {E = Halt} (Ok p)) failed) is r) stays l
+    (subst (λ (p : NextLine). LineReads 70000 now next told_now told_next came_next same (taken_by {E = Halt} (Ok p)) failed) is r) stays l
 
 -- the rest was printed
 pub HasRun-rest : (first run : Run) (n : ℕ) (unread now : List ℕ) (told told_now old mid new : Option (List ℕ)) (came : ℕ) (untouched : Type 0)

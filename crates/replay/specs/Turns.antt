@@ -5,8 +5,8 @@ use Rattle.fab_io.specs.Ends.{AppendsFront}
 use Rattle.lines.specs.Grammar.{line_of}
 use Rattle.lines.specs.Lines.{raw_lines, content}
 use Rattle.lines.specs.Reading.{Says, ReadsSchedule}
-use Rattle.lines.specs.declared.reader.Piece.{Piece}
-use Rattle.lines.specs.declared.reader.Piece.TheVariants.{Whole, Last, Long, Ended}
+use Rattle.lines.specs.declared.reader.NextLine.{NextLine}
+use Rattle.lines.specs.declared.reader.NextLine.TheVariants.{Whole, Last, Long, Ended}
 use Rattle.stripe_code.specs.Codes.{coding}
 use Rattle.world.specs.Runs.{Run, Step, world_of}
 use Rattle.world.specs.Steps.{Runs}
@@ -78,18 +78,18 @@ LineTurnMeans before after n content old new (Ok (Some one)) = PrintsLine before
 LineTurnMeans before after n content old new (Err halt) = PrintsLine before n content old new (Err halt)
 
 -- a run printed the output of what comes next, and of any lines that may be left behind it
-abbrev pub PieceMeans : Run → ℕ → Piece → Option (List ℕ) → Option (List ℕ) → Result Verdict Halt → Type 0
+abbrev pub PieceMeans : Run → ℕ → NextLine → Option (List ℕ) → Option (List ℕ) → Result Verdict Halt → Type 0
 PieceMeans run n piece old new result = (left rest : Option (List ℕ)) → Says 70000 left rest piece → PrintsRest run n left old new result
 
 -- a line was run, or the run ended
-abbrev pub TurnMeans : Run → Run → ℕ → Piece → Option (List ℕ) → Option (List ℕ) → Result (Option Verdict) Halt → Type 0
+abbrev pub TurnMeans : Run → Run → ℕ → NextLine → Option (List ℕ) → Option (List ℕ) → Result (Option Verdict) Halt → Type 0
 TurnMeans before after n piece old new (Ok None) =
     (line : List ℕ) × (piece ≡ Whole line) × LineRuns before after (content line) old new
 TurnMeans before after n piece old new (Ok (Some one)) = PieceMeans before n piece old new (Ok one)
 TurnMeans before after n piece old new (Err halt) = PieceMeans before n piece old new (Err halt)
 
 -- nothing comes behind this
-abbrev pub IsTheEnd : Piece → Type 0
+abbrev pub IsTheEnd : NextLine → Type 0
 IsTheEnd (Whole line) = ⊥
 IsTheEnd (Last line) = ⊤
 IsTheEnd Long = ⊥

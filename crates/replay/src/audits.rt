@@ -15,7 +15,7 @@ use audit::{Finding, Verdict as Found, examine};
 use fab_base::NoMem;
 use fab_io::{IoFault, Sink, Source};
 use layout::{Layout, LayoutFault};
-use lines::Unread;
+use lines::LineReader;
 use std::alloc::Global;
 
 /// What an audit finds of an input.
@@ -94,7 +94,7 @@ fn audit_layout<S: Source>(
     head: &[u8],
     is_alone: bool,
     source: &mut S,
-    unread: &mut Unread,
+    unread: &mut LineReader,
 ) -> Result<Audited, Halt>
     requires { is_alone ≡ true → IsAtEnd (prepend_known unread.old (S.told source.old)) }
     ensures found { IfOk result (FindsBehind head.now (prepend_known unread.old (S.told source.old))
@@ -135,7 +135,7 @@ fn audit_source<S: Source>(alloc: Global, source: &mut S) -> Result<Audited, Hal
         (result ≡ Err Halt.Source) }
     ensures cause { result ≢ Err Halt.Sink }
 {
-    let mut unread = Unread::new(alloc);
+    let mut unread = LineReader::new(alloc);
     match read_head(alloc, source, &mut unread)? {
         Head::Text(text) => audit_layout(alloc, text.as_slice(), false, source, &mut unread),
         Head::Alone(text) => audit_layout(alloc, text.as_slice(), true, source, &mut unread),

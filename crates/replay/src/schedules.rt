@@ -14,7 +14,7 @@ use crate::heads::{Head, read_head};
 use crate::turns::{MOST_LINES, close, finish, next, take_last_turn, take_turn};
 use fab_io::{Sink, Source};
 use layout::{Layout, LayoutFault};
-use lines::{LINE_LIMIT, Unread};
+use lines::{LINE_LIMIT, LineReader};
 use std::alloc::Global;
 use world::World;
 
@@ -23,7 +23,7 @@ fn run_lines<S: Source, K: Sink>(
     alloc: Global,
     world: &mut World,
     source: &mut S,
-    unread: &mut Unread,
+    unread: &mut LineReader,
     sink: &mut K,
 ) -> Result<Verdict, Halt>
     ensures rest { PrintsRest world.old 0 (prepend_known unread.old (S.told source.old)) (K.told sink.old)
@@ -73,7 +73,7 @@ fn run_layout<S: Source, K: Sink>(
     head: &[u8],
     is_alone: bool,
     source: &mut S,
-    unread: &mut Unread,
+    unread: &mut LineReader,
     sink: &mut K,
 ) -> Result<Verdict, Halt>
     requires { is_alone ≡ true → IsAtEnd (prepend_known unread.old (S.told source.old)) }
@@ -120,7 +120,7 @@ pub(crate) fn run<S: Source, K: Sink>(
     ensures sink { Kept (K.faults sink.old) (K.faults sink.new) (K.sound sink.old) (K.sound sink.new)
         (result ≡ Err Halt.Sink) }
 {
-    let mut unread = Unread::new(alloc);
+    let mut unread = LineReader::new(alloc);
     match read_head(alloc, source, &mut unread)? {
         Head::Text(text) => run_layout(alloc, text.as_slice(), false, source, &mut unread, sink),
         Head::Alone(text) => run_layout(alloc, text.as_slice(), true, source, &mut unread, sink),

@@ -13,7 +13,7 @@ ghost use Rattle.replay.specs.Turns.{Prints, LineMeans, LineTurnMeans, PieceMean
 use crate::endings::{Halt, Verdict};
 use crate::texts::closing_text;
 use fab_io::{IoFault, Sink, Source};
-use lines::{Piece, Unread, content_of};
+use lines::{LineReader, NextLine, content_of};
 use std::alloc::Global;
 use world::{StepFault, World};
 
@@ -25,7 +25,11 @@ pub const MOST_LINES: u64 = 1_048_576;
 /// # Errors
 ///
 /// `Source` where the source failed, `Memory` where no memory was left.
-pub fn next<S: Source>(source: &mut S, unread: &mut Unread, limit: usize) -> Result<Piece, Halt>
+pub fn next<S: Source>(
+    source: &mut S,
+    unread: &mut LineReader,
+    limit: usize,
+) -> Result<NextLine, Halt>
     ensures says { IfOk result (λ piece. Says limit (prepend_known unread.old (S.told source.old))
         (prepend_known unread.new (S.told source.new)) piece) }
     ensures reads { LineReads limit unread.old unread.new (S.told source.old) (S.told source.new) (S.came source.new)
@@ -145,7 +149,7 @@ pub(crate) fn take_turn<K: Sink>(
     alloc: Global,
     world: &mut World,
     sink: &mut K,
-    piece: &Piece,
+    piece: &NextLine,
     count: u64,
 ) -> Result<Option<Verdict>, Halt>
     requires { count < MOST_LINES }
@@ -156,13 +160,13 @@ pub(crate) fn take_turn<K: Sink>(
     ensures cause { result ≢ Err Halt.Source }
 {
     match piece {
-        Piece::Whole(line) => run_or_refuse(alloc, world, sink, line.as_slice(), count),
-        Piece::Last(line) => match run_or_refuse(alloc, world, sink, line.as_slice(), count)? {
+        NextLine::Whole(line) => run_or_refuse(alloc, world, sink, line.as_slice(), count),
+        NextLine::Last(line) => match run_or_refuse(alloc, world, sink, line.as_slice(), count)? {
             None => Ok(Some(finish(alloc, world, sink, count + 1)?)),
             Some(verdict) => Ok(Some(verdict)),
         },
-        Piece::Long => Ok(Some(refuse_line(alloc, sink, count + 1)?)),
-        Piece::Ended => Ok(Some(finish(alloc, world, sink, count)?)),
+        NextLine::Long => Ok(Some(refuse_line(alloc, sink, count + 1)?)),
+        NextLine::Ended => Ok(Some(finish(alloc, world, sink, count)?)),
     }
 }
 
@@ -171,7 +175,7 @@ pub(crate) fn take_last_turn<K: Sink>(
     alloc: Global,
     world: &World,
     sink: &mut K,
-    piece: &Piece,
+    piece: &NextLine,
 ) -> Result<Verdict, Halt>
     ensures rest { PieceMeans world.now most_lines piece.now (K.told sink.old) (K.told sink.new) result }
     ensures whole { result ≡ Ok Verdict.Whole → IsTheEnd piece.now }
@@ -179,7 +183,7 @@ pub(crate) fn take_last_turn<K: Sink>(
         (result ≡ Err Halt.Sink) }
     ensures cause { result ≢ Err Halt.Source }
 {
-    if let Piece::Ended = piece {
+    if let NextLine::Ended = piece {
         return finish(alloc, world, sink, MOST_LINES);
     }
     close(sink, b"too many lines\n".as_slice(), Verdict::TooManyLines)

@@ -2,7 +2,7 @@
 
 use crate::schedules::{Opening, Turn, open, take_turn};
 use fab_io::{Sink, Source};
-use lines::{Unread, content_of};
+use lines::{LineReader, content_of};
 use replay::{Halt, Verdict, write};
 use std::alloc::Global;
 use trace_runs::{Drawing, Journal, Text, histories_of};
@@ -53,7 +53,7 @@ fn draw_lines<S: Source>(
     alloc: Global,
     world: &mut World,
     source: &mut S,
-    unread: &mut Unread,
+    unread: &mut LineReader,
 ) -> Result<Outcome, Halt> {
     let mut journal = Journal::new(alloc);
     let mut drawing = Drawing::new(alloc);
@@ -79,7 +79,7 @@ fn draw_lines<S: Source>(
 
 /// Runs a layout and a schedule from a source, and draws them.
 fn draw_source<S: Source>(alloc: Global, source: &mut S) -> Result<Outcome, Halt> {
-    let mut unread = Unread::new(alloc);
+    let mut unread = LineReader::new(alloc);
     match open(alloc, source, &mut unread)? {
         Opening::Opened(mut world) => draw_lines(alloc, &mut world, source, &mut unread),
         Opening::Refused(why) => Ok(refused(alloc, Verdict::BadLayout, why.as_str())),

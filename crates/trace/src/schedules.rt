@@ -7,7 +7,7 @@ ghost use Rattle.trace.specs.TextReport.{IsNew, OpensLayout, IsRefused, Opens, I
 use fab_base::{Bytes, NoMem};
 use fab_io::Source;
 use layout::{Layout, LayoutFault};
-use lines::{LINE_LIMIT, Piece, Unread, content_of};
+use lines::{LINE_LIMIT, LineReader, NextLine, content_of};
 use replay::{Halt, Head, MOST_LINES, Verdict, next, read_head};
 use std::alloc::Global;
 use trace_runs::{Journal, LineRun, take_line};
@@ -63,7 +63,7 @@ fn no_opening(alloc: Global, why: &str) -> Result<Opening, Halt>
 pub(crate) fn open<S: Source>(
     alloc: Global,
     source: &mut S,
-    unread: &mut Unread,
+    unread: &mut LineReader,
 ) -> Result<Opening, Halt>
     ensures { IfOk result (Opens (prepend_known unread.old (S.told source.old)) (prepend_known unread.new (S.told source.new))) }
 {
@@ -113,22 +113,22 @@ pub(crate) fn take_turn<S: Source>(
     world: &mut World,
     journal: &mut Journal,
     source: &mut S,
-    unread: &mut Unread,
+    unread: &mut LineReader,
     count: u64,
 ) -> Result<Turn, Halt>
     ensures { IfOk result (Turns world.old world.new (prepend_known unread.old (S.told source.old))
         (prepend_known unread.new (S.told source.new))) }
 {
     let piece = next(source, unread, LINE_LIMIT)?;
-    if let Piece::Ended = piece {
+    if let NextLine::Ended = piece {
         return Ok(Turn::Ended);
     }
     if count >= MOST_LINES {
         return too_many_lines(alloc);
     }
     match piece {
-        Piece::Whole(line) => run_line(alloc, world, journal, line, count + 1),
-        Piece::Last(line) => run_line(alloc, world, journal, line, count + 1),
-        Piece::Long | Piece::Ended => bad_line(alloc, count + 1),
+        NextLine::Whole(line) => run_line(alloc, world, journal, line, count + 1),
+        NextLine::Last(line) => run_line(alloc, world, journal, line, count + 1),
+        NextLine::Long | NextLine::Ended => bad_line(alloc, count + 1),
     }
 }

@@ -12,7 +12,7 @@ use crate::pages::Page;
 use crate::schedules::{Opening, Turn, open, take_turn};
 use fab_base::NoMem;
 use fab_io::{Sink, Source};
-use lines::{Unread, content_of};
+use lines::{LineReader, content_of};
 use messages::Packet;
 use replay::{Halt, Verdict, write};
 use std::alloc::Global;
@@ -142,7 +142,7 @@ fn tell_lines<S: Source, K: Sink>(
     alloc: Global,
     world: &mut World,
     source: &mut S,
-    unread: &mut Unread,
+    unread: &mut LineReader,
     sink: &mut K,
 ) -> Result<Verdict, Halt>
     ensures { (input : Option (List ℕ)) (head : List ℕ) → ReadsSchedule input (prepend_known unread.old (S.told source.old)) head []
@@ -172,7 +172,7 @@ pub(crate) fn tell<S: Source, K: Sink>(
 ) -> Result<Verdict, Halt>
     ensures { Tells (S.told source.old) (K.told sink.old) (K.told sink.new) result }
 {
-    let mut unread = Unread::new(alloc);
+    let mut unread = LineReader::new(alloc);
     match open(alloc, source, &mut unread)? {
         Opening::Opened(mut world) => tell_lines(alloc, &mut world, source, &mut unread, sink),
         Opening::Refused(why) => refuse(alloc, sink, Verdict::BadLayout, why.as_str()),
