@@ -18,7 +18,7 @@ use Rattle.protocol.specs.Happenings.{happenings_of}
 use Rattle.protocol_laws.specs.Laws.{Laws}
 use Rattle.protocol_laws.proofs.BooksEvents.{books}
 use Rattle.protocol_laws.proofs.Numbers.{numbered_run}
-use Rattle.transcript.specs.declared.claims.Claim.{Claim}
+use Rattle.transcript.specs.declared.claims.ParsedMark.{ParsedMark}
 use Rattle.transcript.specs.declared.claims.Counts.{Counts}
 use Rattle.transcript.specs.declared.claims.StripeLine.{StripeLine}
 use Rattle.transcript.specs.declared.readings.Text.{Text}
@@ -153,7 +153,7 @@ module _ (layout : Layout) (is : IsLayout layout) (schedule : List (List ℕ)) (
       omega (arith, number, within, begins_are w.marks, begins_few, few))
 
   -- the marks as they are claimed
-  abbrev claims : List Claim
+  abbrev claims : List ParsedMark
   claims = map claim_of w.marks
 
   -- the printed lines say the marks
