@@ -28,7 +28,7 @@ use Rattle.transcript.specs.Marks.{marks_of}
 use Rattle.transcript.specs.Transcripts.{text_of}
 use Rattle.audit.specs.Checks.{HasStripe, HoldsIn, StripesHold, CountsHold, MarksHold, happenings_said}
 use Rattle.audit.specs.declared.findings.Finding.TheVariants.{Sound}
-use Rattle.audit.specs.declared.examining.Verdict.TheVariants.{Judged}
+use Rattle.audit.specs.declared.examining.AuditResult.TheVariants.{Judged}
 use Rattle.audit.specs.Examining.{Examines}
 use Rattle.world.specs.Runs.{Run, Step, world_of, all_events}
 use Rattle.world.specs.Texts.{newline}

@@ -8,7 +8,7 @@ use fab_base::{Bytes, NoMem};
 use fab_io::Source;
 use layout::{Layout, LayoutFault};
 use lines::{LINE_LIMIT, LineReader, NextLine, content_of};
-use replay::{Halt, Head, MOST_LINES, Verdict, next, read_head};
+use replay::{Halt, Head, MOST_LINES, RunResult, next, read_head};
 use std::alloc::Global;
 use trace_runs::{Journal, LineRun, take_line};
 use world::World;
@@ -30,7 +30,7 @@ pub(crate) enum Turn {
     /// No line.
     Ended,
     /// What is no line, or one too many: how that ends the run, and what `replay` prints then, without its line feed.
-    Refused(Verdict, String),
+    Refused(RunResult, String),
 }
 
 /// The disk of a layout, over which nothing was run yet.
@@ -80,7 +80,7 @@ fn bad_line(alloc: Global, number: u64) -> Result<Turn, Halt>
     ensures { IfOk result IsRefusal }
 {
     let why = format!(in alloc; "bad line {number}")?;
-    Ok(Turn::Refused(Verdict::BadLine(number), why))
+    Ok(Turn::Refused(RunResult::BadLine(number), why))
 }
 
 /// The turn of a line too many.
@@ -88,7 +88,7 @@ fn too_many_lines(alloc: Global) -> Result<Turn, Halt>
     ensures { IfOk result IsRefusal }
 {
     let why = String::from_str(alloc, "too many lines")?;
-    Ok(Turn::Refused(Verdict::TooManyLines, why))
+    Ok(Turn::Refused(RunResult::TooManyLines, why))
 }
 
 /// Runs a line. The journal notes it.
