@@ -5,7 +5,7 @@ use Rattle.std.specs.Option.{option_map}
 use Rattle.std.proofs.lemmas.Bool.{cases_eq, cases_lt}
 use Rattle.std.proofs.lemmas.Bool.Decides.{nat_tests}
 use Rattle.fab_base.specs.Layouts.{Layout}
-use Rattle.transcript.specs.declared.claims.Claim.{Claim}
+use Rattle.transcript.specs.declared.claims.ParsedMark.{ParsedMark}
 use Rattle.transcript.specs.declared.claims.StripeLine.{StripeLine}
 use Rattle.transcript.specs.Marks.{marks_of}
 use Rattle.transcript.specs.Transcripts.{StripesRise}
@@ -30,16 +30,16 @@ before_test g s h t (inr same) = grind (arith, nat_tests)
 trans_before : (a b c : StripeName) → name_before a b ≡ true → name_before b c ≡ true → name_before a c ≡ true
 trans_before a b c one two = grind (arith, nat_tests)
 
-missing_test : (claims : List Claim) (o : Operation) (b : Bool) → b ≡ false → was_answered claims o.end ≡ true → is_missing claims o b ≡ true
+missing_test : (claims : List ParsedMark) (o : Operation) (b : Bool) → b ≡ false → was_answered claims o.end ≡ true → is_missing claims o b ≡ true
 missing_test claims o false is was = was
 missing_test claims o true is was = absurd (let never : true ≡ false = is in cc)
 
-missing_parts : (claims : List Claim) (o : Operation) (b : Bool) → is_missing claims o b ≡ true → (b ≡ false) × (was_answered claims o.end ≡ true)
+missing_parts : (claims : List ParsedMark) (o : Operation) (b : Bool) → is_missing claims o b ≡ true → (b ≡ false) × (was_answered claims o.end ≡ true)
 missing_parts claims o false is = (refl, is)
 missing_parts claims o true is = absurd (let never : false ≡ true = is in cc)
 
 -- an answered operation has happened where none of its stripe is missing
-flagged : (claims : List Claim) (operations : List Operation) (happened : List Bool) (g s : ℕ) → (Missing claims operations happened g s → ⊥)
+flagged : (claims : List ParsedMark) (operations : List Operation) (happened : List Bool) (g s : ℕ) → (Missing claims operations happened g s → ⊥)
     → (j : ℕ) (o : Operation) → slice_get operations j ≡ Some o → o.group ≡ g → o.stripe ≡ s → was_answered claims o.end ≡ true
     → get_or happened j false ≡ true
 flagged claims operations happened g s none j o at group stripe was = by_test (get_or happened j false) refl
@@ -55,7 +55,7 @@ flagged claims operations happened g s none j o at group stripe was = by_test (g
       is = missing_test claims o (get_or happened j false) e was;
     }))
 
-module _ (layout : Layout) (claims : List Claim) (review : Review) (reviews : Reviews layout claims review) (lines : List StripeLine) (rise : StripesRise lines) where
+module _ (layout : Layout) (claims : List ParsedMark) (review : Review) (reviews : Reviews layout claims review) (lines : List StripeLine) (rise : StripesRise lines) where
   -- all lines go on
   went_all : LinesGo layout claims review (none_happened (length review.operations.found)) lines
       → LinesGo layout claims review (none_happened (length review.operations.found)) (take (length lines) lines)
@@ -191,7 +191,7 @@ pub room : (happened : List Bool) (count : ℕ) (lines : List StripeLine) → ha
 room happened count lines is = ap length is ∙ length_in (none_happened count) lines ∙ length_none count
 
 -- what is found where all lines go on, and where one stops
-pub none_bad : (layout : Layout) (claims : List Claim) (review : Review) (lines : List StripeLine) (operations : List Operation) (happened : List Bool)
+pub none_bad : (layout : Layout) (claims : List ParsedMark) (review : Review) (lines : List StripeLine) (operations : List Operation) (happened : List Bool)
     (result : Option StripeName) → Reviews layout claims review → StripesRise lines → operations ≡ review.operations.found
     → happened ≡ happened_in (none_happened (length operations)) lines
     → LinesStop layout claims review (none_happened (length review.operations.found)) lines None
@@ -204,7 +204,7 @@ none_bad layout claims review lines operations happened result reviews rise same
     all_went layout claims review reviews lines rise result go
     (subst (λ (o : List Operation). FirstMeans claims o (happened_in (none_happened (length o)) lines) None result) same found)
 
-pub some_bad : (layout : Layout) (claims : List Claim) (review : Review) (lines front : List StripeLine) (operations : List Operation) (happened : List Bool)
+pub some_bad : (layout : Layout) (claims : List ParsedMark) (review : Review) (lines front : List StripeLine) (operations : List Operation) (happened : List Bool)
     (place : ℕ) (stop result : Option StripeName) → Reviews layout claims review → StripesRise lines → operations ≡ review.operations.found
     → front ≡ take place lines → happened ≡ happened_in (none_happened (length operations)) front → stop ≡ option_map name_of (slice_get lines place)
     → LinesStop layout claims review (none_happened (length review.operations.found)) lines (Some place)

@@ -12,8 +12,8 @@ use Rattle.reg_model.specs.declared.marks.Mark.{Mark}
 use Rattle.reg_model.specs.declared.marks.Mark.TheVariants.{Begin, End, Crash}
 use Rattle.reg_model.specs.Marks.{Ending, Answered, Interrupted, Unended, Life, life_of, begun_numbers}
 use Rattle.reg_model.proofs.GrowingLives.{onward, life_onward, life_of-append, with_ending}
-use Rattle.transcript.specs.declared.claims.Claim.{Claim}
-use Rattle.transcript.specs.declared.claims.Outcome.{Outcome}
+use Rattle.transcript.specs.declared.claims.ParsedMark.{ParsedMark}
+use Rattle.transcript.specs.declared.claims.ParsedAnswer.{ParsedAnswer}
 use Rattle.transcript.specs.Marks.{mark_of, answer_of, op_of}
 use Rattle.audit.specs.declared.operations.Operation.{Operation}
 use Rattle.audit.specs.Operations.{access_or, access_of, outcome_or, outcome_of, ending_with, crashes_of, crash_after, life_in, Index, ended, begun, crashed_at, life_at, Shows}
@@ -27,37 +27,37 @@ begun_push (End p n answer ∷ marks) mark = begun_push marks mark
 begun_push (Crash p b ∷ marks) mark = begun_push marks mark
 
 -- a life, once a mark that is not its operation's has come
-onward_begin : (claims : List Claim) (e c : Option ℕ) (i n m brick : ℕ) (b : BrickId) (ask : Ask)
+onward_begin : (claims : List ParsedMark) (e c : Option ℕ) (i n m brick : ℕ) (b : BrickId) (ask : Ask)
     → onward (ending_with claims e c i) (Begin i n b ask ∷ []) m brick ≡ ending_with claims e c (i + 1)
 onward_begin claims (Some p) c i n m brick b ask = refl
 onward_begin claims None (Some p) i n m brick b ask = refl
 onward_begin claims None None i n m brick b ask = refl
 
-onward_end : (claims : List Claim) (e c : Option ℕ) (i n m brick : ℕ) (answer : Answer) → n ≢ m
+onward_end : (claims : List ParsedMark) (e c : Option ℕ) (i n m brick : ℕ) (answer : Answer) → n ≢ m
     → onward (ending_with claims e c i) (End i n answer ∷ []) m brick ≡ ending_with claims e c (i + 1)
 onward_end claims (Some p) c i n m brick answer other = refl
 onward_end claims None (Some p) i n m brick answer other = refl
 onward_end claims None None i n m brick answer other = ap (λ (t : Bool). cond t (Answered i answer) (Unended (i + 1))) (ne_eqb n m other)
 
-onward_crash : (claims : List Claim) (e c : Option ℕ) (i m brick : ℕ) (b : BrickId) → b.0 ≢ brick
+onward_crash : (claims : List ParsedMark) (e c : Option ℕ) (i m brick : ℕ) (b : BrickId) → b.0 ≢ brick
     → onward (ending_with claims e c i) (Crash i b ∷ []) m brick ≡ ending_with claims e c (i + 1)
 onward_crash claims (Some p) c i m brick b other = refl
 onward_crash claims None (Some p) i m brick b other = refl
 onward_crash claims None None i m brick b other = ap (λ (t : Bool). cond t (Interrupted i) (Unended (i + 1))) (ne_eqb b.0 brick other)
 
 -- the life of an operation that was found, once a mark has come that leaves its crashes and its End as they were
-other_life : (claims : List Claim) (crashes later : List (List ℕ)) (i m : ℕ) (o : Operation) (mark : Mark)
+other_life : (claims : List ParsedMark) (crashes later : List (List ℕ)) (i m : ℕ) (o : Operation) (mark : Mark)
     → onward (ending_with claims o.end (crash_after crashes o) i) (mark ∷ []) m o.brick ≡ ending_with claims o.end (crash_after later o) (i + 1)
     → life_onward (Some (life_in claims crashes i o)) (mark ∷ []) m ≡ Some (life_in claims later (i + 1) o)
 other_life claims crashes later i m o mark is = ap (λ (e : Ending). Some (with_ending (life_in claims crashes i o) e)) is
 
 -- the life of the operation that begins
-new_life : (claims : List Claim) (crashes : List (List ℕ)) (i n b g s : ℕ) (access : Access)
-    → slice_get claims i ≡ Some (Claim.Begin i n b g s access)
+new_life : (claims : List ParsedMark) (crashes : List (List ℕ)) (i n b g s : ℕ) (access : Access)
+    → slice_get claims i ≡ Some (ParsedMark.Begin i n b g s access)
     → life_in claims crashes (i + 1) (begun i b g s (crashes_of crashes b))
     ≡ record { begin = i; brick = b; ask = record { group = record { 0 = g }; stripe = record { 0 = s }; op = op_of access }; ending = Unended (i + 1) }
 new_life claims crashes i n b g s access is =
-    let asked : Option Claim → Life = λ c. record {
+    let asked : Option ParsedMark → Life = λ c. record {
       begin = i;
       brick = b;
       ask = record { group = record { 0 = g }; stripe = record { 0 = s }; op = op_of (access_or (access_of c)) };
@@ -72,14 +72,14 @@ new_life claims crashes i n b g s access is =
     ap asked is ∙ ap open' (get_past (crashes_of crashes b) (length (crashes_of crashes b)) (omega arith))
 
 -- the operation that begins, or one that was found
-begin_lives : (claims : List Claim) (marks : List Mark) (i : ℕ) (index : Index) (b g s : ℕ) (access : Access)
-    → Shows claims marks i index → slice_get claims i ≡ Some (Claim.Begin i (suc (length index.found)) b g s access) → (k : ℕ) (o : Option Operation)
+begin_lives : (claims : List ParsedMark) (marks : List Mark) (i : ℕ) (index : Index) (b g s : ℕ) (access : Access)
+    → Shows claims marks i index → slice_get claims i ≡ Some (ParsedMark.Begin i (suc (length index.found)) b g s access) → (k : ℕ) (o : Option Operation)
     → slice_get index.found k ≡ o
-    → life_onward (option_map (life_in claims index.crashes i) o) (mark_of (Claim.Begin i (suc (length index.found)) b g s access) ∷ []) (suc k)
+    → life_onward (option_map (life_in claims index.crashes i) o) (mark_of (ParsedMark.Begin i (suc (length index.found)) b g s access) ∷ []) (suc k)
     ≡ option_map (life_in claims index.crashes (i + 1)) (slice_get (index.found ++ begun i b g s (crashes_of index.crashes b) ∷ []) k)
 begin_lives claims marks i index b g s access shows at k (Some o) is =
     let n : ℕ = suc (length index.found) in
-    other_life claims index.crashes index.crashes i (suc k) o (mark_of (Claim.Begin i n b g s access))
+    other_life claims index.crashes index.crashes i (suc k) o (mark_of (ParsedMark.Begin i n b g s access))
     (onward_begin claims o.end (crash_after index.crashes o) i n (suc k) o.brick (record { 0 = b })
     (record { group = record { 0 = g }; stripe = record { 0 = s }; op = op_of access }))
     ∙ ap (option_map (life_in claims index.crashes (i + 1)))
@@ -106,9 +106,9 @@ begin_lives claims marks i index b g s access shows at k None is =
     }
 
 -- what is kept once an operation has begun
-pub shows_begin : (claims : List Claim) (marks : List Mark) (i : ℕ) (index : Index) (b g s : ℕ) (access : Access) → Shows claims marks i index
-    → slice_get claims i ≡ Some (Claim.Begin i (suc (length index.found)) b g s access) → b < length index.crashes
-    → Shows claims (marks ++ mark_of (Claim.Begin i (suc (length index.found)) b g s access) ∷ []) (i + 1)
+pub shows_begin : (claims : List ParsedMark) (marks : List Mark) (i : ℕ) (index : Index) (b g s : ℕ) (access : Access) → Shows claims marks i index
+    → slice_get claims i ≡ Some (ParsedMark.Begin i (suc (length index.found)) b g s access) → b < length index.crashes
+    → Shows claims (marks ++ mark_of (ParsedMark.Begin i (suc (length index.found)) b g s access) ∷ []) (i + 1)
     (record { found = index.found ++ begun i b g s (crashes_of index.crashes b) ∷ []; crashes = index.crashes })
 shows_begin claims marks i index b g s access shows at brick = record {
   lives = λ n. life_of-append marks (mark ∷ []) n ∙ ap (λ (l : Option Life). life_onward l (mark ∷ []) n) (shows.lives n) ∙ by_number n;
@@ -122,7 +122,7 @@ shows_begin claims marks i index b g s access shows at brick = record {
 }
   where
     mark : Mark
-    mark = mark_of (Claim.Begin i (suc (length index.found)) b g s access)
+    mark = mark_of (ParsedMark.Begin i (suc (length index.found)) b g s access)
 
     new : Operation
     new = begun i b g s (crashes_of index.crashes b)
@@ -140,8 +140,8 @@ shows_begin claims marks i index b g s access shows at brick = record {
     by_number (suc k) = begin_lives claims marks i index b g s access shows at k (slice_get index.found k) refl
 
 -- what becomes of the operations when one ends
-end_lives : (claims : List Claim) (i : ℕ) (index : Index) (k0 : ℕ) (mine : Operation) (outcome : Outcome)
-    → slice_get claims i ≡ Some (Claim.End i (suc k0) outcome) → slice_get index.found k0 ≡ Some mine → mine.end ≡ None
+end_lives : (claims : List ParsedMark) (i : ℕ) (index : Index) (k0 : ℕ) (mine : Operation) (outcome : ParsedAnswer)
+    → slice_get claims i ≡ Some (ParsedMark.End i (suc k0) outcome) → slice_get index.found k0 ≡ Some mine → mine.end ≡ None
     → crash_after index.crashes mine ≡ None → (k : ℕ) (o : Option Operation) → slice_get index.found k ≡ o
     → life_onward (option_map (life_in claims index.crashes i) o) (End i (suc k0) (answer_of outcome) ∷ []) (suc k)
     ≡ option_map (life_in claims index.crashes (i + 1)) (slice_get (slice_set index.found k0 (ended i mine)) k)
@@ -158,7 +158,7 @@ end_lives claims i index k0 mine outcome at is no_end no_crash k (Some o) found 
           (ap (λ (e : Option ℕ). onward (ending_with claims e (crash_after index.crashes mine) i) (End i (suc k0) (answer_of outcome) ∷ []) (suc k) mine.brick) no_end
           ∙ ap (λ (c : Option ℕ). onward (ending_with claims None c i) (End i (suc k0) (answer_of outcome) ∷ []) (suc k) mine.brick) no_crash
           ∙ ap (λ (t : Bool). cond t (Answered i (answer_of outcome)) (Unended (i + 1))) (eq-eqb (suc k0) (suc k) (ap suc same))
-          ∙ ap (λ (c : Option Claim). Answered i (answer_of (outcome_or (outcome_of c)))) (sym at))
+          ∙ ap (λ (c : Option ParsedMark). Answered i (answer_of (outcome_or (outcome_of c)))) (sym at))
           ∙ ap (option_map (life_in claims index.crashes (i + 1)))
           (sym (ap (slice_get (slice_set index.found k0 (ended i mine))) (sym same) ∙ get_set index.found k0 (ended i mine) (get_within index.found k0 mine is)))
       | inr other ↦
@@ -169,10 +169,10 @@ end_lives claims i index k0 mine outcome at is no_end no_crash k (Some o) found 
     ]
 
 -- what is kept once an operation has ended
-pub shows_end : (claims : List Claim) (marks : List Mark) (i : ℕ) (index : Index) (k0 : ℕ) (mine : Operation) (outcome : Outcome)
-    → Shows claims marks i index → slice_get claims i ≡ Some (Claim.End i (suc k0) outcome) → slice_get index.found k0 ≡ Some mine
+pub shows_end : (claims : List ParsedMark) (marks : List Mark) (i : ℕ) (index : Index) (k0 : ℕ) (mine : Operation) (outcome : ParsedAnswer)
+    → Shows claims marks i index → slice_get claims i ≡ Some (ParsedMark.End i (suc k0) outcome) → slice_get index.found k0 ≡ Some mine
     → mine.end ≡ None → crash_after index.crashes mine ≡ None
-    → Shows claims (marks ++ mark_of (Claim.End i (suc k0) outcome) ∷ []) (i + 1)
+    → Shows claims (marks ++ mark_of (ParsedMark.End i (suc k0) outcome) ∷ []) (i + 1)
     (record { found = slice_set index.found k0 (ended i mine); crashes = index.crashes })
 shows_end claims marks i index k0 mine outcome shows at is no_end no_crash = record {
   lives = λ n. life_of-append marks (mark ∷ []) n ∙ ap (λ (l : Option Life). life_onward l (mark ∷ []) n) (shows.lives n) ∙ by_number n;
@@ -210,7 +210,7 @@ crashes_other : (crashes : List (List ℕ)) (b i a : ℕ) → a ≢ b → crashe
 crashes_other crashes b i a other = get_or-set_other crashes b a (crashes_of crashes b ++ i ∷ []) [] other
 
 -- a brick's crash interrupts its operations that are open
-crash_mine : (claims : List Claim) (xs : List ℕ) (e c : Option ℕ) (place i m brick : ℕ) (b : BrickId) → place ≤ length xs → slice_get xs place ≡ c
+crash_mine : (claims : List ParsedMark) (xs : List ℕ) (e c : Option ℕ) (place i m brick : ℕ) (b : BrickId) → place ≤ length xs → slice_get xs place ≡ c
     → b.0 ≡ brick
     → onward (ending_with claims e c i) (Crash i b ∷ []) m brick ≡ ending_with claims e (slice_get (xs ++ i ∷ []) place) (i + 1)
 crash_mine claims xs (Some p) c place i m brick b within is same = refl
@@ -221,7 +221,7 @@ crash_mine claims xs None None place i m brick b within is same =
     ∙ ap (λ (c : Option ℕ). ending_with claims None c (i + 1))
     (sym (get_last xs i place (let beyond : length xs ≤ place = get_beyond xs place is in omega arith)))
 
-crash_lives : (claims : List Claim) (i : ℕ) (index : Index) (b : ℕ) (k : ℕ) (o : Option Operation)
+crash_lives : (claims : List ParsedMark) (i : ℕ) (index : Index) (b : ℕ) (k : ℕ) (o : Option Operation)
     → ((x : Operation) → o ≡ Some x → (x.brick < length index.crashes) × (x.crashes ≤ length (crashes_of index.crashes x.brick)))
     → life_onward (option_map (life_in claims index.crashes i) o) (Crash i (record { 0 = b }) ∷ []) (suc k)
     ≡ option_map (life_in claims (crashed_at index.crashes b i) (i + 1)) o
@@ -242,8 +242,8 @@ crash_lives claims i index b k (Some o) bounded =
     ])
 
 -- what is kept once a brick has crashed
-pub shows_crash : (claims : List Claim) (marks : List Mark) (i : ℕ) (index : Index) (b : ℕ) → Shows claims marks i index
-    → Shows claims (marks ++ mark_of (Claim.Crash i b) ∷ []) (i + 1) (record { found = index.found; crashes = crashed_at index.crashes b i })
+pub shows_crash : (claims : List ParsedMark) (marks : List Mark) (i : ℕ) (index : Index) (b : ℕ) → Shows claims marks i index
+    → Shows claims (marks ++ mark_of (ParsedMark.Crash i b) ∷ []) (i + 1) (record { found = index.found; crashes = crashed_at index.crashes b i })
 shows_crash claims marks i index b shows = record {
   lives = λ n. life_of-append marks (mark ∷ []) n ∙ ap (λ (l : Option Life). life_onward l (mark ∷ []) n) (shows.lives n) ∙ by_number n;
   count = ap length (begun_push marks mark) ∙ ap length (append_none (begun_numbers marks)) ∙ shows.count;
@@ -275,7 +275,7 @@ shows_crash claims marks i index b shows = record {
     by_brick o old (inr other) = subst (λ (xs : List ℕ). o.crashes ≤ length xs) (sym (crashes_other index.crashes b i o.brick other)) old.1
 
 -- nothing is kept before any mark
-pub shows_none : (claims : List Claim) (index : Index) → index.found ≡ [] → Shows claims [] 0 index
+pub shows_none : (claims : List ParsedMark) (index : Index) → index.found ≡ [] → Shows claims [] 0 index
 shows_none claims index none = record {
   lives = lives;
   count = sym (ap length none);

@@ -9,7 +9,7 @@ use Rattle.reg_model.specs.declared.marks.Mark.{Mark}
 use Rattle.reg_model.specs.declared.marks.Mark.TheVariants.{Begin, End, Crash}
 use Rattle.reg_model.specs.Marks.{Life, life_of, IsOpen, is_of_stripe, concerns, stripe_marks, position_of}
 use Rattle.reg_model.proofs.GrowingLives.{life_onward, life_of-append}
-use Rattle.transcript.specs.declared.claims.Claim.{Claim}
+use Rattle.transcript.specs.declared.claims.ParsedMark.{ParsedMark}
 use Rattle.transcript.specs.Marks.{mark_of}
 use Rattle.audit.specs.declared.operations.Operation.{Operation}
 use Rattle.audit.specs.Checks.{MarksHold}
@@ -87,7 +87,7 @@ last_push layout g s marks mark hold =
     (filter_same (concerns g s (marks ++ mark ∷ [])) (concerns g s marks) marks (concerns_same layout g s marks mark hold))
     ∙ past_choice 0 (stripe_marks g s marks) mark (concerns g s (marks ++ mark ∷ []) mark)
 
-of_kept : (claims : List Claim) (crashes : List (List ℕ)) (past g s : ℕ) (o : Option Operation)
+of_kept : (claims : List ParsedMark) (crashes : List (List ℕ)) (past g s : ℕ) (o : Option Operation)
     → is_of g s o ≡ is_of_stripe g s (option_map (life_in claims crashes past) o)
 of_kept claims crashes past g s None = refl
 of_kept claims crashes past g s (Some o) = refl
@@ -96,12 +96,12 @@ one_less : (k : ℕ) → suc k - 1 ≡ k
 one_less k = omega arith
 
 -- whether a mark that was taken is one of a stripe, by what is kept
-pub touches_is : (claims : List Claim) (marks : List Mark) (past : ℕ) (index : Index) (claim : Claim) (g s : ℕ)
+pub touches_is : (claims : List ParsedMark) (marks : List Mark) (past : ℕ) (index : Index) (claim : ParsedMark) (g s : ℕ)
     → Shows claims (marks ++ mark_of claim ∷ []) past index → ((p n : ℕ) (answer : _) → mark_of claim ≡ End p n answer → 0 < n)
     → touches index.found claim g s ≡ concerns g s (marks ++ mark_of claim ∷ []) (mark_of claim)
-touches_is claims marks past index (Claim.Begin p n b group stripe access) g s shows one = refl
-touches_is claims marks past index (Claim.End p zero outcome) g s shows one = absurd (let never : 0 < 0 = one _ _ _ refl in omega arith)
-touches_is claims marks past index (Claim.End p (suc k) outcome) g s shows one =
+touches_is claims marks past index (ParsedMark.Begin p n b group stripe access) g s shows one = refl
+touches_is claims marks past index (ParsedMark.End p zero outcome) g s shows one = absurd (let never : 0 < 0 = one _ _ _ refl in omega arith)
+touches_is claims marks past index (ParsedMark.End p (suc k) outcome) g s shows one =
     ap (λ (j : ℕ). is_of g s (slice_get index.found j)) (one_less k)
     ∙ of_kept claims index.crashes past g s (slice_get index.found k) ∙ ap (is_of_stripe g s) (sym (shows.lives (suc k)))
-touches_is claims marks past index (Claim.Crash p b) g s shows one = refl
+touches_is claims marks past index (ParsedMark.Crash p b) g s shows one = refl

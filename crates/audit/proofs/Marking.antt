@@ -8,7 +8,7 @@ use Rattle.reg_model.specs.declared.marks.Happening.{Happening}
 use Rattle.reg_model.specs.Marks.{Life}
 use Rattle.reg_model.specs.Registers.{zero_registers}
 use Rattle.fab_base.specs.Layouts.{Layout, Group, group_of}
-use Rattle.transcript.specs.declared.claims.Claim.{Claim}
+use Rattle.transcript.specs.declared.claims.ParsedMark.{ParsedMark}
 use Rattle.transcript.specs.declared.claims.StripeLine.{StripeLine}
 use Rattle.audit.specs.declared.reviews.Review.{Review}
 use Rattle.audit.specs.Walks.{Walk, has_happened, walked, GoOn, walked_along, walk_from}
@@ -119,7 +119,7 @@ pub in_group : (given : Option Group) (block s : ℕ) (lives : ℕ → Option Li
 in_group None block s lives happened hs goes = absurd goes
 in_group (Some group) block s lives happened hs goes = (group, refl, goes.0, goes.1)
 
-module _ (layout : Layout) (claims : List Claim) (review : Review) (places : ℕ) (known : (g s : ℕ) → AreKnown (lives_at claims review g s) places) where
+module _ (layout : Layout) (claims : List ParsedMark) (review : Review) (places : ℕ) (known : (g s : ℕ) → AreKnown (lives_at claims review g s) places) where
   -- what is named on a line that goes on is alive in its stripe
   pub line_alive : (flags : List Bool) (line : StripeLine) (n : ℕ) → LineGoes layout claims review flags line → Names line.happenings n
       → (life : Life) × (lives_at claims review line.group line.stripe n ≡ Some life)

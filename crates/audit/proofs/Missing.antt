@@ -3,14 +3,14 @@ use Rattle.std.proofs.Common.{◌≡◌, ℕ, zero, suc, ◌+◌, ◌<◌, Bool,
 use Rattle.std.specs.Prelude.{slice_get}
 use Rattle.std.proofs.lemmas.Bool.Decides.{nat_tests}
 use Rattle.std.proofs.lemmas.List.{at_drop_more}
-use Rattle.transcript.specs.declared.claims.Claim.{Claim}
+use Rattle.transcript.specs.declared.claims.ParsedMark.{ParsedMark}
 use Rattle.audit.specs.declared.operations.Operation.{Operation}
 use Rattle.audit.specs.declared.sweeps.StripeName.{StripeName}
 use Rattle.audit.specs.Sweeps.{is_missing, name_before, earlier, with_missing, first_missing}
 use Rattle.audit.proofs.Lists.{same_some}
 
 -- one operation more was looked at
-pub missing_more : (claims : List Claim) (operations : List Operation) (happened : List Bool) (i : ℕ) (o : Operation) (b : Bool) (first : Option StripeName)
+pub missing_more : (claims : List ParsedMark) (operations : List Operation) (happened : List Bool) (i : ℕ) (o : Operation) (b : Bool) (first : Option StripeName)
     → i < length operations → i < length happened
     → first_missing claims (drop (i + 1) operations) (drop (i + 1) happened) (with_missing claims (get_or operations i o) (get_or happened i b) first)
     ≡ first_missing claims (drop i operations) (drop i happened) first
@@ -20,7 +20,7 @@ missing_more claims operations happened i o b first lt room =
     (at_drop_more (λ (l : List Bool). l) happened i b room))
 
 -- an operation of a place, and of a stripe, is missing
-pub record Missing (claims : List Claim) (operations : List Operation) (happened : List Bool) (g s : ℕ) : Type 0 where
+pub record Missing (claims : List ParsedMark) (operations : List Operation) (happened : List Bool) (g s : ℕ) : Type 0 where
   pub place : ℕ
   pub operation : Operation
   pub at : slice_get operations place ≡ Some operation
@@ -29,12 +29,12 @@ pub record Missing (claims : List Claim) (operations : List Operation) (happened
   pub is : is_missing claims operation (get_or happened place false) ≡ true
 
 -- the first of a stripe, where there is one, and those of missing operations
-pub record IsFirst (claims : List Claim) (operations : List Operation) (happened : List Bool) (stop : Option StripeName) (name : StripeName) : Type 0 where
+pub record IsFirst (claims : List ParsedMark) (operations : List Operation) (happened : List Bool) (stop : Option StripeName) (name : StripeName) : Type 0 where
   pub among : (stop ≡ Some name) ⊎ Missing claims operations happened name.group name.stripe
   pub stop_not_before : (other : StripeName) → stop ≡ Some other → name_before other name ≡ false
   pub none_before : (g s : ℕ) → Missing claims operations happened g s → name_before (record { group = g; stripe = s }) name ≡ false
 
-abbrev pub FirstMeans : List Claim → List Operation → List Bool → Option StripeName → Option StripeName → Type 0
+abbrev pub FirstMeans : List ParsedMark → List Operation → List Bool → Option StripeName → Option StripeName → Type 0
 FirstMeans claims operations happened stop None = (stop ≡ None) × ((g s : ℕ) → Missing claims operations happened g s → ⊥)
 FirstMeans claims operations happened stop (Some name) = IsFirst claims operations happened stop name
 
@@ -90,7 +90,7 @@ picks None name = (
 )
 picks (Some first) name = pick_by first name (name_before name first) refl
 
-module _ (claims : List Claim) (o : Operation) (b : Bool) (operations : List Operation) (happened : List Bool) where
+module _ (claims : List ParsedMark) (o : Operation) (b : Bool) (operations : List Operation) (happened : List Bool) where
   -- an operation that is missing behind the first, or is the first
   behind : (g s : ℕ) → Missing claims operations happened g s → Missing claims (o ∷ operations) (b ∷ happened) g s
   behind g s m = record { place = suc m.place; operation = m.operation; at = m.at; group = m.group; stripe = m.stripe; is = m.is }
@@ -156,7 +156,7 @@ module _ (claims : List Claim) (o : Operation) (b : Bool) (operations : List Ope
             (where_at g s m.place m.operation m.at m.group m.stripe m.is);
       }
 
-no_more : (claims : List Claim) (happened : List Bool) (stop : Option StripeName) → FirstMeans claims [] happened stop stop
+no_more : (claims : List ParsedMark) (happened : List Bool) (stop : Option StripeName) → FirstMeans claims [] happened stop stop
 no_more claims happened None = (refl, λ g s m. let never : None ≡ Some m.operation = m.at in cc)
 no_more claims happened (Some name) = record {
   among = inl refl;
@@ -165,7 +165,7 @@ no_more claims happened (Some name) = record {
 }
 
 -- what is found means this
-pub first_means : (claims : List Claim) (operations : List Operation) (happened : List Bool) (stop : Option StripeName)
+pub first_means : (claims : List ParsedMark) (operations : List Operation) (happened : List Bool) (stop : Option StripeName)
     → length happened ≡ length operations → FirstMeans claims operations happened stop (first_missing claims operations happened stop)
 first_means claims [] happened stop room = no_more claims happened stop
 first_means claims (o ∷ operations) [] stop room = absurd (omega arith)

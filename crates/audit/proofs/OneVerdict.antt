@@ -10,8 +10,8 @@ use Rattle.transcript.specs.declared.readings.Text.TheVariants.{Whole, BadLine, 
 use Rattle.transcript.specs.Marks.{marks_of}
 use Rattle.audit.specs.declared.findings.Finding.{Finding}
 use Rattle.audit.specs.declared.findings.Finding.TheVariants.{Sound, BadMarks, BadStripe, BadCount}
-use Rattle.audit.specs.declared.examining.Verdict.{Verdict}
-use Rattle.audit.specs.declared.examining.Verdict.TheVariants.{Judged, BadForm, TooMany}
+use Rattle.audit.specs.declared.examining.AuditResult.{AuditResult}
+use Rattle.audit.specs.declared.examining.AuditResult.TheVariants.{Judged, BadForm, TooMany}
 use Rattle.audit.specs.Checks.{IsBefore, IsFirstBad, StripesHold, Finds}
 use Rattle.audit.specs.Examining.{Examines}
 
@@ -56,7 +56,7 @@ finding_alone layout marks lines counts BadCount (BadStripe h t) p q = absurd (n
 finding_alone layout marks lines counts BadCount BadCount p q = refl
 
 -- what is found of a text is found alone
-pub verdict_alone : (layout : Layout) (text : Text) (one other : Verdict) → Examines layout text one → Examines layout text other → other ≡ one
+pub verdict_alone : (layout : Layout) (text : Text) (one other : AuditResult) → Examines layout text one → Examines layout text other → other ≡ one
 verdict_alone layout (Whole said counts) (Judged one) (Judged other) p q =
     ap (λ (f : Finding). Judged f) (finding_alone layout (marks_of said.claims) said.stripes counts one other p q)
 verdict_alone layout (Whole said counts) (Judged one) (BadForm other) p q = absurd q

@@ -5,7 +5,7 @@ use Rattle.fab_base.specs.Layouts.{Layout}
 use Rattle.reg_model.specs.declared.marks.Mark.{Mark}
 use Rattle.reg_model.specs.declared.marks.Mark.TheVariants.{Begin, End, Crash}
 use Rattle.reg_model.specs.Marks.{Life, position_of, IsOpen, stripe_marks}
-use Rattle.transcript.specs.declared.claims.Claim.{Claim}
+use Rattle.transcript.specs.declared.claims.ParsedMark.{ParsedMark}
 use Rattle.transcript.specs.Marks.{mark_of, marks_of}
 use Rattle.audit.specs.declared.lasts.LastMarks.{LastMarks}
 use Rattle.audit.specs.Checks.{MarksHold}
@@ -19,25 +19,25 @@ use Rattle.audit.proofs.Taking.{Takes, takes, refuses}
 use Rattle.audit.proofs.LastLemmas.{last_push, touches_is}
 
 -- the marks up to a place, and one more
-marks_next : (claims : List Claim) (i : ℕ) (claim : Claim) → slice_get claims i ≡ Some claim
+marks_next : (claims : List ParsedMark) (i : ℕ) (claim : ParsedMark) → slice_get claims i ≡ Some claim
     → marks_of (take (suc i) claims) ≡ marks_of (take i claims) ++ mark_of claim ∷ []
 marks_next [] i claim is = absurd (let never : None ≡ Some claim = is in cc)
-marks_next (x ∷ claims) zero claim is = ap (λ (c : Claim). mark_of c ∷ []) (same_some x claim is)
+marks_next (x ∷ claims) zero claim is = ap (λ (c : ParsedMark). mark_of c ∷ []) (same_some x claim is)
 marks_next (x ∷ claims) (suc i) claim is = ap (λ l. mark_of x ∷ l) (marks_next claims i claim is)
 
-marks_before : (claims : List Claim) (i : ℕ) (claim : Claim) → slice_get claims i ≡ Some claim → length (marks_of (take i claims)) ≡ i
+marks_before : (claims : List ParsedMark) (i : ℕ) (claim : ParsedMark) → slice_get claims i ≡ Some claim → length (marks_of (take i claims)) ≡ i
 marks_before [] i claim is = absurd (let never : None ≡ Some claim = is in cc)
 marks_before (x ∷ claims) zero claim is = refl
 marks_before (x ∷ claims) (suc i) claim is = let rest : length (marks_of (take i claims)) ≡ i = marks_before claims i claim is in omega arith
 
-marks_at : (claims : List Claim) (i : ℕ) (claim : Claim) → slice_get claims i ≡ Some claim
+marks_at : (claims : List ParsedMark) (i : ℕ) (claim : ParsedMark) → slice_get claims i ≡ Some claim
     → (slice_get (marks_of claims) i ≡ Some (mark_of claim)) × (take i (marks_of claims) ≡ marks_of (take i claims))
 marks_at [] i claim is = absurd (let never : None ≡ Some claim = is in cc)
-marks_at (x ∷ claims) zero claim is = (ap (λ (c : Claim). Some (mark_of c)) (same_some x claim is), refl)
+marks_at (x ∷ claims) zero claim is = (ap (λ (c : ParsedMark). Some (mark_of c)) (same_some x claim is), refl)
 marks_at (x ∷ claims) (suc i) claim is = let rest = marks_at claims i claim is in (rest.0, ap (λ l. mark_of x ∷ l) rest.1)
 
 -- no mark
-pub reviewed_none : (layout : Layout) (claims : List Claim) (index : Index) (lasts : LastMarks) → IsFirst index layout.bricks
+pub reviewed_none : (layout : Layout) (claims : List ParsedMark) (index : Index) (lasts : LastMarks) → IsFirst index layout.bricks
     → ((g s : ℕ) → last_at lasts g s ≡ 0) → Reviewed layout claims 0 index lasts
 reviewed_none layout claims index lasts first none = record {
   hold = marks_hold_none layout;
@@ -48,7 +48,7 @@ reviewed_none layout claims index lasts first none = record {
 }
 
 -- an End that follows is of an operation from one on
-one_on : (layout : Layout) (claims : List Claim) (marks : List Mark) (i : ℕ) (index : Index) (mark : Mark) → Shows claims marks i index
+one_on : (layout : Layout) (claims : List ParsedMark) (marks : List Mark) (i : ℕ) (index : Index) (mark : Mark) → Shows claims marks i index
     → Follows layout marks mark → (p n : ℕ) (answer : _) → mark ≡ End p n answer → 0 < n
 one_on layout claims marks i index (Begin q m b ask) shows follows p n answer is = absurd (never is)
   where
@@ -71,7 +71,7 @@ chosen_low true i past low = omega arith
 chosen_low false i past low = omega arith
 
 -- one mark more
-pub reviewed_more : (layout : Layout) (claims : List Claim) (i : ℕ) (index later : Index) (lasts lasts_later : LastMarks) (claim : Claim)
+pub reviewed_more : (layout : Layout) (claims : List ParsedMark) (i : ℕ) (index later : Index) (lasts lasts_later : LastMarks) (claim : ParsedMark)
     → Reviewed layout claims i index lasts → slice_get claims i ≡ Some claim → after_claim layout claims index i claim ≡ Some later
     → ((g s : ℕ) → last_at lasts_later g s ≡ cond (touches later.found claim g s) (i + 1) (last_at lasts g s))
     → Reviewed layout claims (i + 1) later lasts_later
@@ -104,7 +104,7 @@ reviewed_more layout claims i index later lasts lasts_later claim so_far at is l
     next = marks_next claims i claim at
 
 -- marks of which one was refused do not hold
-pub refused : (layout : Layout) (claims : List Claim) (i : ℕ) (index : Index) (lasts : LastMarks) (claim : Claim)
+pub refused : (layout : Layout) (claims : List ParsedMark) (i : ℕ) (index : Index) (lasts : LastMarks) (claim : ParsedMark)
     → Reviewed layout claims i index lasts → slice_get claims i ≡ Some claim → after_claim layout claims index i claim ≡ None
     → MarksHold layout (marks_of claims) → ⊥
 refused layout claims i index lasts claim so_far at is hold =

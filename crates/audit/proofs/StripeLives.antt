@@ -11,7 +11,7 @@ use Rattle.reg_model.proofs.GrowingLives.{EndingStays}
 use Rattle.reg_model.proofs.RisingMarks.{NumbersRise-increasing}
 use Rattle.reg_model.proofs.StripeLives.{life_filtered, none_filtered, others_filtered, numbers_from_one}
 use Rattle.fab_base.specs.Layouts.{Layout}
-use Rattle.transcript.specs.declared.claims.Claim.{Claim}
+use Rattle.transcript.specs.declared.claims.ParsedMark.{ParsedMark}
 use Rattle.audit.specs.declared.operations.Operation.{Operation}
 use Rattle.audit.specs.Checks.{MarksHold}
 use Rattle.audit.specs.Operations.{Index, ending_with, crash_after, life_in, Shows}
@@ -56,7 +56,7 @@ life_past (End p k answer ∷ marks) n past q life is open' = life_past marks n 
 life_past (Crash p b ∷ marks) n past q life is open' = life_past marks n (p + 1) q life is open'
 
 -- an ending that stays, but for how late an open operation may happen
-ending_stays : (claims : List Claim) (e c : Option ℕ) (i past : ℕ) (later : Ending) → EndingStays (ending_with claims e c i) later
+ending_stays : (claims : List ParsedMark) (e c : Option ℕ) (i past : ℕ) (later : Ending) → EndingStays (ending_with claims e c i) later
     → ((q : ℕ) → later ≡ Unended q → q ≡ past) → later ≡ ending_with claims e c past
 ending_stays claims (Some p) c i past later stays at = stays
 ending_stays claims None (Some p) i past later stays at = stays
@@ -77,7 +77,7 @@ from_one : (marks : List Mark) → life_of marks 0 ≡ None → (n : ℕ) (life 
 from_one marks none zero life is = absurd (let never : None ≡ Some life = sym none ∙ is in cc)
 from_one marks none (suc n) life is = omega arith
 
-module _ (layout : Layout) (claims : List Claim) (marks : List Mark) (i : ℕ) (index : Index) (g s : ℕ) (hold : MarksHold layout marks) (shows : Shows claims marks i index) where
+module _ (layout : Layout) (claims : List ParsedMark) (marks : List Mark) (i : ℕ) (index : Index) (g s : ℕ) (hold : MarksHold layout marks) (shows : Shows claims marks i index) where
   -- by whether an operation that was found is of the stripe
   found_life : (k : ℕ) (o : Operation) (t : Bool) → slice_get index.found k ≡ Some o → (nat_eq o.group g && nat_eq o.stripe s) ≡ t
       → option_map (life_in claims index.crashes (past_behind 0 (stripe_marks g s marks))) (cond t (Some o) None) ≡ life_of (stripe_marks g s marks) (suc k)

@@ -10,10 +10,10 @@ use Rattle.fab_base.specs.Layouts.{Layout, Group, group_of}
 use Rattle.reg_model.specs.declared.marks.Mark.{Mark}
 use Rattle.reg_model.specs.Marks.{Life, life_of, position_of, IsUnended, IsOpen}
 use Rattle.reg_model.specs.Strict.{OpFits}
-use Rattle.transcript.specs.declared.claims.Claim.{Claim}
-use Rattle.transcript.specs.declared.claims.Claim.TheVariants.{Begin, End, Crash}
-use Rattle.transcript.specs.declared.claims.Outcome.{Outcome}
-use Rattle.transcript.specs.declared.claims.Outcome.TheVariants.{Data, Done, Aborted}
+use Rattle.transcript.specs.declared.claims.ParsedMark.{ParsedMark}
+use Rattle.transcript.specs.declared.claims.ParsedMark.TheVariants.{Begin, End, Crash}
+use Rattle.transcript.specs.declared.claims.ParsedAnswer.{ParsedAnswer}
+use Rattle.transcript.specs.declared.claims.ParsedAnswer.TheVariants.{Data, Done, Aborted}
 use Rattle.transcript.specs.Marks.{mark_of, answer_of, op_of}
 use Rattle.audit.specs.declared.operations.Operation.{Operation}
 use Rattle.audit.specs.Checks.{GroupFits, WordFits, AnswerFits}
@@ -77,7 +77,7 @@ group_fits_if None block s access fits = absurd fits
 group_fits_if (Some group) block s access fits =
     both (nat_lt s group.stripes) (access_fits group.m block access) (below_is s group.stripes fits.0) (access_fits_if group.m block access fits.1)
 
-word_fits_is : (access : Access) (outcome : Outcome) → word_fits access outcome ≡ true → WordFits (op_of access) (answer_of outcome)
+word_fits_is : (access : Access) (outcome : ParsedAnswer) → word_fits access outcome ≡ true → WordFits (op_of access) (answer_of outcome)
 word_fits_is (ReadBlock j) (Data bytes) is = tt
 word_fits_is (ReadBlock j) Done is = absurd (let never : false ≡ true = is in cc)
 word_fits_is (ReadBlock j) (Aborted reason) is = tt
@@ -91,7 +91,7 @@ word_fits_is (WriteStripe written) (Data bytes) is = absurd (let never : false �
 word_fits_is (WriteStripe written) Done is = tt
 word_fits_is (WriteStripe written) (Aborted reason) is = tt
 
-word_fits_if : (access : Access) (outcome : Outcome) → WordFits (op_of access) (answer_of outcome) → word_fits access outcome ≡ true
+word_fits_if : (access : Access) (outcome : ParsedAnswer) → WordFits (op_of access) (answer_of outcome) → word_fits access outcome ≡ true
 word_fits_if (ReadBlock j) (Data bytes) fits = refl
 word_fits_if (ReadBlock j) Done fits = absurd fits
 word_fits_if (ReadBlock j) (Aborted reason) fits = refl
@@ -110,25 +110,25 @@ nowhere_none : (o : Option ℕ) → is_nowhere o ≡ true → o ≡ None
 nowhere_none None is = refl
 nowhere_none (Some p) is = absurd (let never : false ≡ true = is in cc)
 
-unended_nowhere : (claims : List Claim) (e c : Option ℕ) (past : ℕ) → IsUnended (ending_with claims e c past) → (is_nowhere e && is_nowhere c) ≡ true
+unended_nowhere : (claims : List ParsedMark) (e c : Option ℕ) (past : ℕ) → IsUnended (ending_with claims e c past) → (is_nowhere e && is_nowhere c) ≡ true
 unended_nowhere claims (Some p) c past open' = absurd open'
 unended_nowhere claims None (Some p) past open' = absurd open'
 unended_nowhere claims None None past open' = refl
 
-nowhere_unended : (claims : List Claim) (e c : Option ℕ) (past : ℕ) → e ≡ None → c ≡ None → IsUnended (ending_with claims e c past)
+nowhere_unended : (claims : List ParsedMark) (e c : Option ℕ) (past : ℕ) → e ≡ None → c ≡ None → IsUnended (ending_with claims e c past)
 nowhere_unended claims (Some p) c past none gone = absurd (let never : Some p ≡ None = none in cc)
 nowhere_unended claims None (Some p) past none gone = absurd (let never : Some p ≡ None = gone in cc)
 nowhere_unended claims None None past none gone = tt
 
 -- What is kept after a mark that was taken: it is in its place, it follows the marks before it, and what is kept shows it.
-pub record Takes (layout : Layout) (claims : List Claim) (marks : List Mark) (i : ℕ) (claim : Claim) (index : Index) : Type 0 where
+pub record Takes (layout : Layout) (claims : List ParsedMark) (marks : List Mark) (i : ℕ) (claim : ParsedMark) (index : Index) : Type 0 where
   pub place : position_of (mark_of claim) ≡ i
   pub follows : Follows layout marks (mark_of claim)
   pub shows : Shows claims (marks ++ mark_of claim ∷ []) (i + 1) index
   pub bricks : length index.crashes ≡ layout.bricks
 
 -- a Begin that was taken
-takes_begin : (layout : Layout) (claims : List Claim) (marks : List Mark) (i : ℕ) (index later : Index) (q n b g s : ℕ) (access : Access)
+takes_begin : (layout : Layout) (claims : List ParsedMark) (marks : List Mark) (i : ℕ) (index later : Index) (q n b g s : ℕ) (access : Access)
     → Shows claims marks i index → length index.crashes ≡ layout.bricks → slice_get claims i ≡ Some (Begin q n b g s access) → q ≡ i
     → n ≡ length index.found + 1 → begin_fits layout b g s access ≡ true
     → later ≡ record { found = index.found ++ begun i b g s (crashes_of index.crashes b) ∷ []; crashes = index.crashes }
@@ -150,7 +150,7 @@ takes_begin layout claims marks i index later q n b g s access shows bricks at p
     }
 
 -- an End that was taken
-takes_end : (layout : Layout) (claims : List Claim) (marks : List Mark) (i : ℕ) (index later : Index) (q k : ℕ) (outcome : Outcome) (mine : Operation)
+takes_end : (layout : Layout) (claims : List ParsedMark) (marks : List Mark) (i : ℕ) (index later : Index) (q k : ℕ) (outcome : ParsedAnswer) (mine : Operation)
     → Shows claims marks i index → length index.crashes ≡ layout.bricks → slice_get claims i ≡ Some (End q (suc k) outcome) → q ≡ i
     → slice_get index.found k ≡ Some mine → is_open index.crashes mine ≡ true → word_fits (access_at claims mine.begin) outcome ≡ true
     → later ≡ record { found = slice_set index.found k (ended i mine); crashes = index.crashes }
@@ -179,7 +179,7 @@ one_less : (k : ℕ) → suc k - 1 ≡ k
 one_less k = omega arith
 
 -- the choice of an End, by what was found
-end_found : (layout : Layout) (claims : List Claim) (marks : List Mark) (i : ℕ) (index later : Index) (q k : ℕ) (outcome : Outcome) (mine : Option Operation)
+end_found : (layout : Layout) (claims : List ParsedMark) (marks : List Mark) (i : ℕ) (index later : Index) (q k : ℕ) (outcome : ParsedAnswer) (mine : Option Operation)
     → Shows claims marks i index → length index.crashes ≡ layout.bricks → slice_get claims i ≡ Some (End q (suc k) outcome) → q ≡ i
     → slice_get index.found k ≡ mine → may_end claims index.crashes mine outcome ≡ true
     → later ≡ record { found = change_at index.found k (option_map (ended i) mine); crashes = index.crashes }
@@ -190,7 +190,7 @@ end_found layout claims marks i index later q k outcome (Some mine) shows bricks
     takes_end layout claims marks i index later q k outcome mine shows bricks at place found parts.0 parts.1 is
 
 -- a mark that was taken
-pub takes : (layout : Layout) (claims : List Claim) (marks : List Mark) (i : ℕ) (index later : Index) (claim : Claim) → Shows claims marks i index
+pub takes : (layout : Layout) (claims : List ParsedMark) (marks : List Mark) (i : ℕ) (index later : Index) (claim : ParsedMark) → Shows claims marks i index
     → length index.crashes ≡ layout.bricks → slice_get claims i ≡ Some claim → after_claim layout claims index i claim ≡ Some later
     → Takes layout claims marks i claim later
 unfolding after_claim begins_next ends_at crashes_at
@@ -235,7 +235,7 @@ takes layout claims marks i index later (Crash q b) shows bricks at is =
     same e = cc
 
 -- an End that follows may end
-may_follow : (claims : List Claim) (marks : List Mark) (i : ℕ) (index : Index) (k : ℕ) (outcome : Outcome) (mine : Option Operation)
+may_follow : (claims : List ParsedMark) (marks : List Mark) (i : ℕ) (index : Index) (k : ℕ) (outcome : ParsedAnswer) (mine : Option Operation)
     → life_of marks (suc k) ≡ option_map (life_in claims index.crashes i) mine → IsOpen (life_of marks (suc k))
     → AnswerFits (life_of marks (suc k)) (answer_of outcome) → may_end claims index.crashes mine outcome ≡ true
 may_follow claims marks i index k outcome None life open' fits = absurd (subst (λ (l : Option Life). IsOpen l) life open')
@@ -245,7 +245,7 @@ may_follow claims marks i index k outcome (Some mine) life open' fits =
     (word_fits_if (access_at claims mine.begin) outcome (subst (λ (l : Option Life). AnswerFits l (answer_of outcome)) life fits))
 
 -- a mark that follows is taken
-pub refuses : (layout : Layout) (claims : List Claim) (marks : List Mark) (i : ℕ) (index : Index) (claim : Claim) → Shows claims marks i index
+pub refuses : (layout : Layout) (claims : List ParsedMark) (marks : List Mark) (i : ℕ) (index : Index) (claim : ParsedMark) → Shows claims marks i index
     → after_claim layout claims index i claim ≡ None → position_of (mark_of claim) ≡ i → Follows layout marks (mark_of claim) → ⊥
 unfolding after_claim begins_next ends_at crashes_at
 refuses layout claims marks i index (Begin q n b g s access) shows is place follows =

@@ -17,9 +17,9 @@ use Rattle.reg_model.specs.declared.marks.Happening.{Happening}
 use Rattle.reg_model.specs.Marks.{Answered, ending_of, Life, life_of, stripe_marks}
 use Rattle.reg_model.specs.Registers.{zero_registers}
 use Rattle.reg_model.specs.Strict.{IsAnswered, WasAnswered, IsInTime, IsStrict}
-use Rattle.transcript.specs.declared.claims.Claim.{Claim}
-use Rattle.transcript.specs.declared.claims.Outcome.{Outcome}
-use Rattle.transcript.specs.declared.claims.Outcome.TheVariants.{Data, Done, Aborted}
+use Rattle.transcript.specs.declared.claims.ParsedMark.{ParsedMark}
+use Rattle.transcript.specs.declared.claims.ParsedAnswer.{ParsedAnswer}
+use Rattle.transcript.specs.declared.claims.ParsedAnswer.TheVariants.{Data, Done, Aborted}
 use Rattle.transcript.specs.declared.claims.StripeLine.{StripeLine}
 use Rattle.transcript.specs.Marks.{marks_of, answer_of}
 use Rattle.transcript.specs.Transcripts.{stripe_before, StripesRise}
@@ -115,21 +115,21 @@ length_in flags [] = refl
 length_in flags (line ∷ lines) = length_in (happened_along flags line.happenings) lines ∙ length_along flags line.happenings
 
 -- an answered ending, by its End
-answered_test : (claims : List Claim) (e c : Option ℕ) (past : ℕ) → IsAnswered (ending_with claims e c past) → was_answered claims e ≡ true
+answered_test : (claims : List ParsedMark) (e c : Option ℕ) (past : ℕ) → IsAnswered (ending_with claims e c past) → was_answered claims e ≡ true
 answered_test claims None None past h = absurd h
 answered_test claims None (Some p) past h = absurd h
 answered_test claims (Some p) c past h = by_outcome (outcome_at claims p) h
   where
-    by_outcome : (outcome : Outcome) → IsAnswered (Answered p (answer_of outcome)) → says_answer outcome ≡ true
+    by_outcome : (outcome : ParsedAnswer) → IsAnswered (Answered p (answer_of outcome)) → says_answer outcome ≡ true
     by_outcome (Data bytes) h = refl
     by_outcome Done h = refl
     by_outcome (Aborted reason) h = absurd h
 
-test_answered : (claims : List Claim) (e c : Option ℕ) (past : ℕ) → was_answered claims e ≡ true → IsAnswered (ending_with claims e c past)
+test_answered : (claims : List ParsedMark) (e c : Option ℕ) (past : ℕ) → was_answered claims e ≡ true → IsAnswered (ending_with claims e c past)
 test_answered claims None c past is = absurd (let never : false ≡ true = is in cc)
 test_answered claims (Some p) c past is = by_outcome (outcome_at claims p) is
   where
-    by_outcome : (outcome : Outcome) → says_answer outcome ≡ true → IsAnswered (Answered p (answer_of outcome))
+    by_outcome : (outcome : ParsedAnswer) → says_answer outcome ≡ true → IsAnswered (Answered p (answer_of outcome))
     by_outcome (Data bytes) is = tt
     by_outcome Done is = tt
     by_outcome (Aborted reason) is = absurd (let never : false ≡ true = is in cc)
@@ -139,7 +139,7 @@ was_alive None h = absurd h
 was_alive (Some l) h = (l, refl, h)
 
 -- an operation that is alive in a stripe
-own_parts : (claims : List Claim) (crashes : List (List ℕ)) (past g s : ℕ) (found : Option Operation) (life : Life)
+own_parts : (claims : List ParsedMark) (crashes : List (List ℕ)) (past g s : ℕ) (found : Option Operation) (life : Life)
     → option_map (life_in claims crashes past) (of_stripe g s found) ≡ Some life
     → (o : Operation) × (found ≡ Some o) × (o.group ≡ g) × (o.stripe ≡ s) × (life ≡ life_in claims crashes past o)
 own_parts claims crashes past g s None life is = absurd (let never : None ≡ Some life = is in cc)
@@ -151,7 +151,7 @@ own_parts claims crashes past g s (Some o) life is = by_test (nat_eq o.group g &
         (o, refl, eqb-true o.group g parts.0, eqb-true o.stripe s parts.1, sym (same_some (life_in claims crashes past o) life e))
     by_test false of e = absurd (let never : None ≡ Some life = e in cc)
 
-pub alive_own : (claims : List Claim) (review : Review) (g s n : ℕ) (life : Life) → lives_at claims review g s n ≡ Some life
+pub alive_own : (claims : List ParsedMark) (review : Review) (g s n : ℕ) (life : Life) → lives_at claims review g s n ≡ Some life
     → (j : ℕ) × (o : Operation) × (n ≡ suc j) × (slice_get review.operations.found j ≡ Some o) × (o.group ≡ g) × (o.stripe ≡ s)
     × (life ≡ life_in claims review.operations.crashes (last_at review.lasts g s) o)
 alive_own claims review g s zero life is = absurd (let never : None ≡ Some life = is in cc)
@@ -159,7 +159,7 @@ alive_own claims review g s (suc j) life is =
     let parts = own_parts claims review.operations.crashes (last_at review.lasts g s) g s (slice_get review.operations.found j) life is in
     (j, parts.0, refl, parts.1, parts.2, parts.3, parts.4)
 
-pub known : (claims : List Claim) (review : Review) (g s : ℕ) → AreKnown (lives_at claims review g s) (length review.operations.found)
+pub known : (claims : List ParsedMark) (review : Review) (g s : ℕ) → AreKnown (lives_at claims review g s) (length review.operations.found)
 known claims review g s = record {
   each = λ n life is.
       (let own = alive_own claims review g s n life is in
@@ -168,7 +168,7 @@ known claims review g s = record {
       (omega arith, omega arith));
 }
 
-same_stripe : (claims : List Claim) (review : Review) (g s h t n : ℕ) (l m : Life) → lives_at claims review g s n ≡ Some l
+same_stripe : (claims : List ParsedMark) (review : Review) (g s h t n : ℕ) (l m : Life) → lives_at claims review g s n ≡ Some l
     → lives_at claims review h t n ≡ Some m → (g ≡ h) × (s ≡ t)
 same_stripe claims review g s h t n l m one two =
     let a = alive_own claims review g s n l one in
@@ -188,7 +188,7 @@ both_true true b p q = q
 both_true false b p q = p
 
 -- an operation of a stripe is alive in it
-lives_own : (claims : List Claim) (review : Review) (g s j : ℕ) (o : Operation) → slice_get review.operations.found j ≡ Some o → o.group ≡ g → o.stripe ≡ s
+lives_own : (claims : List ParsedMark) (review : Review) (g s j : ℕ) (o : Operation) → slice_get review.operations.found j ≡ Some o → o.group ≡ g → o.stripe ≡ s
     → lives_at claims review g s (suc j) ≡ Some (life_in claims review.operations.crashes (last_at review.lasts g s) o)
 lives_own claims review g s j o at group stripe =
     ap (λ (x : Option Operation). option_map (life_in claims review.operations.crashes (last_at review.lasts g s)) (of_stripe g s x)) at
@@ -196,7 +196,7 @@ lives_own claims review g s j o at group stripe =
     (both_true (nat_eq o.group g) (nat_eq o.stripe s) (eq-eqb o.group g group) (eq-eqb o.stripe s stripe))
 
 -- what is strict goes on, where none of it has happened
-back_in : (layout : Layout) (claims : List Claim) (review : Review) → Kept layout claims review → (g s : ℕ) (given : Option Group) (happened : List Bool)
+back_in : (layout : Layout) (claims : List ParsedMark) (review : Review) → Kept layout claims review → (g s : ℕ) (given : Option Group) (happened : List Bool)
     (hs : List Happening) → length happened ≡ length review.operations.found
     → ((n : ℕ) (life : Life) → lives_at claims review g s n ≡ Some life → Names hs n → has_happened happened n ≡ false)
     → HoldsIn given layout.block g s (marks_of claims) hs → GoesIn given layout.block (lives_at claims review g s) happened s hs
@@ -238,7 +238,7 @@ fits_has None block s op fits = absurd fits
 fits_has (Some group) block s op fits = fits.0
 
 -- the stripe of an operation is one of the layout
-pub own_stripe : (layout : Layout) (claims : List Claim) (review : Review) → Kept layout claims review → (g s j : ℕ) (o : Operation)
+pub own_stripe : (layout : Layout) (claims : List ParsedMark) (review : Review) → Kept layout claims review → (g s j : ℕ) (o : Operation)
     → slice_get review.operations.found j ≡ Some o → o.group ≡ g → o.stripe ≡ s → HasStripe (group_of layout g) s
 own_stripe layout claims review k g s j o at group stripe =
     let life : Life = life_in claims review.operations.crashes (length claims) o in
@@ -249,7 +249,7 @@ own_stripe layout claims review k g s j o at group stripe =
     subst (λ (h : ℕ). HasStripe (group_of layout h) s) group
     (subst (λ (t : ℕ). HasStripe (group_of layout o.group) t) stripe (fits_has (group_of layout o.group) layout.block o.stripe life.ask.op fits.1))
 
-module _ (layout : Layout) (claims : List Claim) (review : Review) (reviews : Reviews layout claims review) (lines : List StripeLine) (rise : StripesRise lines) (p : ℕ)
+module _ (layout : Layout) (claims : List ParsedMark) (review : Review) (reviews : Reviews layout claims review) (lines : List StripeLine) (rise : StripesRise lines) (p : ℕ)
     (went : LinesGo layout claims review (none_happened (length review.operations.found)) (take p lines)) where
   -- an answered operation that is not missing is named on a line of its stripe that went on
   answered_named : (h t n : ℕ) → WasAnswered (life_of (stripe_marks h t (marks_of claims)) n)

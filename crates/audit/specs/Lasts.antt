@@ -5,8 +5,8 @@ use Rattle.std.specs.Ordering.{nat_cmp, ordering_then}
 use Rattle.std.specs.BTreeMap.{get}
 use Rattle.reg_model.specs.declared.marks.Mark.{Mark}
 use Rattle.reg_model.specs.Marks.{position_of}
-use Rattle.transcript.specs.declared.claims.Claim.{Claim}
-use Rattle.transcript.specs.declared.claims.Claim.TheVariants.{Begin, End, Crash}
+use Rattle.transcript.specs.declared.claims.ParsedMark.{ParsedMark}
+use Rattle.transcript.specs.declared.claims.ParsedMark.TheVariants.{Begin, End, Crash}
 use Rattle.audit.specs.declared.operations.Operation.{Operation}
 use Rattle.audit.specs.declared.lasts.LastMarks.{LastMarks}
 
@@ -29,7 +29,7 @@ is_of g s None = false
 is_of g s (Some o) = nat_eq o.group g && nat_eq o.stripe s
 
 -- a mark is one of a stripe, by the operations that were found
-abbrev pub touches : List Operation → Claim → ℕ → ℕ → Bool
+abbrev pub touches : List Operation → ParsedMark → ℕ → ℕ → Bool
 touches found (Begin p n b group stripe access) g s = nat_eq group g && nat_eq stripe s
 touches found (End p n outcome) g s = is_of g s (slice_get found (n - 1))
 touches found (Crash p b) g s = true

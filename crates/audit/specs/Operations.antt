@@ -5,22 +5,22 @@ use Rattle.lines.specs.declared.forms.Access.TheVariants.{ReadBlock, WriteBlock,
 use Rattle.fab_base.specs.Layouts.{Layout, Group, group_of}
 use Rattle.reg_model.specs.declared.marks.Mark.{Mark}
 use Rattle.reg_model.specs.Marks.{Ending, Answered, Interrupted, Unended, Life, life_of, begun_numbers}
-use Rattle.transcript.specs.declared.claims.Claim.{Claim}
-use Rattle.transcript.specs.declared.claims.Claim.TheVariants.{Begin, End, Crash}
-use Rattle.transcript.specs.declared.claims.Outcome.{Outcome}
-use Rattle.transcript.specs.declared.claims.Outcome.TheVariants.{Data, Done, Aborted}
+use Rattle.transcript.specs.declared.claims.ParsedMark.{ParsedMark}
+use Rattle.transcript.specs.declared.claims.ParsedMark.TheVariants.{Begin, End, Crash}
+use Rattle.transcript.specs.declared.claims.ParsedAnswer.{ParsedAnswer}
+use Rattle.transcript.specs.declared.claims.ParsedAnswer.TheVariants.{Data, Done, Aborted}
 use Rattle.transcript.specs.Marks.{op_of, answer_of}
 use Rattle.audit.specs.declared.operations.Operation.{Operation}
 
 -- what the Begin at a place asks
-abbrev pub access_of : Option Claim → Option Access
+abbrev pub access_of : Option ParsedMark → Option Access
 access_of None = None
 access_of (Some (Begin p n b g s access)) = Some access
 access_of (Some (End p n outcome)) = None
 access_of (Some (Crash p b)) = None
 
 -- what the End at a place answers
-abbrev pub outcome_of : Option Claim → Option Outcome
+abbrev pub outcome_of : Option ParsedMark → Option ParsedAnswer
 outcome_of None = None
 outcome_of (Some (Begin p n b g s access)) = None
 outcome_of (Some (End p n outcome)) = Some outcome
@@ -31,18 +31,18 @@ abbrev pub access_or : Option Access → Access
 access_or None = ReadStripe
 access_or (Some access) = access
 
-abbrev pub outcome_or : Option Outcome → Outcome
+abbrev pub outcome_or : Option ParsedAnswer → ParsedAnswer
 outcome_or None = Done
 outcome_or (Some outcome) = outcome
 
-abbrev pub access_at : List Claim → ℕ → Access
+abbrev pub access_at : List ParsedMark → ℕ → Access
 access_at claims p = access_or (access_of (slice_get claims p))
 
-abbrev pub outcome_at : List Claim → ℕ → Outcome
+abbrev pub outcome_at : List ParsedMark → ℕ → ParsedAnswer
 outcome_at claims p = outcome_or (outcome_of (slice_get claims p))
 
 -- an ending: by the place of its End; or else the Crash after its Begin; or else it is open
-abbrev pub ending_with : List Claim → Option ℕ → Option ℕ → ℕ → Ending
+abbrev pub ending_with : List ParsedMark → Option ℕ → Option ℕ → ℕ → Ending
 ending_with claims (Some p) crash past = Answered p (answer_of (outcome_at claims p))
 ending_with claims None (Some p) past = Interrupted p
 ending_with claims None None past = Unended past
@@ -56,7 +56,7 @@ abbrev pub crash_after : List (List ℕ) → Operation → Option ℕ
 crash_after crashes o = slice_get (crashes_of crashes o.brick) o.crashes
 
 -- the life of an operation
-abbrev pub life_in : List Claim → List (List ℕ) → ℕ → Operation → Life
+abbrev pub life_in : List ParsedMark → List (List ℕ) → ℕ → Operation → Life
 life_in claims crashes past o = record {
   begin = o.begin;
   brick = o.brick;
@@ -101,13 +101,13 @@ is_write ReadStripe = false
 is_write (WriteStripe bytes) = true
 
 -- an answer's word is that of what was asked
-abbrev pub word_fits : Access → Outcome → Bool
+abbrev pub word_fits : Access → ParsedAnswer → Bool
 word_fits access (Data bytes) = not (is_write access)
 word_fits access Done = is_write access
 word_fits access (Aborted reason) = true
 
 -- an operation that is open may end so
-abbrev pub may_end : List Claim → List (List ℕ) → Option Operation → Outcome → Bool
+abbrev pub may_end : List ParsedMark → List (List ℕ) → Option Operation → ParsedAnswer → Bool
 may_end claims crashes None outcome = false
 may_end claims crashes (Some o) outcome = is_open crashes o && word_fits (access_at claims o.begin) outcome
 
@@ -135,7 +135,7 @@ begins_next index p n b g s =
     then Some (record { found = index.found ++ begun p b g s (crashes_of index.crashes b) ∷ []; crashes = index.crashes }) else None
 
 -- an operation ends, where it may
-unfoldable pub ends_at : List Claim → Index → ℕ → ℕ → Outcome → Option Index
+unfoldable pub ends_at : List ParsedMark → Index → ℕ → ℕ → ParsedAnswer → Option Index
 ends_at claims index p n outcome =
     if nat_lt 0 n && may_end claims index.crashes (slice_get index.found (n - 1)) outcome
     then Some (record { found = change_at index.found (n - 1) (option_map (ended p) (slice_get index.found (n - 1))); crashes = index.crashes }) else None
@@ -146,7 +146,7 @@ crashes_at index b p = Some (record { found = index.found; crashes = crashed_at 
 
 -- What is kept once the mark at a place has come; none where its position is another, or a Begin's number is not the next or what it asks
 -- does not fit the layout, or an End is not of an open operation or not by its word.
-unfoldable pub after_claim : Layout → List Claim → Index → ℕ → Claim → Option Index
+unfoldable pub after_claim : Layout → List ParsedMark → Index → ℕ → ParsedMark → Option Index
 after_claim layout claims index p (Begin q n b g s access) =
     if nat_eq q p && begin_fits layout b g s access then begins_next index p n b g s else None
 after_claim layout claims index p (End q n outcome) = if nat_eq q p then ends_at claims index p n outcome else None
@@ -157,12 +157,12 @@ abbrev pub IsFirst : Index → ℕ → Type 0
 IsFirst index bricks = (index.found ≡ []) × (length index.crashes ≡ bricks)
 
 -- the life of operation n, by what is kept once so many marks have come
-abbrev pub life_at : List Claim → Index → ℕ → ℕ → Option Life
+abbrev pub life_at : List ParsedMark → Index → ℕ → ℕ → Option Life
 life_at claims index past zero = None
 life_at claims index past (suc k) = option_map (life_in claims index.crashes past) (slice_get index.found k)
 
 -- what is kept shows these marks, so many: the life of each operation
-pub record Shows (claims : List Claim) (marks : List Mark) (past : ℕ) (index : Index) : Type 0 where
+pub record Shows (claims : List ParsedMark) (marks : List Mark) (past : ℕ) (index : Index) : Type 0 where
   pub lives : (n : ℕ) → life_of marks n ≡ life_at claims index past n
   pub count : length (begun_numbers marks) ≡ length index.found
   pub bounded : (k : ℕ) (o : Operation) → slice_get index.found k ≡ Some o
@@ -175,11 +175,11 @@ reach None (Some p) past = p
 reach None None past = past
 
 -- the data of an answer
-abbrev pub data_said : Outcome → Option (List ℕ)
+abbrev pub data_said : ParsedAnswer → Option (List ℕ)
 data_said (Data bytes) = Some bytes
 data_said Done = None
 data_said (Aborted reason) = None
 
-abbrev pub data_at : List Claim → Option ℕ → Option (List ℕ)
+abbrev pub data_at : List ParsedMark → Option ℕ → Option (List ℕ)
 data_at claims None = None
 data_at claims (Some p) = data_said (outcome_at claims p)

@@ -3,7 +3,7 @@ use Rattle.std.specs.Prelude.{◌≡◌, ℕ, zero, suc, ◌-◌, ◌≤◌, nat
 use Rattle.reg_model.specs.declared.marks.Happening.{Happening}
 use Rattle.reg_model.specs.Marks.{Life}
 use Rattle.reg_model.specs.Strict.{IsInTime, ReadsRight, after_life, OpFits}
-use Rattle.transcript.specs.declared.claims.Claim.{Claim}
+use Rattle.transcript.specs.declared.claims.ParsedMark.{ParsedMark}
 use Rattle.audit.specs.declared.operations.Operation.{Operation}
 use Rattle.audit.specs.declared.walks.Stripe.{Stripe}
 use Rattle.audit.specs.Operations.{Index, life_in}
@@ -14,7 +14,7 @@ of_stripe g s None = None
 of_stripe g s (Some o) = if nat_eq o.group g && nat_eq o.stripe s then Some o else None
 
 -- the life of operation n, where it is of this stripe; one that is open may happen as late as `past`
-abbrev pub life_among : List Claim → Index → ℕ → ℕ → ℕ → ℕ → Option Life
+abbrev pub life_among : List ParsedMark → Index → ℕ → ℕ → ℕ → ℕ → Option Life
 life_among claims index past g s zero = None
 life_among claims index past g s (suc k) = option_map (life_in claims index.crashes past) (of_stripe g s (slice_get index.found k))
 

@@ -12,13 +12,13 @@ use crate::judging::judge;
 use fab_base::NoMem;
 use fab_io::{IoFault, Source};
 use layout::Layout;
-use lines::Unread;
+use lines::LineReader;
 use std::alloc::Global;
 use transcript::{Text, read};
 
 /// What an audit finds of a text.
 #[derive(Clone, Copy, PartialEq, Eq)]
-pub enum Verdict {
+pub enum AuditResult {
     /// The text is whole, and this is found of what it says.
     Judged(Finding),
     /// This line, counted from 1, is the first that has none of the forms, or is too long, or is not in its place. The end without the
@@ -29,17 +29,17 @@ pub enum Verdict {
 }
 
 /// Examines a text that was read.
-fn examine_text(alloc: Global, layout: &Layout, text: &Text) -> Result<Verdict, NoMem>
+fn examine_text(alloc: Global, layout: &Layout, text: &Text) -> Result<AuditResult, NoMem>
     requires { RisesWhole text.now }
     ensures { IfOk result (Examines layout.now text.now) }
 {
     match text {
         Text::Whole(said, counts) => {
             let finding = judge(alloc, layout, said.claims(), said.stripes(), *counts)?;
-            Ok(Verdict::Judged(finding))
+            Ok(AuditResult::Judged(finding))
         }
-        Text::BadLine(line) => Ok(Verdict::BadForm(*line)),
-        Text::TooManyLines => Ok(Verdict::TooMany),
+        Text::BadLine(line) => Ok(AuditResult::BadForm(*line)),
+        Text::TooManyLines => Ok(AuditResult::TooMany),
     }
 }
 
@@ -52,8 +52,8 @@ pub fn examine<S: Source>(
     alloc: Global,
     layout: &Layout,
     source: &mut S,
-    unread: &mut Unread,
-) -> Result<Verdict, IoFault>
+    unread: &mut LineReader,
+) -> Result<AuditResult, IoFault>
     ensures verdict { IfOk result (ExaminesLeft layout.now (prepend_known unread.old (S.told source.old))) }
     ensures end { IfOk result (λ verdict. EndsJudged verdict (prepend_known unread.new (S.told source.new))) }
     ensures reads { TextReads unread.old (S.told source.old) (S.told source.new) (S.came source.new) (source.new ≡ source.old)

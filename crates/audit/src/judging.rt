@@ -15,7 +15,7 @@ use crate::sweeps::{StripeName, first_missing, first_stop, happened_in};
 use fab_base::NoMem;
 use layout::Layout;
 use std::alloc::Global;
-use transcript::{Claim, Counts, Outcome, StripeLine};
+use transcript::{Counts, ParsedAnswer, ParsedMark, StripeLine};
 
 /// The first so many lines.
 fn front(lines: &[StripeLine], count: usize) -> &[StripeLine]
@@ -43,7 +43,7 @@ fn name_at(lines: &[StripeLine], place: usize) -> Option<StripeName>
 fn first_bad(
     alloc: Global,
     layout: &Layout,
-    claims: &[Claim],
+    claims: &[ParsedMark],
     review: &Review,
     lines: &[StripeLine],
 ) -> Result<Option<StripeName>, NoMem>
@@ -66,67 +66,67 @@ fn first_bad(
 }
 
 /// Whether a mark is an End that is no abort.
-fn is_answer(claim: &Claim) -> bool
+fn is_answer(claim: &ParsedMark) -> bool
     ensures { result ≡ is_answered (mark_of claim.now) }
 {
     match claim {
-        Claim::End { outcome, .. } => match outcome {
-            Outcome::Data(_) | Outcome::Done => true,
-            Outcome::Aborted(_) => false,
+        ParsedMark::End { outcome, .. } => match outcome {
+            ParsedAnswer::Data(_) | ParsedAnswer::Done => true,
+            ParsedAnswer::Aborted(_) => false,
         },
-        Claim::Begin { .. } | Claim::Crash { .. } => false,
+        ParsedMark::Begin { .. } | ParsedMark::Crash { .. } => false,
     }
 }
 
 /// Whether a mark is an End that is an abort.
-fn is_abort(claim: &Claim) -> bool
+fn is_abort(claim: &ParsedMark) -> bool
     ensures { result ≡ is_aborted (mark_of claim.now) }
 {
     match claim {
-        Claim::End { outcome, .. } => match outcome {
-            Outcome::Data(_) | Outcome::Done => false,
-            Outcome::Aborted(_) => true,
+        ParsedMark::End { outcome, .. } => match outcome {
+            ParsedAnswer::Data(_) | ParsedAnswer::Done => false,
+            ParsedAnswer::Aborted(_) => true,
         },
-        Claim::Begin { .. } | Claim::Crash { .. } => false,
+        ParsedMark::Begin { .. } | ParsedMark::Crash { .. } => false,
     }
 }
 
 /// How many operations began.
-fn count_begun(claims: &[Claim]) -> usize
+fn count_begun(claims: &[ParsedMark]) -> usize
     ensures { result ≡ count_by (λ claim. is_begin (mark_of claim)) claims.now }
 {
     claims
         .iter()
-        .filter(|claim| matches!(claim, Claim::Begin { .. }))
+        .filter(|claim| matches!(claim, ParsedMark::Begin { .. }))
         .count()
 }
 
 /// How many operations were answered.
-fn count_answered(claims: &[Claim]) -> usize
+fn count_answered(claims: &[ParsedMark]) -> usize
     ensures { result ≡ count_by (λ claim. is_answered (mark_of claim)) claims.now }
 {
     claims.iter().filter(|claim| is_answer(claim)).count()
 }
 
 /// How many operations were aborted.
-fn count_aborted(claims: &[Claim]) -> usize
+fn count_aborted(claims: &[ParsedMark]) -> usize
     ensures { result ≡ count_by (λ claim. is_aborted (mark_of claim)) claims.now }
 {
     claims.iter().filter(|claim| is_abort(claim)).count()
 }
 
 /// How many bricks crashed.
-fn count_crashes(claims: &[Claim]) -> usize
+fn count_crashes(claims: &[ParsedMark]) -> usize
     ensures { result ≡ count_by (λ claim. is_crash (mark_of claim)) claims.now }
 {
     claims
         .iter()
-        .filter(|claim| matches!(claim, Claim::Crash { .. }))
+        .filter(|claim| matches!(claim, ParsedMark::Crash { .. }))
         .count()
 }
 
 /// Whether the counts are those of the marks.
-fn counts_hold(counts: Counts, claims: &[Claim]) -> bool
+fn counts_hold(counts: Counts, claims: &[ParsedMark]) -> bool
     ensures { CountsAnswer counts (marks_of claims.now) result }
 {
     counts.begun == count_begun(claims) as u64
@@ -140,7 +140,7 @@ fn counts_hold(counts: Counts, claims: &[Claim]) -> bool
 pub fn judge(
     alloc: Global,
     layout: &Layout,
-    claims: &[Claim],
+    claims: &[ParsedMark],
     lines: &[StripeLine],
     counts: Counts,
 ) -> Result<Finding, NoMem>

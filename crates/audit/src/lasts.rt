@@ -4,7 +4,7 @@ use crate::operations::Operation;
 use fab_base::NoMem;
 use std::alloc::Global;
 use std::collections::BTreeMap;
-use transcript::Claim;
+use transcript::ParsedMark;
 
 /// One past the last mark of each stripe, and one past the last crash, which is a mark of every stripe.
 #[derive(Drop)]
@@ -50,19 +50,19 @@ impl LastMarks {
     pub(crate) fn take(
         &mut self,
         found: &[Operation],
-        claim: &Claim,
+        claim: &ParsedMark,
         past: u64,
     ) -> Result<(), NoMem>
         requires { (g s : ℕ) → last_at self.old g s ≤ past }
         ensures { OnOk result ((g s : ℕ) → last_at self.new g s ≡ (if touches found.now claim.now g s then past else last_at self.old g s)) }
     {
         match claim {
-            Claim::Begin { group, stripe, .. } => self.touch(*group, *stripe, past),
-            Claim::End { operation, .. } => match operation.checked_sub(1) {
+            ParsedMark::Begin { group, stripe, .. } => self.touch(*group, *stripe, past),
+            ParsedMark::End { operation, .. } => match operation.checked_sub(1) {
                 Some(at) => self.touch_of(found, at as usize, past),
                 None => self.touch_of(found, 0, past),
             },
-            Claim::Crash { .. } => {
+            ParsedMark::Crash { .. } => {
                 self.crash = past;
                 Ok(())
             }

@@ -15,6 +15,6 @@ mod reviews;
 mod sweeps;
 mod walks;
 
-pub use examining::{Verdict, examine};
+pub use examining::{AuditResult, examine};
 pub use findings::Finding;
 pub use judging::judge;

@@ -9,7 +9,7 @@ use layout::{Group, Layout};
 use lines::Access;
 use std::alloc::Global;
 use std::marker::Model;
-use transcript::{Claim, Outcome};
+use transcript::{ParsedAnswer, ParsedMark};
 
 /// An operation. Places are those of marks in the text, which are their positions.
 #[derive(Clone, Copy)]
@@ -44,7 +44,7 @@ impl Model for Operations {
 }
 
 /// What the Begin at a place asks.
-pub(crate) fn access_at(claims: &[Claim], place: usize) -> Option<&Access>
+pub(crate) fn access_at(claims: &[ParsedMark], place: usize) -> Option<&Access>
     ensures { option_copied result ≡ access_of (slice_get claims.now place) }
 {
     match claims.get(place) {
@@ -54,17 +54,17 @@ pub(crate) fn access_at(claims: &[Claim], place: usize) -> Option<&Access>
 }
 
 /// What a Begin asks.
-fn access_in(claim: &Claim) -> Option<&Access>
+fn access_in(claim: &ParsedMark) -> Option<&Access>
     ensures { option_copied result ≡ access_of (Some claim.now) }
 {
     match claim {
-        Claim::Begin { access, .. } => Some(access),
-        Claim::End { .. } | Claim::Crash { .. } => None,
+        ParsedMark::Begin { access, .. } => Some(access),
+        ParsedMark::End { .. } | ParsedMark::Crash { .. } => None,
     }
 }
 
 /// What the End at a place answers.
-pub(crate) fn outcome_at(claims: &[Claim], place: usize) -> Option<&Outcome>
+pub(crate) fn outcome_at(claims: &[ParsedMark], place: usize) -> Option<&ParsedAnswer>
     ensures { option_copied result ≡ outcome_of (slice_get claims.now place) }
 {
     match claims.get(place) {
@@ -74,12 +74,12 @@ pub(crate) fn outcome_at(claims: &[Claim], place: usize) -> Option<&Outcome>
 }
 
 /// What an End answers.
-fn outcome_in(claim: &Claim) -> Option<&Outcome>
+fn outcome_in(claim: &ParsedMark) -> Option<&ParsedAnswer>
     ensures { option_copied result ≡ outcome_of (Some claim.now) }
 {
     match claim {
-        Claim::End { outcome, .. } => Some(outcome),
-        Claim::Begin { .. } | Claim::Crash { .. } => None,
+        ParsedMark::End { outcome, .. } => Some(outcome),
+        ParsedMark::Begin { .. } | ParsedMark::Crash { .. } => None,
     }
 }
 
@@ -131,13 +131,13 @@ fn is_write(access: Option<&Access>) -> bool
 }
 
 /// Whether an answer's word is that of what was asked.
-fn word_fits(access: Option<&Access>, outcome: &Outcome) -> bool
+fn word_fits(access: Option<&Access>, outcome: &ParsedAnswer) -> bool
     ensures { result ≡ word_fits (access_or (option_copied access.entry)) outcome.now }
 {
     match outcome {
-        Outcome::Data(_) => !is_write(access),
-        Outcome::Done => is_write(access),
-        Outcome::Aborted(_) => true,
+        ParsedAnswer::Data(_) => !is_write(access),
+        ParsedAnswer::Done => is_write(access),
+        ParsedAnswer::Aborted(_) => true,
     }
 }
 
@@ -194,7 +194,7 @@ impl Operations {
     }
 
     /// Whether the operation at a place may end so.
-    fn may_end(&self, claims: &[Claim], place: usize, outcome: &Outcome) -> bool
+    fn may_end(&self, claims: &[ParsedMark], place: usize, outcome: &ParsedAnswer) -> bool
         ensures { result ≡ may_end claims.now self.now.crashes (slice_get self.now.found place) outcome.now }
     {
         match self.found.as_slice().get(place) {
@@ -210,14 +210,14 @@ impl Operations {
     pub(crate) fn take(
         &mut self,
         layout: &Layout,
-        claims: &[Claim],
+        claims: &[ParsedMark],
         place: usize,
-        claim: &Claim,
+        claim: &ParsedMark,
     ) -> Result<bool, NoMem>
         ensures { IfOk result (λ taken. after_claim layout.now claims.now self.old place claim.now ≡ (if taken then Some self.new else None)) }
     {
         match claim {
-            Claim::Begin {
+            ParsedMark::Begin {
                 position,
                 operation,
                 brick,
@@ -232,7 +232,7 @@ impl Operations {
                 }
                 self.begin(place, *operation, *brick as usize, *group, *stripe)
             }
-            Claim::End {
+            ParsedMark::End {
                 position,
                 operation,
                 outcome,
@@ -242,7 +242,7 @@ impl Operations {
                 }
                 Ok(self.end(claims, place, *operation, outcome))
             }
-            Claim::Crash { position, brick } => {
+            ParsedMark::Crash { position, brick } => {
                 if *position != place as u64 {
                     return Ok(false);
                 }
@@ -280,7 +280,13 @@ impl Operations {
 
     /// An operation ends, and answers whether it may.
     #[tactic(auto, unfolding(crate::specs::Operations::ends_at))]
-    fn end(&mut self, claims: &[Claim], place: usize, operation: u64, outcome: &Outcome) -> bool
+    fn end(
+        &mut self,
+        claims: &[ParsedMark],
+        place: usize,
+        operation: u64,
+        outcome: &ParsedAnswer,
+    ) -> bool
         ensures { ends_at claims.now self.old place operation outcome.now ≡ (if result then Some self.new else None) }
     {
         if operation == 0 {

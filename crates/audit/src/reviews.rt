@@ -10,7 +10,7 @@ use crate::operations::Operations;
 use fab_base::NoMem;
 use layout::Layout;
 use std::alloc::Global;
-use transcript::Claim;
+use transcript::ParsedMark;
 
 /// What is kept of marks that hold.
 #[derive(Drop)]
@@ -25,7 +25,7 @@ pub(crate) struct Review {
 pub(crate) fn go_through(
     alloc: Global,
     layout: &Layout,
-    claims: &[Claim],
+    claims: &[ParsedMark],
 ) -> Result<Option<Review>, NoMem>
     ensures { IfOk result (λ found. MatchOption found (MarksHold layout.now (marks_of claims.now) → ⊥) (Reviews layout.now claims.now)) }
 {

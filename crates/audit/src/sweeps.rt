@@ -12,7 +12,7 @@ use fab_base::NoMem;
 use layout::{Group, Layout};
 use reg_model::Happening;
 use std::alloc::Global;
-use transcript::{Claim, Outcome, StripeLine};
+use transcript::{ParsedAnswer, ParsedMark, StripeLine};
 
 /// A stripe, by its group and its number there.
 #[derive(Clone, Copy)]
@@ -49,7 +49,7 @@ fn none_happened(alloc: Global, count: usize) -> Result<Vec<bool>, NoMem>
 fn line_goes(
     alloc: Global,
     layout: &Layout,
-    claims: &[Claim],
+    claims: &[ParsedMark],
     review: &Review,
     line: &StripeLine,
     happened: &mut [bool],
@@ -87,7 +87,7 @@ fn line_goes(
 fn stop_among(
     alloc: Global,
     layout: &Layout,
-    claims: &[Claim],
+    claims: &[ParsedMark],
     review: &Review,
     lines: &[StripeLine],
     happened: &mut [bool],
@@ -108,7 +108,7 @@ fn stop_among(
 pub(crate) fn first_stop(
     alloc: Global,
     layout: &Layout,
-    claims: &[Claim],
+    claims: &[ParsedMark],
     review: &Review,
     lines: &[StripeLine],
 ) -> Result<Option<usize>, NoMem>
@@ -155,13 +155,13 @@ pub(crate) fn happened_in(
 }
 
 /// Whether an operation was answered by data or as done.
-fn was_answered(claims: &[Claim], operation: &Operation) -> bool
+fn was_answered(claims: &[ParsedMark], operation: &Operation) -> bool
     ensures { result ≡ was_answered claims.now operation.now.end }
 {
     match operation.end {
         Some(place) => match outcome_at(claims, place) {
-            Some(Outcome::Aborted(_)) => false,
-            Some(Outcome::Data(_)) | Some(Outcome::Done) | None => true,
+            Some(ParsedAnswer::Aborted(_)) => false,
+            Some(ParsedAnswer::Data(_)) | Some(ParsedAnswer::Done) | None => true,
         },
         None => false,
     }
@@ -192,7 +192,7 @@ fn is_before(name: StripeName, other: StripeName) -> bool
 
 /// The earlier of this stripe, where there is one, and that of the operation, where it was answered and did not happen.
 fn with_missing(
-    claims: &[Claim],
+    claims: &[ParsedMark],
     operation: &Operation,
     happened: bool,
     first: Option<StripeName>,
@@ -211,7 +211,7 @@ fn with_missing(
 
 /// The first of this stripe, where there is one, and the stripes of answered operations that did not happen.
 pub(crate) fn first_missing(
-    claims: &[Claim],
+    claims: &[ParsedMark],
     operations: &[Operation],
     happened: &[bool],
     first: Option<StripeName>,

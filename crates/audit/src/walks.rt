@@ -11,7 +11,7 @@ ghost use Rattle.audit.specs.Walks.{LifeFits, life_among, lives_of, walk_from, T
 use crate::operations::{Operation, Operations, access_at, outcome_at};
 use lines::Access;
 use reg_model::Happening;
-use transcript::{Claim, Outcome};
+use transcript::{ParsedAnswer, ParsedMark};
 
 /// Whether these bytes are what a read gives: the data block, or all of them. A write gives nothing that could differ.
 fn reads(access: Option<&Access>, block: usize, registers: &[u8], bytes: &[u8]) -> bool
@@ -47,7 +47,7 @@ fn apply(access: Option<&Access>, block: usize, registers: &mut [u8])
 #[derive(Clone, Copy)]
 pub(crate) struct Stripe<'a> {
     /// The marks of the text.
-    pub claims: &'a [Claim],
+    pub claims: &'a [ParsedMark],
     /// The operations that begin in them.
     pub operations: &'a Operations,
     /// The group.
@@ -80,19 +80,24 @@ fn is_in_time(operations: &Operations, operation: &Operation, past: u64, positio
 }
 
 /// Whether an operation is no answered read, or was answered what the registers hold.
-fn is_read_right(claims: &[Claim], operation: &Operation, block: usize, registers: &[u8]) -> bool
+fn is_read_right(
+    claims: &[ParsedMark],
+    operation: &Operation,
+    block: usize,
+    registers: &[u8],
+) -> bool
     requires { FitsRegisters block registers.now (op_of (access_at claims.now operation.now.begin)) }
     ensures { IsTrue result ↔ IsRead (read_of block (op_of (access_at claims.now operation.now.begin)) registers.now) (data_at claims.now operation.now.end) }
 {
     match operation.end {
         Some(place) => match outcome_at(claims, place) {
-            Some(Outcome::Data(bytes)) => reads(
+            Some(ParsedAnswer::Data(bytes)) => reads(
                 access_at(claims, operation.begin),
                 block,
                 registers,
                 bytes.as_slice(),
             ),
-            Some(Outcome::Done) | Some(Outcome::Aborted(_)) | None => true,
+            Some(ParsedAnswer::Done) | Some(ParsedAnswer::Aborted(_)) | None => true,
         },
         None => true,
     }

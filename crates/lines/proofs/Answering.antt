@@ -5,9 +5,9 @@ use Rattle.std.specs.Io.KnownBytes.{Keeps, IsAtEnd, prepend_known}
 use Rattle.std.proofs.KnownBytes.{Keeps-refl, prepend_known-end}
 use Rattle.lines.specs.Lines.{is_line_feed, raw_lines}
 use Rattle.lines.specs.Reading.{Passes, BeginsLong, Says, IsWhole}
-use Rattle.lines.specs.Unread.{Takes, TakesLast}
-use Rattle.lines.specs.declared.reader.Piece.{Piece}
-use Rattle.lines.specs.declared.reader.Piece.TheVariants.{Whole, Last, Long, Ended}
+use Rattle.lines.specs.LineReader.{Takes, TakesLast}
+use Rattle.lines.specs.declared.reader.NextLine.{NextLine}
+use Rattle.lines.specs.declared.reader.NextLine.TheVariants.{Whole, Last, Long, Ended}
 use Rattle.std.specs.Str.Lines.{strip_carriage_return}
 use Rattle.lines.proofs.RawLines.{raw_lines-feed, raw_lines-last, begins}
 use Rattle.lines.proofs.WholeLines.{feed_found, feed_none, taken_whole, begun_within}
@@ -45,7 +45,7 @@ passes (Some x) None old new line k h = absurd k
 passes (Some x) (Some y) old new line k h = ap raw_lines (sym k) ∙ h y refl
 
 -- the answer where a line feed was found
-pub says_found : (limit at : ℕ) (start now : Option (List ℕ)) (old new : List ℕ) (piece : Piece) → Keeps start (prepend_known old now)
+pub says_found : (limit at : ℕ) (start now : Option (List ℕ)) (old new : List ℕ) (piece : NextLine) → Keeps start (prepend_known old now)
     → position is_line_feed old ≡ Some at → Takes limit (at + 1) old new piece → Says limit start (prepend_known new now) piece
 says_found limit at start now old new (Whole line) k found (is, left, short) =
     (short, passes start now old new line k (λ more _. first_taken at old new more line found is left), subst IsWhole (sym is) (taken_whole old at found))
@@ -79,7 +79,7 @@ says_long limit start now old k none over =
     (k, at_known start now old (BeginsLong limit) k (λ more _. long_front limit old more none over))
 
 -- the answer where nothing more comes
-pub says_last : (limit : ℕ) (start now : Option (List ℕ)) (old new : List ℕ) (piece : Piece) → Keeps start (prepend_known old now)
+pub says_last : (limit : ℕ) (start now : Option (List ℕ)) (old new : List ℕ) (piece : NextLine) → Keeps start (prepend_known old now)
     → position is_line_feed old ≡ None → IsAtEnd now → TakesLast limit old new piece → Says limit start (prepend_known new now) piece
 says_last limit start now old new (Whole line) k none end t = absurd t
 says_last limit start now old new (Last line) k none end (some, is, left, short) = (

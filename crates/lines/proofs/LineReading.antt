@@ -8,9 +8,9 @@ use Rattle.std.proofs.KnownBytes.{Consumes-nil, Consumes-trans, Consumes-kept}
 use Rattle.fab_io.specs.declared.fault.IoFault.{IoFault}
 use Rattle.fab_io.specs.declared.fault.IoFault.TheVariants.{Failed}
 use Rattle.lines.specs.Reading.{IsBegun, IsNeeded, taken_by, LineReads}
-use Rattle.lines.specs.Unread.{Takes, TakesLast, Fills}
-use Rattle.lines.specs.declared.reader.Piece.{Piece}
-use Rattle.lines.specs.declared.reader.Piece.TheVariants.{Whole, Last, Long, Ended}
+use Rattle.lines.specs.LineReader.{Takes, TakesLast, Fills}
+use Rattle.lines.specs.declared.reader.NextLine.{NextLine}
+use Rattle.lines.specs.declared.reader.NextLine.TheVariants.{Whole, Last, Long, Ended}
 
 -- nothing was read
 pub Fills-none : (bytes : List ℕ) (told told_after : Option (List ℕ)) (came : ℕ) → Keeps told told_after → Fills bytes bytes told told_after came
@@ -50,7 +50,7 @@ reads_of limit old mid new a b came untouched taken failed (read, consumed, is, 
     record { read = read; consumes = consumed; bytes = sym is ∙ split; needed = needed; begun = begun }
 
 -- an error, where what is at hand is of a line that was begun
-pub reads_err : (limit : ℕ) (old new : List ℕ) (a b : Option (List ℕ)) (came : ℕ) (untouched : Type 0) (answer : Result Piece IoFault) → IsErr answer
+pub reads_err : (limit : ℕ) (old new : List ℕ) (a b : Option (List ℕ)) (came : ℕ) (untouched : Type 0) (answer : Result NextLine IoFault) → IsErr answer
     → HasRead limit old new a b came untouched → IsBegun limit new
     → LineReads limit old new a b came untouched (taken_by answer) (answer ≡ Err Failed)
 reads_err limit old new a b came untouched (Ok piece) is read begun = cc
@@ -58,14 +58,14 @@ reads_err limit old new a b came untouched (Err fault) is read begun =
     reads_of limit old new new a b came untouched [] (Err fault ≡ Err Failed) read refl (λ _. begun)
 
 -- what is taken, and what is left behind it
-pub taken_bytes : (limit len : ℕ) (old new : List ℕ) (piece : Piece) → Takes limit len old new piece → old ≡ taken_by {E = IoFault} (Ok piece) ++ new
+pub taken_bytes : (limit len : ℕ) (old new : List ℕ) (piece : NextLine) → Takes limit len old new piece → old ≡ taken_by {E = IoFault} (Ok piece) ++ new
 taken_bytes limit len old new (Whole line) (is, left, short) =
     sym (ap (λ (l : List ℕ). l ++ new) is ∙ ap (λ (l : List ℕ). take len old ++ l) left ∙ take-append-drop len old)
 taken_bytes limit len old new (Last line) t = absurd t
 taken_bytes limit len old new Long (same, over) = sym same
 taken_bytes limit len old new Ended t = absurd t
 
-pub last_bytes : (limit : ℕ) (old new : List ℕ) (piece : Piece) → TakesLast limit old new piece → old ≡ taken_by {E = IoFault} (Ok piece) ++ new
+pub last_bytes : (limit : ℕ) (old new : List ℕ) (piece : NextLine) → TakesLast limit old new piece → old ≡ taken_by {E = IoFault} (Ok piece) ++ new
 last_bytes limit old new (Whole line) t = absurd t
 last_bytes limit old new (Last line) (some, is, left, short) = sym (ap (λ (l : List ℕ). line ++ l) left ∙ append-nil line ∙ is)
 last_bytes limit old new Long (some, same, over) = sym same

@@ -2,4 +2,4 @@ pub mod Tokens
 pub mod Grammar
 pub mod Lines
 pub mod Reading
-pub mod Unread
+pub mod LineReader

@@ -4,8 +4,8 @@ use Rattle.std.specs.List.{list_any, concat, position}
 use Rattle.std.specs.Io.KnownBytes.{Keeps, Consumes, IsAtEnd}
 use Rattle.std.specs.Str.Lines.{strip_carriage_return}
 use Rattle.lines.specs.Lines.{is_line_feed, raw_lines, content, ends_layout, parts}
-use Rattle.lines.specs.declared.reader.Piece.{Piece}
-use Rattle.lines.specs.declared.reader.Piece.TheVariants.{Whole, Last, Long, Ended}
+use Rattle.lines.specs.declared.reader.NextLine.{NextLine}
+use Rattle.lines.specs.declared.reader.NextLine.TheVariants.{Whole, Last, Long, Ended}
 
 -- the known bytes that were left are these lines, and then those that are left now
 abbrev pub Passes : Option (List ℕ) → Option (List ℕ) → List (List ℕ) → Type 0
@@ -27,7 +27,7 @@ AreWhole [] = ⊤
 AreWhole (line ∷ lines) = IsWhole line × AreWhole lines
 
 -- what an answer to the question for the next line says of the bytes that were left before and are left now
-abbrev pub Says : ℕ → Option (List ℕ) → Option (List ℕ) → Piece → Type 0
+abbrev pub Says : ℕ → Option (List ℕ) → Option (List ℕ) → NextLine → Type 0
 Says limit before now (Whole line) = (length (content line) ≤ limit) × Passes before now (line ∷ []) × IsWhole line
 Says limit before now (Last line) = (length (content line) ≤ limit) × Passes before now (line ∷ []) × IsAtEnd now
 Says limit before now Long = Keeps before now × IfSome before (BeginsLong limit)
@@ -46,7 +46,7 @@ IsNeeded undecided unread read came untouched =
     ⊎ ((before : List ℕ) × (last : List ℕ) × (read ≡ before ++ last) × (length last ≤ came) × undecided (unread ++ before))
 
 -- the bytes that an answer takes
-abbrev pub taken_by : {E : Type 0} → Result Piece E → List ℕ
+abbrev pub taken_by : {E : Type 0} → Result NextLine E → List ℕ
 taken_by (Ok (Whole line)) = line
 taken_by (Ok (Last line)) = line
 taken_by (Ok Long) = []

@@ -10,5 +10,5 @@ mod tokens;
 pub use brick_lists::BrickList;
 pub use contents::{content_of, is_layout_end};
 pub use forms::{Access, Fault, LINE_LIMIT, Line, parse};
-pub use reader::{Piece, READ_LEN, Unread};
+pub use reader::{LineReader, NextLine, READ_LEN};
 pub use tokens::{parse_hex, parse_number};

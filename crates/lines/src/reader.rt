@@ -4,7 +4,7 @@ ghost use Rattle.std.specs.Io.KnownBytes.{Keeps, IsAtEnd, prepend_known};
 ghost use Rattle.fab_io.specs.Ends.{Kept};
 ghost use Rattle.lines.specs.Lines.{is_line_feed};
 ghost use Rattle.lines.specs.Reading.{Says, LineReads, taken_by};
-ghost use Rattle.lines.specs.Unread.{Takes, TakesLast, Fills};
+ghost use Rattle.lines.specs.LineReader.{Takes, TakesLast, Fills};
 
 use crate::contents::{content_of, without_return};
 use fab_base::Bytes;
@@ -17,7 +17,7 @@ pub const READ_LEN: usize = 4096;
 
 /// An answer to the question for the next line.
 #[derive(Drop)]
-pub enum Piece {
+pub enum NextLine {
     /// The next line, with its line feed. It was taken.
     Whole(Bytes),
     /// The last line, which lacks its line feed. It was taken, and the source is at its end.
@@ -31,12 +31,12 @@ pub enum Piece {
 /// Bytes that were read from a source and not yet taken. They are the first of what is left of the input; the others
 /// are still in the source.
 #[derive(Drop)]
-pub struct Unread {
+pub struct LineReader {
     bytes: Vec<u8>,
     taken: usize,
 }
 
-impl Model for Unread {
+impl Model for LineReader {
     ghost use Rattle.std.specs.Prelude.{List, ℕ, ◌≤◌, drop, length};
 
     ghost Value = { List ℕ };
@@ -46,12 +46,12 @@ impl Model for Unread {
     ghost invariant = { λ u. u.taken ≤ length u.bytes.items };
 }
 
-impl Unread {
+impl LineReader {
     /// Nothing was read so far.
-    pub fn new(alloc: Global) -> Unread
+    pub fn new(alloc: Global) -> LineReader
         ensures { result ≡ [] }
     {
-        Unread {
+        LineReader {
             bytes: Vec::new(alloc),
             taken: 0,
         }
@@ -60,11 +60,15 @@ impl Unread {
     /// Takes the next line of the input, which is these bytes and then those of the source.
     ///
     /// A line has at most `limit` bytes, its line feed and the one carriage return before that not counted. Where the
-    /// next one has more, the answer is [`Piece::Long`], as soon as that is seen. No more than the limit and
+    /// next one has more, the answer is [`NextLine::Long`], as soon as that is seen. No more than the limit and
     /// [`READ_LEN`] and two more bytes are held. The source is read only while what is held is of a line that was begun.
     ///
     /// `Failed` comes only where the source failed, and `NoMemory` where there was no memory. Neither takes anything.
-    pub fn next_line<S: Source>(&mut self, source: &mut S, limit: usize) -> Result<Piece, IoFault>
+    pub fn next_line<S: Source>(
+        &mut self,
+        source: &mut S,
+        limit: usize,
+    ) -> Result<NextLine, IoFault>
         ensures says { IfOk result (λ piece. Says limit (prepend_known self.old (S.told source.old))
             (prepend_known self.new (S.told source.new)) piece) }
         ensures err { OnErr result (Keeps (prepend_known self.old (S.told source.old))
@@ -82,7 +86,7 @@ impl Unread {
                 return Ok(self.take(at + 1, limit)?);
             }
             if without_return(self.as_slice()).len() > limit {
-                return Ok(Piece::Long);
+                return Ok(NextLine::Long);
             }
             scanned = held;
             if self.fill(source)? == 0 {
@@ -114,7 +118,7 @@ impl Unread {
     }
 
     /// Takes the first bytes, as a line, where that is within the limit.
-    fn take(&mut self, len: usize, limit: usize) -> Result<Piece, AllocError>
+    fn take(&mut self, len: usize, limit: usize) -> Result<NextLine, AllocError>
         requires { len ≤ length self.old }
         ensures ok { IfOk result (λ piece. Takes limit len self.old self.new piece) }
         ensures err { OnErr result (self.new ≡ self.old) }
@@ -122,24 +126,24 @@ impl Unread {
         let alloc: Global = *self.bytes.allocator();
         let line = &self.bytes[self.taken..self.taken + len];
         if content_of(line).len() > limit {
-            return Ok(Piece::Long);
+            return Ok(NextLine::Long);
         }
         let line = Vec::from_slice(alloc, line)?;
         self.taken += len;
-        Ok(Piece::Whole(Bytes::from_vec(line)))
+        Ok(NextLine::Whole(Bytes::from_vec(line)))
     }
 
     /// Takes all the bytes, as the last line, where there are any and that is within the limit.
-    fn take_last(&mut self, limit: usize) -> Result<Piece, AllocError>
+    fn take_last(&mut self, limit: usize) -> Result<NextLine, AllocError>
         ensures ok { IfOk result (λ piece. TakesLast limit self.old self.new piece) }
         ensures err { OnErr result (self.new ≡ self.old) }
     {
         let held = self.as_slice().len();
         if held == 0 {
-            return Ok(Piece::Ended);
+            return Ok(NextLine::Ended);
         }
         match self.take(held, limit)? {
-            Piece::Whole(line) => Ok(Piece::Last(line)),
+            NextLine::Whole(line) => Ok(NextLine::Last(line)),
             piece => Ok(piece),
         }
     }

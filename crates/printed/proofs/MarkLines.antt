@@ -19,12 +19,12 @@ use Rattle.lines.specs.declared.forms.Access.{Access}
 use Rattle.lines.specs.declared.forms.Access.TheVariants as access
 use Rattle.reg_model.specs.declared.marks.Mark.{Mark}
 use Rattle.reg_model.specs.declared.marks.Mark.TheVariants.{Begin, End, Crash}
-use Rattle.transcript.specs.declared.claims.Claim.{Claim}
-use Rattle.transcript.specs.declared.claims.Claim.TheVariants as claim
-use Rattle.transcript.specs.declared.claims.Outcome.{Outcome}
-use Rattle.transcript.specs.declared.claims.Outcome.TheVariants as outcome
-use Rattle.transcript.specs.declared.claims.Reason.{Reason}
-use Rattle.transcript.specs.declared.claims.Reason.TheVariants as reason
+use Rattle.transcript.specs.declared.claims.ParsedMark.{ParsedMark}
+use Rattle.transcript.specs.declared.claims.ParsedMark.TheVariants as claim
+use Rattle.transcript.specs.declared.claims.ParsedAnswer.{ParsedAnswer}
+use Rattle.transcript.specs.declared.claims.ParsedAnswer.TheVariants as outcome
+use Rattle.transcript.specs.declared.claims.ParsedCause.{ParsedCause}
+use Rattle.transcript.specs.declared.claims.ParsedCause.TheVariants as reason
 use Rattle.transcript.specs.declared.claims.Entry.TheVariants as entry
 use Rattle.transcript.specs.Forms.{begins, ends, read_of, write_of, read_all_of, write_all_of, ask_of, begin_of, data_of, aborted_of, answer_of, end_of, crash_of, mark_at, mark_of_line, happened_of, counts_of, form, entry_of, most_line_bytes}
 use Rattle.transcript.specs.Marks.{op_of, mark_of}
@@ -43,7 +43,7 @@ access_of ReadStripe = access.ReadStripe
 access_of (WriteStripe bytes) = access.WriteStripe bytes
 
 -- why an operation was aborted
-abbrev pub reason_of : Cause → Reason
+abbrev pub reason_of : Cause → ParsedCause
 reason_of (Later brick stamp) =
     reason.Later brick.0 (record { view = stamp.view.0; time = stamp.time; brick = stamp.brick.0; boot = stamp.boot })
 reason_of (Gone brick) = reason.Gone brick.0
@@ -51,13 +51,13 @@ reason_of (Full brick live) = reason.Full brick.0 live
 reason_of (Moved brick view) = reason.Moved brick.0 view.0
 
 -- an answer
-abbrev pub outcome_of : Answer → Outcome
+abbrev pub outcome_of : Answer → ParsedAnswer
 outcome_of (Data bytes) = outcome.Data bytes
 outcome_of Done = outcome.Done
 outcome_of (Aborted cause) = outcome.Aborted (reason_of cause)
 
 -- a mark
-abbrev pub claim_of : Mark → Claim
+abbrev pub claim_of : Mark → ParsedMark
 claim_of (Begin p n b ask) = claim.Begin p n b.0 ask.group.0 ask.stripe.0 (access_of ask.op)
 claim_of (End p n answer) = claim.End p n (outcome_of answer)
 claim_of (Crash p b) = claim.Crash p b.0

@@ -7,7 +7,7 @@ use Rattle.reg_model.specs.declared.marks.Mark.{Mark}
 use Rattle.reg_model.specs.declared.marks.Mark.TheVariants.{Begin, End, Crash}
 use Rattle.reg_model.specs.declared.marks.Happening.{Happening}
 use Rattle.reg_model.specs.Marks.{position_of}
-use Rattle.transcript.specs.declared.claims.Claim.{Claim}
+use Rattle.transcript.specs.declared.claims.ParsedMark.{ParsedMark}
 use Rattle.transcript.specs.declared.claims.Counts.{Counts}
 use Rattle.transcript.specs.declared.claims.StripeLine.{StripeLine}
 use Rattle.transcript.specs.declared.claims.Entry.{Entry}
@@ -48,7 +48,7 @@ reads_one n t u line said few is after more =
 -- marks, and other words
 
 -- so much was said by marks alone
-abbrev pub of_marks : List Claim → Transcribed
+abbrev pub of_marks : List ParsedMark → Transcribed
 of_marks claims = record { claims = claims; stripes = []; counts = None }
 
 -- a mark is claimed at its position
@@ -58,7 +58,7 @@ position_same (End p n answer) = refl
 position_same (Crash p b) = refl
 
 -- a mark at its place leads on
-mark_after : (claims : List Claim) (mark : Mark) → position_of mark ≡ length claims
+mark_after : (claims : List ParsedMark) (mark : Mark) → position_of mark ≡ length claims
     → after_entry (of_marks claims) (entry.Mark (claim_of mark)) ≡ Some (of_marks (claims ++ claim_of mark ∷ []))
 unfolding after_entry
 mark_after claims mark at =
@@ -66,7 +66,7 @@ mark_after claims mark at =
     (eq-eqb (position_said (claim_of mark)) (length claims) (position_same mark ∙ at))
 
 -- so does another word
-other_after : (claims : List Claim) → after_entry (of_marks claims) entry.Other ≡ Some (of_marks claims)
+other_after : (claims : List ParsedMark) → after_entry (of_marks claims) entry.Other ≡ Some (of_marks claims)
 unfolding after_entry
 other_after claims = refl
 
@@ -107,12 +107,12 @@ printed_clear (OfRefusal refusal ∷ printed) reads = ((refusal_piece refusal).c
 printed_clear (OfNothing ∷ printed) reads = (refl, printed_clear printed reads)
 
 -- Printed lines say their marks.
-pub printed_read : (printed : List Printed) (n : ℕ) (claims : List Claim) → n + length printed ≤ most_lines → EachReads (printed_marks printed)
+pub printed_read : (printed : List Printed) (n : ℕ) (claims : List ParsedMark) → n + length printed ≤ most_lines → EachReads (printed_marks printed)
     → EachPlaced (length claims) (printed_marks printed)
     → Reads n (of_marks claims) (map printed_line printed) (n + length printed) (of_marks (claims ++ map claim_of (printed_marks printed)))
 printed_read [] n claims few reads placed more =
     ap (λ (k : ℕ). text_behind k (of_marks claims) more) (let same : n ≡ n + 0 = omega arith in same)
-    ∙ ap (λ (l : List Claim). text_behind (n + 0) (of_marks l) more) (sym (append-nil claims))
+    ∙ ap (λ (l : List ParsedMark). text_behind (n + 0) (of_marks l) more) (sym (append-nil claims))
 printed_read (OfMark mark ∷ printed) n claims few reads placed more =
     reads_one n (of_marks claims) (of_marks (claims ++ claim_of mark ∷ [])) (mark_line mark) (entry.Mark (claim_of mark)) (omega (arith, few))
     (mark_back mark reads.0) (mark_after claims mark placed.0) (map printed_line printed ++ more)
@@ -120,7 +120,7 @@ printed_read (OfMark mark ∷ printed) n claims few reads placed more =
     (subst (λ (k : ℕ). EachPlaced k (printed_marks printed)) (sym (length-append claims (claim_of mark ∷ []))) placed.1) more
     ∙ ap (λ (k : ℕ). text_behind k (of_marks ((claims ++ claim_of mark ∷ []) ++ map claim_of (printed_marks printed))) more)
     (let same : (n + 1) + length printed ≡ n + suc (length printed) = omega arith in same)
-    ∙ ap (λ (l : List Claim). text_behind (n + suc (length printed)) (of_marks l) more)
+    ∙ ap (λ (l : List ParsedMark). text_behind (n + suc (length printed)) (of_marks l) more)
     (append_assoc claims (claim_of mark ∷ []) (map claim_of (printed_marks printed)))
 printed_read (OfRefusal refusal ∷ printed) n claims few reads placed more =
     reads_one n (of_marks claims) (of_marks claims) (refusal_line refusal) entry.Other (omega (arith, few))
@@ -138,7 +138,7 @@ printed_read (OfNothing ∷ printed) n claims few reads placed more =
 -- happenings of stripes
 
 -- so much was said by marks and by the lines of stripes
-abbrev pub of_stripes : List Claim → List StripeLine → Transcribed
+abbrev pub of_stripes : List ParsedMark → List StripeLine → Transcribed
 of_stripes claims stripes = record { claims = claims; stripes = stripes; counts = None }
 
 -- each of these is before a stripe
@@ -181,7 +181,7 @@ before_at (first ∷ lines) line zero before = before_test first line before.0
 before_at (first ∷ lines) line (suc k) before = before_at lines line k before.1
 
 -- the line of a stripe behind the last leads on
-stripe_after : (claims : List Claim) (lines : List StripeLine) (line : StripeLine) → AreBefore lines line.group line.stripe
+stripe_after : (claims : List ParsedMark) (lines : List StripeLine) (line : StripeLine) → AreBefore lines line.group line.stripe
     → after_entry (of_stripes claims lines) (entry.Happened line) ≡ Some (of_stripes claims (lines ++ line ∷ []))
 unfolding after_entry
 stripe_after claims lines line before =
@@ -211,7 +211,7 @@ stripe_clear g s (h ∷ happenings) reads =
     ((happened_piece g s h happenings reads.group reads.stripe reads.each.0 reads.each.1 (let few = reads.few in omega arith)).clear, tt)
 
 -- The line of a stripe says its happenings.
-pub stripe_read : (g s : ℕ) (happenings : List Happening) (n : ℕ) (claims : List Claim) (lines : List StripeLine)
+pub stripe_read : (g s : ℕ) (happenings : List Happening) (n : ℕ) (claims : List ParsedMark) (lines : List StripeLine)
     → n + length (stripe_lines g s happenings) ≤ most_lines → StripeReads g s happenings → AreBefore lines g s
     → Reads n (of_stripes claims lines) (stripe_contents g s happenings) (n + length (stripe_lines g s happenings))
     (of_stripes claims (lines ++ stripe_lines g s happenings))
@@ -227,20 +227,20 @@ stripe_read g s (h ∷ happenings) n claims lines few reads before more =
 -- counts
 
 -- the counts lead on
-counts_after : (claims : List Claim) (lines : List StripeLine) (counts : Counts)
+counts_after : (claims : List ParsedMark) (lines : List StripeLine) (counts : Counts)
     → after_entry (of_stripes claims lines) (entry.Counted counts) ≡ Some (record { claims = claims; stripes = lines; counts = Some counts })
 unfolding after_entry
 counts_after claims lines counts = refl
 
 -- and end the text
-text_ends : (n : ℕ) (claims : List Claim) (lines : List StripeLine) (counts : Counts)
+text_ends : (n : ℕ) (claims : List ParsedMark) (lines : List StripeLine) (counts : Counts)
     → text_behind n (record { claims = claims; stripes = lines; counts = Some counts }) []
     ≡ Whole (record { claims = claims; stripes = lines; counts = Some counts }) counts
 unfolding text_behind
 text_ends n claims lines counts = refl
 
 -- The line of the counts ends a whole text.
-pub counts_end : (n lines : ℕ) (claims : List Claim) (stripes : List StripeLine) (counts : Counts) → n < most_lines → IsSmall lines
+pub counts_end : (n lines : ℕ) (claims : List ParsedMark) (stripes : List StripeLine) (counts : Counts) → n < most_lines → IsSmall lines
     → CountsRead counts
     → text_behind n (of_stripes claims stripes) (counts_line lines counts ∷ [])
     ≡ Whole (record { claims = claims; stripes = stripes; counts = Some counts }) counts

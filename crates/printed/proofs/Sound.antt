@@ -18,7 +18,7 @@ use Rattle.protocol.specs.Happenings.{happenings_of}
 use Rattle.protocol_laws.specs.Laws.{Laws}
 use Rattle.protocol_laws.proofs.BooksEvents.{books}
 use Rattle.protocol_laws.proofs.Numbers.{always_numbered}
-use Rattle.transcript.specs.declared.claims.Claim.{Claim}
+use Rattle.transcript.specs.declared.claims.ParsedMark.{ParsedMark}
 use Rattle.transcript.specs.declared.claims.Counts.{Counts}
 use Rattle.transcript.specs.declared.claims.StripeLine.{StripeLine}
 use Rattle.transcript.specs.declared.readings.Text.{Text}
@@ -28,7 +28,7 @@ use Rattle.transcript.specs.Marks.{marks_of}
 use Rattle.transcript.specs.Transcripts.{text_of}
 use Rattle.audit.specs.Checks.{HasStripe, HoldsIn, StripesHold, CountsHold, MarksHold, happenings_said}
 use Rattle.audit.specs.declared.findings.Finding.TheVariants.{Sound}
-use Rattle.audit.specs.declared.examining.Verdict.TheVariants.{Judged}
+use Rattle.audit.specs.declared.examining.AuditResult.TheVariants.{Judged}
 use Rattle.audit.specs.Examining.{Examines}
 use Rattle.world.specs.Runs.{Step, all_events}
 use Rattle.world.specs.Texts.{newline}
@@ -151,7 +151,7 @@ module _ (layout : Layout) (is : IsLayout layout) (schedule : List (List ℕ)) (
       omega (arith, number, within, begins_are w.marks, begins_few, few))
 
   -- the marks as they are claimed
-  abbrev claims : List Claim
+  abbrev claims : List ParsedMark
   claims = map claim_of w.marks
 
   -- the printed lines say the marks

@@ -16,7 +16,7 @@ use Rattle.reg_model.specs.declared.marks.Mark.TheVariants.{Begin, End, Crash}
 use Rattle.reg_model.specs.declared.marks.Happening.{Happening}
 use Rattle.reg_model.specs.Marks.{Life, life_of, Ending, Answered, Interrupted, ending_of, end_of, position_of, concerns, stripe_marks}
 use Rattle.reg_model.specs.Strict.{IsInTime, IsStrict}
-use Rattle.transcript.specs.declared.claims.Claim.{Claim}
+use Rattle.transcript.specs.declared.claims.ParsedMark.{ParsedMark}
 use Rattle.transcript.specs.declared.claims.StripeLine.{StripeLine}
 use Rattle.transcript.specs.Kinds.{is_begin}
 use Rattle.transcript.specs.Transcripts.{text_behind, most_lines}
@@ -212,7 +212,7 @@ pub record IsStory (layout : Layout) (marks : List Mark) (of : ℕ → ℕ → L
   pub group_small : (g : ℕ) (group : Group) → group_of layout g ≡ Some group → IsSmall g
   pub stripe_small : (g : ℕ) (group : Group) (s : ℕ) → group_of layout g ≡ Some group → s < group.stripes → IsSmall s
 
-module _ (layout : Layout) (marks : List Mark) (of : ℕ → ℕ → List Happening) (story : IsStory layout marks of) (claims : List Claim) (start : ℕ) where
+module _ (layout : Layout) (marks : List Mark) (of : ℕ → ℕ → List Happening) (story : IsStory layout marks of) (claims : List ParsedMark) (start : ℕ) where
   -- an operation that lives in the marks of a stripe has a small number
   lives : (g s n : ℕ) (o : Option Life) → life_of marks n ≡ o → (life : Life) → life_of (stripe_marks g s marks) n ≡ Some life → n ≤ 1500000
   lives g s n None none life is = absurd (let never : None ≡ Some life = sym (none_filtered (concerns g s marks) marks n none) ∙ is in cc)

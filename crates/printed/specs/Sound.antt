@@ -4,7 +4,7 @@ use Rattle.fab_base.specs.Layouts.{Layout}
 use Rattle.lines.specs.Lines.{raw_lines, content}
 use Rattle.transcript.specs.Transcripts.{text_of}
 use Rattle.audit.specs.declared.findings.Finding.TheVariants.{Sound}
-use Rattle.audit.specs.declared.examining.Verdict.TheVariants.{Judged}
+use Rattle.audit.specs.declared.examining.AuditResult.TheVariants.{Judged}
 use Rattle.audit.specs.Examining.{Examines}
 
 -- Its lines have the forms of a whole text, in their order and within its limits; and under the layout its marks hold, the happenings

@@ -12,11 +12,11 @@ use Rattle.lines.specs.Reading.{ReadsSchedule}
 use Rattle.lines.proofs.Needs.{IsNeeded-map}
 use Rattle.transcript.specs.Transcripts.{text_of, text_behind}
 use Rattle.transcript.specs.Readings.{TextSoFar, TextReads}
-use Rattle.audit.specs.declared.examining.Verdict.{Verdict as Found}
-use Rattle.audit.specs.declared.examining.Verdict.TheVariants.{Judged, BadForm, TooMany}
+use Rattle.audit.specs.declared.examining.AuditResult.{AuditResult}
+use Rattle.audit.specs.declared.examining.AuditResult.TheVariants.{Judged, BadForm, TooMany}
 use Rattle.audit.specs.Examining.{Examines, ExaminesLeft}
 use Rattle.audit.proofs.OneVerdict.{verdict_alone}
-use Rattle.replay.specs.declared.endings.Verdict.{Verdict}
+use Rattle.replay.specs.declared.endings.RunResult.{RunResult}
 use Rattle.replay.specs.declared.endings.Halt.{Halt}
 use Rattle.replay.specs.declared.endings.Halt.TheVariants.{Source, Sink, Memory}
 use Rattle.replay.specs.declared.audits.Audited.{Audited}
@@ -41,7 +41,7 @@ with_alone : (layout : Result Layout LayoutFault) (lines : List (List ℕ)) (one
     → AuditsWith layout lines other → other ≡ one
 with_alone (Err fault) lines one other p q = q ∙ sym p
 with_alone (Ok layout) lines one other p q =
-    q.2 ∙ ap (λ (f : Found). Examined f) (verdict_alone layout (text_of lines) p.0 q.0 p.1 q.1) ∙ sym p.2
+    q.2 ∙ ap (λ (f : AuditResult). Examined f) (verdict_alone layout (text_of lines) p.0 q.0 p.1 q.1) ∙ sym p.2
 
 -- what is found of an input is found alone
 finds_alone : (input : Input) (one other : Audited) → Audits input one → Audits input other → other ≡ one
@@ -89,7 +89,7 @@ FindsIn-behind first unread source source_after left head audited none reads und
 )
 
 -- this was found of the lines that are left
-pub left_found : (head : List ℕ) (layout : Layout) (left : Option (List ℕ)) (found : Found) → audited_layout_of head ≡ Ok layout
+pub left_found : (head : List ℕ) (layout : Layout) (left : Option (List ℕ)) (found : AuditResult) → audited_layout_of head ≡ Ok layout
     → ExaminesLeft layout left found → FindsLeft head left (Examined found)
 left_found head layout None found is p = tt
 left_found head layout (Some bytes) found is p =
@@ -158,12 +158,12 @@ ReadsPart-sink told told_after old new came untouched failed stopped cause r = r
 }
 
 -- an audit that neither end stopped answers what the input calls for, or was stopped for want of memory
-pub audit_decided : (source source_after old new : Option (List ℕ)) (ending : Result Verdict Halt)
+pub audit_decided : (source source_after old new : Option (List ℕ)) (ending : Result RunResult Halt)
     → AuditPrints (FindsIn source source_after) old new ending → (ending ≡ Err Source → ⊥) → (ending ≡ Err Sink → ⊥)
     → IsAuditDecided source (status_of ending)
 audit_decided None source_after old new ending p no_source no_sink = tt
 audit_decided (Some bytes) source_after old new (Ok one) p no_source no_sink =
-    inl (p.0, p.1.0, ap (λ (v : Verdict). status_of (Ok v)) p.2)
+    inl (p.0, p.1.0, ap (λ (v : RunResult). status_of (Ok v)) p.2)
 audit_decided (Some bytes) source_after old new (Err Source) p no_source no_sink = absurd (no_source refl)
 audit_decided (Some bytes) source_after old new (Err Sink) p no_source no_sink = absurd (no_sink refl)
 audit_decided (Some bytes) source_after old new (Err Memory) p no_source no_sink = inr refl

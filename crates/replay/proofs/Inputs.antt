@@ -10,8 +10,8 @@ use Rattle.stripe_code.specs.Codes.{coding}
 use Rattle.protocol.specs.Worlds.{World, first_world}
 use Rattle.world.specs.Runs.{Run, world_of}
 use Rattle.world.specs.Disks.{ShowsDisks}
-use Rattle.replay.specs.declared.endings.Verdict.{Verdict}
-use Rattle.replay.specs.declared.endings.Verdict.TheVariants as verdict
+use Rattle.replay.specs.declared.endings.RunResult.{RunResult}
+use Rattle.replay.specs.declared.endings.RunResult.TheVariants as verdict
 use Rattle.replay.specs.declared.endings.Halt.{Halt}
 use Rattle.replay.specs.Inputs.{Input, Parted, TooLong, Endless, most_layout_bytes, input_of, IsInput}
 use Rattle.printed.specs.Outputs.{left_by, steps_text}
@@ -24,7 +24,7 @@ use Rattle.replay.proofs.Steppings.{after_steps, after_steps-all, leads_world}
 use Rattle.replay.proofs.Printing.{Prints-nothing, Prints-same, stops_not}
 
 -- an input without a layout does not end as whole
-refused_not : (old new : Option (List ℕ)) (why : List ℕ) (r : Result Verdict Halt) → Prints old new (bad_layout why) r → r ≡ Ok verdict.Whole → ⊥
+refused_not : (old new : Option (List ℕ)) (why : List ℕ) (r : Result RunResult Halt) → Prints old new (bad_layout why) r → r ≡ Ok verdict.Whole → ⊥
 refused_not old new why (Ok one) p e = (let bad : Some verdict.BadLayout ≡ Some one = p.0 in let same : one ≡ verdict.Whole = cc in cc)
 refused_not old new why (Err halt) p e = stops_not halt e
 
@@ -50,7 +50,7 @@ PrintsHeaded-stopped head left old halt =
     }
 
 -- the text has this output, whatever stands behind it
-pub PrintsHeaded-refused : (head : List ℕ) (left old new : Option (List ℕ)) (r : Result Verdict Halt) (why : List ℕ)
+pub PrintsHeaded-refused : (head : List ℕ) (left old new : Option (List ℕ)) (r : Result RunResult Halt) (why : List ℕ)
     → ((schedule : List (List ℕ)) → output_of [] (Parted head schedule) ≡ bad_layout why) → Prints old new (bad_layout why) r
     → PrintsHeaded head left old new r
 PrintsHeaded-refused head left old new r why is p =
@@ -64,7 +64,7 @@ PrintsHeaded-refused head left old new r why is p =
     }
 
 -- the layout was read, and the lines behind it were run
-pub PrintsHeaded-lines : (head : List ℕ) (layout : Layout) (run : Run) (left old new : Option (List ℕ)) (r : Result Verdict Halt)
+pub PrintsHeaded-lines : (head : List ℕ) (layout : Layout) (run : Run) (left old new : Option (List ℕ)) (r : Result RunResult Halt)
     → layout_of head ≡ Ok layout
     → run ≡ record { layout = layout; steps = []; disks = run.disks } → ShowsDisks run → PrintsRest run 0 left old new r
     → PrintsHeaded head left old new r
@@ -102,7 +102,7 @@ PrintsHeaded-lines head layout run left old new r is first fresh p =
     }
 
 -- the output of an equal layout's text
-pub PrintsHeaded-head : (head other : List ℕ) (left old new : Option (List ℕ)) (r : Result Verdict Halt) → head ≡ other
+pub PrintsHeaded-head : (head other : List ℕ) (left old new : Option (List ℕ)) (r : Result RunResult Halt) → head ≡ other
     → PrintsHeaded head left old new r
     → PrintsHeaded other left old new r
 PrintsHeaded-head head other left old new r e p = subst (λ (l : List ℕ). PrintsHeaded l left old new r) e p
@@ -122,7 +122,7 @@ PrintsInput-stopped None old halt = stopped_input Endless None old halt tt
 PrintsInput-stopped (Some bytes) old halt = stopped_input (input_of bytes) (Some bytes) old halt refl
 
 -- the input has no layout
-pub PrintsInput-refused : (source old new : Option (List ℕ)) (input : Input) (why : List ℕ) (r : Result Verdict Halt) → IsInput source input
+pub PrintsInput-refused : (source old new : Option (List ℕ)) (input : Input) (why : List ℕ) (r : Result RunResult Halt) → IsInput source input
     → output_of [] input ≡ bad_layout why → Prints old new (bad_layout why) r → PrintsInput source old new r
 PrintsInput-refused source old new input why r is_input is p = record {
   input = input;
@@ -139,7 +139,7 @@ unfolding input_of
 input_of-parts bytes head schedule under is = rw is (within head (Parted head schedule) under)
 
 -- the layout was taken, and what stands behind it was run
-pub PrintsInput-headed : (source left old new : Option (List ℕ)) (head : List ℕ) (r : Result Verdict Halt) → ReadsSchedule source left head []
+pub PrintsInput-headed : (source left old new : Option (List ℕ)) (head : List ℕ) (r : Result RunResult Halt) → ReadsSchedule source left head []
     → length head ≤ most_layout_bytes → PrintsHeaded head left old new r → PrintsInput source old new r
 PrintsInput-headed source left old new head r reads under p =
     record {
@@ -158,7 +158,7 @@ PrintsInput-headed source left old new head r reads under p =
         (reads ∙ ap (λ l. Some (record { layout = head; schedule = l })) lines)
 
 -- bytes that were not read yet stand before those of the source
-pub PrintsInput-unread : (unread : List ℕ) (source old new : Option (List ℕ)) (r : Result Verdict Halt) → unread ≡ []
+pub PrintsInput-unread : (unread : List ℕ) (source old new : Option (List ℕ)) (r : Result RunResult Halt) → unread ≡ []
     → PrintsInput (prepend_known unread source) old new r → PrintsInput source old new r
 PrintsInput-unread unread source old new r none p =
     subst (λ (s : Option (List ℕ)). PrintsInput s old new r) (ap (λ u. prepend_known u source) none ∙ prepend_known-nil source) p

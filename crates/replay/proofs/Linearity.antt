@@ -13,8 +13,8 @@ use Rattle.layout.specs.Limits.{IsLayout}
 use Rattle.layout.proofs.Accepted.{accepted_is}
 use Rattle.world.specs.Runs.{Step}
 use Rattle.world.proofs.RunLaws.{laws_of}
-use Rattle.replay.specs.declared.endings.Verdict.{Verdict}
-use Rattle.replay.specs.declared.endings.Verdict.TheVariants.{Whole, BadLine, TooManyLines}
+use Rattle.replay.specs.declared.endings.RunResult.{RunResult}
+use Rattle.replay.specs.declared.endings.RunResult.TheVariants.{Whole, BadLine, TooManyLines}
 use Rattle.replay.specs.declared.endings.Halt.{Halt}
 use Rattle.replay.specs.Inputs.{Input, Parted}
 use Rattle.printed.specs.Outputs.{left_by, steps_text, closing_text, most_lines}
@@ -53,7 +53,7 @@ none_left layout w n [] whole = refl
 none_left layout w n (content ∷ rest) whole = absurd (line_left n (nat_lt n most_lines) (line_of content) whole)
 
 -- what was printed of an input that ends as whole is strict
-pub linearizable : (input : Input) (steps : List Step) (ending : Result Verdict Halt) → ending ≡ Ok Whole → AreStepsIn input steps ending
+pub linearizable : (input : Input) (steps : List Step) (ending : Result RunResult Halt) → ending ≡ Ok Whole → AreStepsIn input steps ending
     → (output_of steps input).verdict ≡ Some Whole → IsLinearizable input (output_of steps input).text
 linearizable input steps ending all are whole =
     elim are [

@@ -13,8 +13,8 @@ use Rattle.layout.specs.declared.faults.LayoutFault.{LayoutFault}
 use Rattle.layout.specs.Texts.{layout_of}
 use Rattle.protocol.specs.Worlds.{World, first_world}
 use Rattle.world.specs.Runs.{Step}
-use Rattle.replay.specs.declared.endings.Verdict.{Verdict}
-use Rattle.replay.specs.declared.endings.Verdict.TheVariants.{Whole, BadLayout, BadLine, TooManyLines}
+use Rattle.replay.specs.declared.endings.RunResult.{RunResult}
+use Rattle.replay.specs.declared.endings.RunResult.TheVariants.{Whole, BadLayout, BadLine, TooManyLines}
 use Rattle.replay.specs.declared.endings.Halt.{Halt}
 use Rattle.replay.specs.Inputs.{Input, Parted, TooLong, Endless}
 use Rattle.printed.specs.Outputs.{left_by, steps_text, most_lines}
@@ -94,13 +94,13 @@ verdict_skip n (content ∷ done) behind (step ∷ steps) are few =
     ∙ ap (λ (k : ℕ). verdict_behind k behind) count
 
 -- an output that ends so ends as its lines call for
-line_ends : (n : ℕ) (under : Bool) (line : Option Line) (behind one : Verdict) → (output_line n under line).verdict ≡ Some one
+line_ends : (n : ℕ) (under : Bool) (line : Option Line) (behind one : RunResult) → (output_line n under line).verdict ≡ Some one
     → verdict_line n under line behind ≡ one
 line_ends n false line behind one is = same_Some TooManyLines one is
 line_ends n true None behind one is = same_Some (BadLine (n + 1)) one is
 line_ends n true (Some line) behind one is = let never : None ≡ Some one = is in cc
 
-behind_ends : (layout : Layout) (w : World) (n : ℕ) (behind : List (List ℕ)) (one : Verdict) → (output_behind layout w n behind).verdict ≡ Some one
+behind_ends : (layout : Layout) (w : World) (n : ℕ) (behind : List (List ℕ)) (one : RunResult) → (output_behind layout w n behind).verdict ≡ Some one
     → verdict_behind n behind ≡ one
 unfolding output_behind verdict_behind
 behind_ends layout w n [] one is = same_Some Whole one is
@@ -108,12 +108,12 @@ behind_ends layout w n (content ∷ contents) one is =
     line_ends n (nat_lt n most_lines) (line_of content) (verdict_behind (n + 1) contents) one is
 
 -- where no step was run
-with_ends : (r : Result Layout LayoutFault) (schedule : List (List ℕ)) (one : Verdict) → (output_with r [] schedule).verdict ≡ Some one
+with_ends : (r : Result Layout LayoutFault) (schedule : List (List ℕ)) (one : RunResult) → (output_with r [] schedule).verdict ≡ Some one
     → verdict_with r schedule ≡ one
 with_ends (Err fault) schedule one is = same_Some BadLayout one is
 with_ends (Ok layout) schedule one is = behind_ends layout (left_by layout []) 0 schedule one is
 
-none_ends : (input : Input) (one : Verdict) → (output_of [] input).verdict ≡ Some one → verdict_of input ≡ one
+none_ends : (input : Input) (one : RunResult) → (output_of [] input).verdict ≡ Some one → verdict_of input ≡ one
 unfolding output_of verdict_of
 none_ends (Parted head schedule) one is = with_ends (layout_of head) schedule one is
 none_ends TooLong one is = same_Some BadLayout one is
@@ -126,7 +126,7 @@ unfolding verdict_of
 verdict_of-text head layout schedule is = ap (λ (r : Result Layout LayoutFault). verdict_with r schedule) is
 
 -- how an output ends is for the input alone to say
-pub verdict_alone : (input : Input) (steps : List Step) (ending : Result Verdict Halt) (one : Verdict) → AreStepsIn input steps ending
+pub verdict_alone : (input : Input) (steps : List Step) (ending : Result RunResult Halt) (one : RunResult) → AreStepsIn input steps ending
     → (output_of steps input).verdict ≡ Some one → verdict_of input ≡ one
 verdict_alone input steps ending one are is =
     elim are [

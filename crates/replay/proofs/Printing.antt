@@ -3,21 +3,21 @@ use Rattle.std.proofs.Common.{◌≡◌, ℕ, List, [], Option, Some, Result, Ok
 use Rattle.std.specs.Io.KnownBytes.{Keeps, Appends}
 use Rattle.std.proofs.KnownBytes.{Appends-trans, Keeps-refl}
 use Rattle.fab_io.proofs.Content.{Appends-none, AppendsFront-none, AppendsFront-after}
-use Rattle.replay.specs.declared.endings.Verdict.{Verdict}
-use Rattle.replay.specs.declared.endings.Verdict.TheVariants as verdict
+use Rattle.replay.specs.declared.endings.RunResult.{RunResult}
+use Rattle.replay.specs.declared.endings.RunResult.TheVariants as verdict
 use Rattle.replay.specs.declared.endings.Halt.{Halt}
 use Rattle.replay.specs.declared.endings.Halt.TheVariants.{Source, Memory}
 use Rattle.replay.specs.Outputs.{Output, onto}
 use Rattle.replay.specs.Turns.{Prints}
 
 -- a text, and then the rest of the output
-pub Prints-after : (a b c : Option (List ℕ)) (text : List ℕ) (output : Output) (r : Result Verdict Halt) → Appends a b text → Prints b c output r
+pub Prints-after : (a b c : Option (List ℕ)) (text : List ℕ) (output : Output) (r : Result RunResult Halt) → Appends a b text → Prints b c output r
     → Prints a c (onto text output) r
 Prints-after a b c text output (Ok verdict) p (same, q) = (same, Appends-trans a b c text output.text p q)
 Prints-after a b c text output (Err halt) p q = AppendsFront-after a b c text output.text p q
 
 -- nothing, and then the output
-pub Prints-kept : (a b c : Option (List ℕ)) (output : Output) (r : Result Verdict Halt) → Keeps a b → Prints b c output r → Prints a c output r
+pub Prints-kept : (a b c : Option (List ℕ)) (output : Output) (r : Result RunResult Halt) → Keeps a b → Prints b c output r → Prints a c output r
 Prints-kept a b c output r k p = Prints-after a b c [] output r (Appends-none a b k) p
 
 -- the run was stopped before anything was printed
@@ -25,12 +25,12 @@ pub Prints-nothing : (a : Option (List ℕ)) (output : Output) (halt : Halt) →
 Prints-nothing a output halt = AppendsFront-none a a output.text (Keeps-refl a)
 
 -- an equal output
-pub Prints-same : (a b : Option (List ℕ)) (r : Result Verdict Halt) (output other : Output) → output ≡ other → Prints a b other r
+pub Prints-same : (a b : Option (List ℕ)) (r : Result RunResult Halt) (output other : Output) → output ≡ other → Prints a b other r
     → Prints a b output r
 Prints-same a b r output other e p = subst (λ (o : Output). Prints a b o r) (sym e) p
 
 -- the output of an equal text
-pub Prints-text : (a b : Option (List ℕ)) (r : Result Verdict Halt) (text other : List ℕ) (verdict : Verdict) → text ≡ other
+pub Prints-text : (a b : Option (List ℕ)) (r : Result RunResult Halt) (text other : List ℕ) (verdict : RunResult) → text ≡ other
     → Prints a b (record { text = text; verdict = Some verdict }) r → Prints a b (record { text = other; verdict = Some verdict }) r
 Prints-text a b r text other verdict e p = subst (λ (t : List ℕ). Prints a b (record { text = t; verdict = Some verdict }) r) e p
 
@@ -48,5 +48,5 @@ pub memory_alone : Memory ≡ Source → ⊥
 memory_alone e = cc
 
 -- a run that stops is not whole
-pub stops_not : (halt : Halt) → (let r : Result Verdict Halt = Err halt in r ≡ Ok verdict.Whole → ⊥)
+pub stops_not : (halt : Halt) → (let r : Result RunResult Halt = Err halt in r ≡ Ok verdict.Whole → ⊥)
 stops_not halt e = cc

@@ -9,8 +9,8 @@ use Rattle.fab_io.specs.Ends.{AppendsFront}
 use Rattle.lines.specs.Grammar.{line_of}
 use Rattle.lines.specs.Lines.{content}
 use Rattle.lines.specs.Reading.{Passes, BeginsLong, Says, AreWhole, IsBegun, IsNeeded, LineReads, taken_by}
-use Rattle.lines.specs.declared.reader.Piece.{Piece}
-use Rattle.lines.specs.declared.reader.Piece.TheVariants.{Whole, Last, Long, Ended}
+use Rattle.lines.specs.declared.reader.NextLine.{NextLine}
+use Rattle.lines.specs.declared.reader.NextLine.TheVariants.{Whole, Last, Long, Ended}
 use Rattle.lines.proofs.Passing.{Passes-nil, Passes-trans}
 use Rattle.lines.proofs.WholeLines.{AreWhole-push}
 use Rattle.lines.proofs.Needs.{IsNeeded-none, IsNeeded-more}
@@ -23,8 +23,8 @@ use Rattle.world.specs.Runs.{Run, Step, world_of}
 use Rattle.world.specs.Texts.{step_text}
 use Rattle.world.specs.Steps.{Ran, Runs}
 use Rattle.fab_io.proofs.Content.{AppendsFront-none, AppendsFront-more}
-use Rattle.replay.specs.declared.endings.Verdict.{Verdict}
-use Rattle.replay.specs.declared.endings.Verdict.TheVariants as verdict
+use Rattle.replay.specs.declared.endings.RunResult.{RunResult}
+use Rattle.replay.specs.declared.endings.RunResult.TheVariants as verdict
 use Rattle.replay.specs.declared.endings.Halt.{Halt}
 use Rattle.printed.specs.Outputs.{most_lines, steps_text}
 use Rattle.replay.specs.Outputs.{Output, onto, output_behind, finished, bad_line, too_many_lines}
@@ -39,7 +39,7 @@ use Rattle.replay.proofs.Printing.{Prints-after, Prints-kept, Prints-nothing, Pr
 use Rattle.replay.proofs.LeftLines.{some_lines, no_lines, taken_lines, first_line, long_line}
 
 -- no line was run: what was printed is what stands behind those that were
-PrintsRest-none : (run : Run) (n : ℕ) (left old new : Option (List ℕ)) (r : Result Verdict Halt) (behind : List (List ℕ)) → n ≤ most_lines
+PrintsRest-none : (run : Run) (n : ℕ) (left old new : Option (List ℕ)) (r : Result RunResult Halt) (behind : List (List ℕ)) → n ≤ most_lines
     → AreLinesOf left behind → Prints old new (output_behind run.layout (world_of run) n behind) r → PrintsRest run n left old new r
 PrintsRest-none run n left old new r behind within are p =
     let none : n ≡ n + 0 = omega arith in
@@ -56,7 +56,7 @@ PrintsRest-none run n left old new r behind within are p =
     }
 
 -- the next line was run: what was printed is its text, and what stands behind it
-PrintsRest-one : (before after : Run) (n : ℕ) (left old new : Option (List ℕ)) (r : Result Verdict Halt) (content : List ℕ) (rest : List (List ℕ)) (step : Step)
+PrintsRest-one : (before after : Run) (n : ℕ) (left old new : Option (List ℕ)) (r : Result RunResult Halt) (content : List ℕ) (rest : List (List ℕ)) (step : Step)
     → n < most_lines → AreLinesOf left (content ∷ rest) → line_of content ≡ Some step.line → Runs before after step.line step
     → Prints old new (onto (step_text (coding before.layout) (world_of before) step) (output_behind before.layout (world_of after) (n + 1) rest)) r
     → PrintsRest before n left old new r
@@ -81,7 +81,7 @@ PrintsRest-stopped run n left old halt within =
     PrintsRest-none run n left old old (Err halt) some.0 within some.1 (Prints-nothing old (output_behind run.layout (world_of run) n some.0) halt)
 
 -- no line is left
-pub PrintsRest-ended : (run : Run) (n : ℕ) (left old new : Option (List ℕ)) (r : Result Verdict Halt) → n ≤ most_lines → IsAtEnd left
+pub PrintsRest-ended : (run : Run) (n : ℕ) (left old new : Option (List ℕ)) (r : Result RunResult Halt) → n ≤ most_lines → IsAtEnd left
     → Prints old new (finished run.layout (world_of run) n) r → PrintsRest run n left old new r
 PrintsRest-ended run n left old new r within end p =
     PrintsRest-none run n left old new r [] within (no_lines left end)
@@ -89,14 +89,14 @@ PrintsRest-ended run n left old new r within end p =
     (output_behind-end run.layout (world_of run) n) p)
 
 -- a line that is none, whatever stands behind it
-PrintsRest-bad : (run : Run) (n : ℕ) (left old new : Option (List ℕ)) (r : Result Verdict Halt) (line : List ℕ) (rest : List (List ℕ)) → n < most_lines
+PrintsRest-bad : (run : Run) (n : ℕ) (left old new : Option (List ℕ)) (r : Result RunResult Halt) (line : List ℕ) (rest : List (List ℕ)) → n < most_lines
     → AreLinesOf left (line ∷ rest) → line_of line ≡ None → Prints old new (bad_line (n + 1)) r → PrintsRest run n left old new r
 PrintsRest-bad run n left old new r line rest within are bad p =
     PrintsRest-none run n left old new r (line ∷ rest) (omega (arith, within)) are
     (Prints-same old new r (output_behind run.layout (world_of run) n (line ∷ rest)) (bad_line (n + 1))
     (output_behind-bad run.layout (world_of run) n line rest within bad) p)
 
-pub line-bad : (run : Run) (n : ℕ) (old mid new : Option (List ℕ)) (line : List ℕ) (r : Result Verdict Halt) → n < most_lines
+pub line-bad : (run : Run) (n : ℕ) (old mid new : Option (List ℕ)) (line : List ℕ) (r : Result RunResult Halt) → n < most_lines
     → line_of line ≡ None → Keeps old mid → Prints mid new (bad_line (n + 1)) r → PrintsLine run n line old new r
 line-bad run n old mid new line r within bad keeps p = λ left rest are.
     PrintsRest-bad run n left old new r line rest within are bad (Prints-kept old mid new (bad_line (n + 1)) r keeps p)
@@ -163,12 +163,12 @@ pub line_halt : (run : Run) (n : ℕ) (bytes : List ℕ) (old new : Option (List
 line_halt run n bytes old new halt other p = λ left rest are. PrintsRest-halt run n left old new halt other (p left rest are)
 
 -- the next line, of which the output is this, whatever stands behind it
-pub PrintsRest-line : (run : Run) (n : ℕ) (left rest old new : Option (List ℕ)) (line : List ℕ) (r : Result Verdict Halt)
+pub PrintsRest-line : (run : Run) (n : ℕ) (left rest old new : Option (List ℕ)) (line : List ℕ) (r : Result RunResult Halt)
     → Passes left rest (line ∷ []) → PrintsLine run n (content line) old new r → PrintsRest run n left old new r
 PrintsRest-line run n left rest old new line r passes p = let first = first_line left rest line passes in p left first.0 first.1
 
 -- the last line was run, and the output closed
-pub PrintsRest-last : (before after : Run) (n : ℕ) (left rest old mid new : Option (List ℕ)) (line : List ℕ) (r : Result Verdict Halt)
+pub PrintsRest-last : (before after : Run) (n : ℕ) (left rest old mid new : Option (List ℕ)) (line : List ℕ) (r : Result RunResult Halt)
     → n < most_lines → Passes left rest (line ∷ []) → IsAtEnd rest → LineRuns before after (content line) old mid
     → Prints mid new (finished after.layout (world_of after) (n + 1)) r → PrintsRest before n left old new r
 PrintsRest-last before after n left rest old mid new line r within passes end l p =
@@ -183,14 +183,14 @@ PrintsRest-last before after n left rest old mid new line r within passes end l 
     (subst (λ u. Prints mid new (finished u (world_of after) (n + 1)) r) same p)))
 
 -- the next line is too long
-pub PrintsRest-long : (run : Run) (n : ℕ) (left old new : Option (List ℕ)) (r : Result Verdict Halt) → n < most_lines
+pub PrintsRest-long : (run : Run) (n : ℕ) (left old new : Option (List ℕ)) (r : Result RunResult Halt) → n < most_lines
     → IfSome left (BeginsLong 70000) → Prints old new (bad_line (n + 1)) r → PrintsRest run n left old new r
 PrintsRest-long run n left old new r within long p =
     let (line, contents, are_lines, bad) = long_line left long in
     PrintsRest-bad run n left old new r line contents within are_lines bad p
 
 -- there is a line too many
-pub PrintsRest-many : (run : Run) (left rest old new : Option (List ℕ)) (piece : Piece) (r : Result Verdict Halt) → Says 70000 left rest piece
+pub PrintsRest-many : (run : Run) (left rest old new : Option (List ℕ)) (piece : NextLine) (r : Result RunResult Halt) → Says 70000 left rest piece
     → (piece ≡ Ended → ⊥) → Prints old new too_many_lines r → PrintsRest run most_lines left old new r
 PrintsRest-many run left rest old new piece r says more p =
     let (line, contents, are_lines) = a_line piece says more in
@@ -198,7 +198,7 @@ PrintsRest-many run left rest old new piece r says more p =
     (Prints-same old new r (output_behind run.layout (world_of run) most_lines (line ∷ contents)) too_many_lines
     (output_behind-many run.layout (world_of run) line contents) p)
   where
-    a_line : (piece : Piece) → Says 70000 left rest piece → (piece ≡ Ended → ⊥) → (line : List ℕ) × (contents : List (List ℕ))
+    a_line : (piece : NextLine) → Says 70000 left rest piece → (piece ≡ Ended → ⊥) → (line : List ℕ) × (contents : List (List ℕ))
         × AreLinesOf left (line ∷ contents)
     a_line (Whole bytes) says more = let first = first_line left rest bytes says.1 in (content bytes, first.0, first.1)
     a_line (Last bytes) says more = let first = first_line left rest bytes says.1 in (content bytes, first.0, first.1)
@@ -206,7 +206,7 @@ PrintsRest-many run left rest old new piece r says more p =
     a_line Ended says more = absurd (more refl)
 
 -- what came next is a line, of which the output is this, whatever stands behind it
-pub PieceMeans-line : (run : Run) (n : ℕ) (piece : Piece) (line : List ℕ) (old new : Option (List ℕ)) (r : Result Verdict Halt)
+pub PieceMeans-line : (run : Run) (n : ℕ) (piece : NextLine) (line : List ℕ) (old new : Option (List ℕ)) (r : Result RunResult Halt)
     → (piece ≡ Whole line) ⊎ (piece ≡ Last line)
     → PrintsLine run n (content line) old new r → PieceMeans run n piece old new r
 PieceMeans-line run n piece line old new r is p left rest says =
@@ -216,7 +216,7 @@ PieceMeans-line run n piece line old new r is p left rest says =
     ]
 
 -- the last line was run, and the output closed
-pub PieceMeans-last : (before after : Run) (n : ℕ) (piece : Piece) (line : List ℕ) (old mid new : Option (List ℕ)) (r : Result Verdict Halt)
+pub PieceMeans-last : (before after : Run) (n : ℕ) (piece : NextLine) (line : List ℕ) (old mid new : Option (List ℕ)) (r : Result RunResult Halt)
     → n < most_lines → piece ≡ Last line → LineRuns before after (content line) old mid
     → Prints mid new (finished after.layout (world_of after) (n + 1)) r → PieceMeans before n piece old new r
 PieceMeans-last before after n piece line old mid new r within is l p left rest given =
@@ -224,7 +224,7 @@ PieceMeans-last before after n piece line old mid new r within is l p left rest 
     PrintsRest-last before after n left rest old mid new line r within says.1 says.2 l p
 
 -- the next line was run, or the run ended at it
-pub TurnMeans-line : (before after : Run) (n : ℕ) (piece : Piece) (line : List ℕ) (old new : Option (List ℕ)) (r : Result (Option Verdict) Halt)
+pub TurnMeans-line : (before after : Run) (n : ℕ) (piece : NextLine) (line : List ℕ) (old new : Option (List ℕ)) (r : Result (Option RunResult) Halt)
     → piece ≡ Whole line → LineTurnMeans before after n (content line) old new r → TurnMeans before after n piece old new r
 TurnMeans-line before after n piece line old new (Ok None) is means = (line, is, means)
 TurnMeans-line before after n piece line old new (Ok (Some one)) is means =
@@ -233,14 +233,14 @@ TurnMeans-line before after n piece line old new (Err halt) is means =
     PieceMeans-line before n piece line old new (Err halt) (inl is) means
 
 -- nothing is left behind what ends the input
-pub at_the_end : (left rest : Option (List ℕ)) (piece : Piece) → Says 70000 left rest piece → IsTheEnd piece → IsAtEnd rest
+pub at_the_end : (left rest : Option (List ℕ)) (piece : NextLine) → Says 70000 left rest piece → IsTheEnd piece → IsAtEnd rest
 at_the_end left rest (Whole line) says end = absurd end
 at_the_end left rest (Last line) says end = says.2
 at_the_end left rest Long says end = absurd end
 at_the_end left rest Ended says end = says.1
 
 -- the same number of lines
-pub PrintsRest-number : (run : Run) (n k : ℕ) (left old new : Option (List ℕ)) (r : Result Verdict Halt) → n ≡ k → PrintsRest run n left old new r
+pub PrintsRest-number : (run : Run) (n k : ℕ) (left old new : Option (List ℕ)) (r : Result RunResult Halt) → n ≡ k → PrintsRest run n left old new r
     → PrintsRest run k left old new r
 PrintsRest-number run n k left old new r e p = subst (λ (i : ℕ). PrintsRest run i left old new r) e p
 
@@ -385,7 +385,7 @@ HasRun-line first run after n unread now next told told_now told_next old mid ne
 
 -- the same, of what came next
 pub HasRun-turn : (first run after : Run) (n : ℕ) (unread now next : List ℕ) (told told_now told_next old mid new : Option (List ℕ)) (came came_next : ℕ)
-    (untouched same untouched_next : Type 0) (piece : Piece) (failed : Type 0) → n < most_lines
+    (untouched same untouched_next : Type 0) (piece : NextLine) (failed : Type 0) → n < most_lines
     → HasRun first run n unread now told told_now old mid came untouched
     → Says 70000 (prepend_known now told_now) (prepend_known next told_next) piece
     → LineReads 70000 now next told_now told_next came_next same (taken_by {E = Halt} (Ok piece)) failed
@@ -395,11 +395,11 @@ pub HasRun-turn : (first run after : Run) (n : ℕ) (unread now next : List ℕ)
 HasRun-turn first run after n unread now next told told_now told_next old mid new came came_next untouched same untouched_next piece failed within h says r stays (line, is, l) =
     HasRun-line first run after n unread now next told told_now told_next old mid new came came_next untouched same untouched_next line failed within h
     (subst (Says 70000 (prepend_known now told_now) (prepend_known next told_next)) is says)
-    (subst (λ (p : Piece). LineReads 70000 now next told_now told_next came_next same (taken_by {E = Halt} (Ok p)) failed) is r) stays l
+    (subst (λ (p : NextLine). LineReads 70000 now next told_now told_next came_next same (taken_by {E = Halt} (Ok p)) failed) is r) stays l
 
 -- the rest was printed
 pub HasRun-rest : (first run : Run) (n : ℕ) (unread now : List ℕ) (told told_now old mid new : Option (List ℕ)) (came : ℕ) (untouched : Type 0)
-    (r : Result Verdict Halt) → HasRun first run n unread now told told_now old mid came untouched
+    (r : Result RunResult Halt) → HasRun first run n unread now told told_now old mid came untouched
     → PrintsRest run n (prepend_known now told_now) mid new r → PrintsRest first 0 (prepend_known unread told) old new r
 HasRun-rest first run n unread now told told_now old mid new came untouched r h p =
     let setting = coding first.layout in
@@ -469,7 +469,7 @@ ReadsPart-failed first run n unread now next told told_now told_next old new cam
 }
 
 -- a turn that ended the run as whole
-pub whole_turn : (one : Verdict) (turn : Option Verdict) → turn ≡ Some one
-    → (let ended : Result Verdict Halt = Ok one in ended ≡ Ok verdict.Whole)
-    → (let took : Result (Option Verdict) Halt = Ok turn in took ≡ Ok (Some verdict.Whole))
+pub whole_turn : (one : RunResult) (turn : Option RunResult) → turn ≡ Some one
+    → (let ended : Result RunResult Halt = Ok one in ended ≡ Ok verdict.Whole)
+    → (let took : Result (Option RunResult) Halt = Ok turn in took ≡ Ok (Some verdict.Whole))
 whole_turn one turn is whole = cc

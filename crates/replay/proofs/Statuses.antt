@@ -1,6 +1,6 @@
 -- What a status says of the end of a run.
 use Rattle.std.proofs.Common.{◌≡◌, ℕ, ◌⊎◌, List, Option, Some, None, Result, Ok, Err, refl, sym, ap, ◌∙◌, inl, inr}
-use Rattle.replay.specs.declared.endings.Verdict.{Verdict}
+use Rattle.replay.specs.declared.endings.RunResult.{RunResult}
 use Rattle.replay.specs.declared.endings.Halt.{Halt}
 use Rattle.replay.specs.declared.endings.Halt.TheVariants.{Source, Sink, Memory}
 use Rattle.world.specs.Runs.{Step}
@@ -12,12 +12,12 @@ use Rattle.replay.specs.Turns.{Prints}
 use Rattle.replay.specs.Replays.{status_of, IsDecided}
 
 -- a run that neither end stopped answers what the input calls for, or was stopped for want of memory
-pub decided : (source old new : Option (List ℕ)) (input : Input) (steps : List Step) (ending : Result Verdict Halt) → IsInput source input
+pub decided : (source old new : Option (List ℕ)) (input : Input) (steps : List Step) (ending : Result RunResult Halt) → IsInput source input
     → AreStepsIn input steps ending → Prints old new (output_of steps input) ending → (ending ≡ Err Source → ⊥) → (ending ≡ Err Sink → ⊥)
     → IsDecided source (status_of ending)
 decided None old new input steps ending is are p no_source no_sink = tt
 decided (Some bytes) old new input steps (Ok one) is are (same, appends) no_source no_sink =
-    inl (ap (λ (v : Verdict). status_of (Ok v)) (sym (verdict_alone input steps (Ok one) one are same) ∙ ap verdict_of (sym is)))
+    inl (ap (λ (v : RunResult). status_of (Ok v)) (sym (verdict_alone input steps (Ok one) one are same) ∙ ap verdict_of (sym is)))
 decided (Some bytes) old new input steps (Err Source) is are p no_source no_sink = absurd (no_source refl)
 decided (Some bytes) old new input steps (Err Sink) is are p no_source no_sink = absurd (no_sink refl)
 decided (Some bytes) old new input steps (Err Memory) is are p no_source no_sink = inr refl

@@ -13,12 +13,12 @@ use Rattle.transcript.specs.Forms.{most_line_bytes}
 use Rattle.transcript.specs.Transcripts.{text_of}
 use Rattle.transcript.specs.Readings.{LeadsOn}
 use Rattle.audit.specs.declared.findings.Finding.TheVariants.{Sound, BadMarks, BadStripe, BadCount}
-use Rattle.audit.specs.declared.examining.Verdict.{Verdict as Found}
-use Rattle.audit.specs.declared.examining.Verdict.TheVariants.{Judged, BadForm, TooMany}
+use Rattle.audit.specs.declared.examining.AuditResult.{AuditResult}
+use Rattle.audit.specs.declared.examining.AuditResult.TheVariants.{Judged, BadForm, TooMany}
 use Rattle.audit.specs.Examining.{Examines, EndsJudged}
 use Rattle.world.specs.Texts.{newline}
-use Rattle.replay.specs.declared.endings.Verdict.{Verdict}
-use Rattle.replay.specs.declared.endings.Verdict.TheVariants.{Whole, BadLayout, BadLine, TooManyLines, Refuted}
+use Rattle.replay.specs.declared.endings.RunResult.{RunResult}
+use Rattle.replay.specs.declared.endings.RunResult.TheVariants.{Whole, BadLayout, BadLine, TooManyLines, Refuted}
 use Rattle.replay.specs.declared.endings.Halt.{Halt}
 use Rattle.replay.specs.declared.endings.Halt.TheVariants.{Source, Sink, Memory}
 use Rattle.replay.specs.declared.audits.Audited.{Audited}
@@ -32,7 +32,7 @@ abbrev pub asks_audit : List (List ℕ) → Bool
 asks_audit words = is_word (codes "audit") words
 
 -- what is printed of a text behind a layout
-abbrev pub text_of_verdict : Found → List ℕ
+abbrev pub text_of_verdict : AuditResult → List ℕ
 text_of_verdict (Judged Sound) = codes "audit ok" ++ newline
 text_of_verdict (Judged BadMarks) = codes "audit bad marks" ++ newline
 text_of_verdict (Judged (BadStripe g s)) = codes "audit bad " ++ (decimal g ++ (codes " " ++ (decimal s ++ newline)))
@@ -41,7 +41,7 @@ text_of_verdict (BadForm line) = (bad_line line).text
 text_of_verdict TooMany = too_many_lines.text
 
 -- how that ends the audit
-abbrev pub end_of_verdict : Found → Verdict
+abbrev pub end_of_verdict : AuditResult → RunResult
 end_of_verdict (Judged Sound) = Whole
 end_of_verdict (Judged BadMarks) = Refuted
 end_of_verdict (Judged (BadStripe g s)) = Refuted
@@ -56,7 +56,7 @@ audited_text LongLayout = (bad_layout (codes "limit layout")).text
 audited_text NoEnd = (bad_layout (codes "end")).text
 audited_text (Examined found) = text_of_verdict found
 
-abbrev pub audited_end : Audited → Verdict
+abbrev pub audited_end : Audited → RunResult
 audited_end (NoLayout fault) = BadLayout
 audited_end LongLayout = BadLayout
 audited_end NoEnd = BadLayout
@@ -65,7 +65,7 @@ audited_end (Examined found) = end_of_verdict found
 -- what an audit finds of the lines behind a layout's text: why that is no layout, or what is found of them under the layout
 abbrev pub AuditsWith : Result Layout LayoutFault → List (List ℕ) → Audited → Type 0
 AuditsWith (Err fault) lines audited = audited ≡ NoLayout fault
-AuditsWith (Ok layout) lines audited = (found : Found) × Examines layout (text_of lines) found × (audited ≡ Examined found)
+AuditsWith (Ok layout) lines audited = (found : AuditResult) × Examines layout (text_of lines) found × (audited ≡ Examined found)
 
 -- what an audit finds of an input
 abbrev pub Audits : Input → Audited → Type 0
@@ -104,7 +104,7 @@ FindsIn source source_after audited = FindsTold source audited × EndsAudited au
 
 -- The sink took the one text of what was found, and the audit ends so; or it was stopped from outside, and the sink took nothing, or
 -- failed at that text and took some of it, from its front.
-abbrev pub AuditPrints : (Audited → Type 0) → Option (List ℕ) → Option (List ℕ) → Result Verdict Halt → Type 0
+abbrev pub AuditPrints : (Audited → Type 0) → Option (List ℕ) → Option (List ℕ) → Result RunResult Halt → Type 0
 AuditPrints finds old new (Ok one) = (audited : Audited) × finds audited × (one ≡ audited_end audited) × Appends old new (audited_text audited)
 AuditPrints finds old new (Err Source) = Keeps old new
 AuditPrints finds old new (Err Sink) = (audited : Audited) × finds audited × AppendsFront old new (audited_text audited)
@@ -121,7 +121,7 @@ AuditGoesOn head lines begun text =
 -- and its marks, happenings and counts hold under its layout. The source was read no further than it took, and where it failed nothing
 -- was printed.
 pub record AuditEnds (source source_after : Option (List ℕ)) (came : ℕ) (sink sink_after : Option (List ℕ)) (status : ℕ) : Type 0 where
-  pub ending : Result Verdict Halt
+  pub ending : Result RunResult Halt
   pub status_is : status ≡ status_of ending
   pub printed : AuditPrints (FindsIn source source_after) sink sink_after ending
   pub reads_as_needed : ReadsAsNeeded AuditGoesOn source source_after came

@@ -3,8 +3,8 @@ use Rattle.std.specs.Prelude.{◌≡◌, ℕ, ◌≤◌, ◌⊎◌, List, [], �
 use Rattle.fab_base.specs.Layouts.{Layout}
 use Rattle.layout.specs.Texts.{layout_of}
 use Rattle.world.specs.Runs.{Step}
-use Rattle.replay.specs.declared.endings.Verdict.{Verdict}
-use Rattle.replay.specs.declared.endings.Verdict.TheVariants.{Whole}
+use Rattle.replay.specs.declared.endings.RunResult.{RunResult}
+use Rattle.replay.specs.declared.endings.RunResult.TheVariants.{Whole}
 use Rattle.replay.specs.declared.endings.Halt.{Halt}
 use Rattle.printed.specs.LineSteps.{AreStepsOf}
 use Rattle.replay.specs.Inputs.{Input, Parted}
@@ -21,6 +21,6 @@ pub record BeginsWith (input : Input) (layout : Layout) (steps : List Step) : Ty
 
 -- The steps are those of the first lines of the input, over its layout, and no more than there may be; or there is none, and not
 -- all was run.
-abbrev pub AreStepsIn : Input → List Step → Result Verdict Halt → Type 0
+abbrev pub AreStepsIn : Input → List Step → Result RunResult Halt → Type 0
 AreStepsIn input steps ending =
     ((layout : Layout) × BeginsWith input layout steps × (length steps ≤ most_lines)) ⊎ ((steps ≡ []) × (ending ≡ Ok Whole → ⊥))

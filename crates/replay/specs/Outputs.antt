@@ -11,8 +11,8 @@ use Rattle.layout.specs.declared.faults.LayoutFault.{LayoutFault}
 use Rattle.layout.specs.Names.{fault_text}
 use Rattle.layout.specs.Texts.{layout_of}
 use Rattle.world.specs.Runs.{Step}
-use Rattle.replay.specs.declared.endings.Verdict.{Verdict}
-use Rattle.replay.specs.declared.endings.Verdict.TheVariants.{Whole, BadLayout, BadLine, TooManyLines}
+use Rattle.replay.specs.declared.endings.RunResult.{RunResult}
+use Rattle.replay.specs.declared.endings.RunResult.TheVariants.{Whole, BadLayout, BadLine, TooManyLines}
 use Rattle.world.specs.Texts.{newline}
 use Rattle.printed.specs.Outputs.{most_lines, closing_text, left_by, steps_text}
 use Rattle.replay.specs.Inputs.{Input, Parted, TooLong, Endless}
@@ -20,7 +20,7 @@ use Rattle.replay.specs.Inputs.{Input, Parted, TooLong, Endless}
 -- what is printed, and how the input ends that; not yet, where a next line is left to be run
 pub record Output : Type 0 where
   pub text : List ℕ
-  pub verdict : Option Verdict
+  pub verdict : Option RunResult
 
 -- a text before the rest of an output
 abbrev pub onto : List ℕ → Output → Output
@@ -68,23 +68,23 @@ output_of steps TooLong = bad_layout (codes "limit layout")
 output_of steps Endless = bad_layout (codes "end")
 
 -- how a line of the schedule that is numbered n + 1 ends the input, or what stands behind it does
-abbrev pub verdict_line : ℕ → Bool → Option Line → Verdict → Verdict
+abbrev pub verdict_line : ℕ → Bool → Option Line → RunResult → RunResult
 verdict_line n false line behind = TooManyLines
 verdict_line n true None behind = BadLine (n + 1)
 verdict_line n true (Some line) behind = behind
 
 -- how the lines behind the first n end the input
-unfoldable pub verdict_behind : ℕ → List (List ℕ) → Verdict
+unfoldable pub verdict_behind : ℕ → List (List ℕ) → RunResult
 verdict_behind n [] = Whole
 verdict_behind n (content ∷ contents) = verdict_line n (nat_lt n most_lines) (line_of content) (verdict_behind (n + 1) contents)
 
 -- how a layout and a schedule end
-abbrev pub verdict_with : Result Layout LayoutFault → List (List ℕ) → Verdict
+abbrev pub verdict_with : Result Layout LayoutFault → List (List ℕ) → RunResult
 verdict_with (Err fault) schedule = BadLayout
 verdict_with (Ok layout) schedule = verdict_behind 0 schedule
 
 -- how an input ends a run that nothing stops from outside
-unfoldable pub verdict_of : Input → Verdict
+unfoldable pub verdict_of : Input → RunResult
 verdict_of (Parted text schedule) = verdict_with (layout_of text) schedule
 verdict_of TooLong = BadLayout
 verdict_of Endless = BadLayout

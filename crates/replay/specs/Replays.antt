@@ -18,8 +18,8 @@ use Rattle.stripe_code.specs.Codes.{coding}
 use Rattle.layout.specs.Texts.{layout_of}
 use Rattle.world.specs.Runs.{Step}
 use Rattle.world.specs.Texts.{newline}
-use Rattle.replay.specs.declared.endings.Verdict.{Verdict}
-use Rattle.replay.specs.declared.endings.Verdict.TheVariants.{Whole, BadLayout, BadLine, TooManyLines, Refuted}
+use Rattle.replay.specs.declared.endings.RunResult.{RunResult}
+use Rattle.replay.specs.declared.endings.RunResult.TheVariants.{Whole, BadLayout, BadLine, TooManyLines, Refuted}
 use Rattle.replay.specs.declared.endings.Halt.{Halt}
 use Rattle.replay.specs.declared.endings.Halt.TheVariants.{Source, Sink, Memory}
 use Rattle.replay.specs.Inputs.{Input, Parted, TooLong, Endless, most_layout_bytes, input_of, IsInput}
@@ -43,7 +43,7 @@ abbrev pub asks_run : List (List ℕ) → Bool
 asks_run words = is_word (codes "run") words
 
 -- the exit status of an end
-abbrev pub status_of : Result Verdict Halt → ℕ
+abbrev pub status_of : Result RunResult Halt → ℕ
 status_of (Ok Whole) = 0
 status_of (Ok BadLayout) = 3
 status_of (Ok (BadLine line)) = 4
@@ -151,7 +151,7 @@ pub record FailedSource (goes_on : List ℕ → List (List ℕ) → List ℕ →
 pub record RunEnds (source source_after : Option (List ℕ)) (came : ℕ) (sink sink_after : Option (List ℕ)) (status : ℕ) : Type 0 where
   pub input : Input
   pub steps : List Step
-  pub ending : Result Verdict Halt
+  pub ending : Result RunResult Halt
   pub is_input : IsInput source input
   pub status_is : status ≡ status_of ending
   pub steps_are : AreStepsIn input steps ending

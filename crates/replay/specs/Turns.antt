@@ -5,13 +5,13 @@ use Rattle.fab_io.specs.Ends.{AppendsFront}
 use Rattle.lines.specs.Grammar.{line_of}
 use Rattle.lines.specs.Lines.{raw_lines, content}
 use Rattle.lines.specs.Reading.{Says, ReadsSchedule}
-use Rattle.lines.specs.declared.reader.Piece.{Piece}
-use Rattle.lines.specs.declared.reader.Piece.TheVariants.{Whole, Last, Long, Ended}
+use Rattle.lines.specs.declared.reader.NextLine.{NextLine}
+use Rattle.lines.specs.declared.reader.NextLine.TheVariants.{Whole, Last, Long, Ended}
 use Rattle.stripe_code.specs.Codes.{coding}
 use Rattle.world.specs.Runs.{Run, Step, world_of}
 use Rattle.world.specs.Steps.{Runs}
 use Rattle.world.specs.Texts.{step_text}
-use Rattle.replay.specs.declared.endings.Verdict.{Verdict}
+use Rattle.replay.specs.declared.endings.RunResult.{RunResult}
 use Rattle.replay.specs.declared.endings.Halt.{Halt}
 use Rattle.replay.specs.declared.heads.Head.{Head}
 use Rattle.replay.specs.declared.heads.Head.TheVariants.{Text, Alone}
@@ -23,7 +23,7 @@ use Rattle.replay.specs.LineSteps.{AreStepsIn}
 
 -- the sink took the whole output, which ends so; or a run that was stopped gave it some of the output, from
 -- its front
-abbrev pub Prints : Option (List ℕ) → Option (List ℕ) → Output → Result Verdict Halt → Type 0
+abbrev pub Prints : Option (List ℕ) → Option (List ℕ) → Output → Result RunResult Halt → Type 0
 Prints old new output (Ok one) = (output.verdict ≡ Some one) × Appends old new output.text
 Prints old new output (Err halt) = AppendsFront old new output.text
 
@@ -34,7 +34,7 @@ AreLinesOf (Some bytes) contents = map content (raw_lines bytes) ≡ contents
 
 -- A run that n lines have left took the steps of the first of the lines that are left, and printed their texts and what ends the
 -- output behind them.
-pub record PrintsRest (run : Run) (n : ℕ) (left old new : Option (List ℕ)) (result : Result Verdict Halt) : Type 0 where
+pub record PrintsRest (run : Run) (n : ℕ) (left old new : Option (List ℕ)) (result : Result RunResult Halt) : Type 0 where
   pub done : List (List ℕ)
   pub behind : List (List ℕ)
   pub are_lines : AreLinesOf left (done ++ behind)
@@ -67,36 +67,36 @@ LineMeans before after content old new (Ok false) = (line_of content ≡ None) �
 LineMeans before after content old new (Err halt) = Keeps old new ⊎ LineBegins before after content old new
 
 -- a run printed the output of this line and any lines behind it
-abbrev pub PrintsLine : Run → ℕ → List ℕ → Option (List ℕ) → Option (List ℕ) → Result Verdict Halt → Type 0
+abbrev pub PrintsLine : Run → ℕ → List ℕ → Option (List ℕ) → Option (List ℕ) → Result RunResult Halt → Type 0
 PrintsLine run n content old new result =
     (left : Option (List ℕ)) (rest : List (List ℕ)) → AreLinesOf left (content ∷ rest) → PrintsRest run n left old new result
 
 -- a line was run and printed; or the run ended at it, or was stopped, and printed the output of it and any lines behind it
-abbrev pub LineTurnMeans : Run → Run → ℕ → List ℕ → Option (List ℕ) → Option (List ℕ) → Result (Option Verdict) Halt → Type 0
+abbrev pub LineTurnMeans : Run → Run → ℕ → List ℕ → Option (List ℕ) → Option (List ℕ) → Result (Option RunResult) Halt → Type 0
 LineTurnMeans before after n content old new (Ok None) = LineRuns before after content old new
 LineTurnMeans before after n content old new (Ok (Some one)) = PrintsLine before n content old new (Ok one)
 LineTurnMeans before after n content old new (Err halt) = PrintsLine before n content old new (Err halt)
 
 -- a run printed the output of what comes next, and of any lines that may be left behind it
-abbrev pub PieceMeans : Run → ℕ → Piece → Option (List ℕ) → Option (List ℕ) → Result Verdict Halt → Type 0
+abbrev pub PieceMeans : Run → ℕ → NextLine → Option (List ℕ) → Option (List ℕ) → Result RunResult Halt → Type 0
 PieceMeans run n piece old new result = (left rest : Option (List ℕ)) → Says 70000 left rest piece → PrintsRest run n left old new result
 
 -- a line was run, or the run ended
-abbrev pub TurnMeans : Run → Run → ℕ → Piece → Option (List ℕ) → Option (List ℕ) → Result (Option Verdict) Halt → Type 0
+abbrev pub TurnMeans : Run → Run → ℕ → NextLine → Option (List ℕ) → Option (List ℕ) → Result (Option RunResult) Halt → Type 0
 TurnMeans before after n piece old new (Ok None) =
     (line : List ℕ) × (piece ≡ Whole line) × LineRuns before after (content line) old new
 TurnMeans before after n piece old new (Ok (Some one)) = PieceMeans before n piece old new (Ok one)
 TurnMeans before after n piece old new (Err halt) = PieceMeans before n piece old new (Err halt)
 
 -- nothing comes behind this
-abbrev pub IsTheEnd : Piece → Type 0
+abbrev pub IsTheEnd : NextLine → Type 0
 IsTheEnd (Whole line) = ⊥
 IsTheEnd (Last line) = ⊤
 IsTheEnd Long = ⊥
 IsTheEnd Ended = ⊤
 
 -- a run printed the output of this layout's text and the lines that are left behind it
-pub record PrintsHeaded (head : List ℕ) (left old new : Option (List ℕ)) (result : Result Verdict Halt) : Type 0 where
+pub record PrintsHeaded (head : List ℕ) (left old new : Option (List ℕ)) (result : Result RunResult Halt) : Type 0 where
   pub schedule : List (List ℕ)
   pub are_lines : AreLinesOf left schedule
   pub steps : List Step
@@ -112,7 +112,7 @@ HeadMeans start now Head.TooLong = IsInput start TooLong
 HeadMeans start now Head.Endless = IsInput start Endless
 
 -- a run printed the output of an input
-pub record PrintsInput (source old new : Option (List ℕ)) (result : Result Verdict Halt) : Type 0 where
+pub record PrintsInput (source old new : Option (List ℕ)) (result : Result RunResult Halt) : Type 0 where
   pub input : Input
   pub is_input : IsInput source input
   pub steps : List Step

@@ -7,15 +7,15 @@ ghost use Rattle.replay.specs.Readings.{ReadsPart, BehindSoFar};
 ghost use Rattle.replay.specs.Replays.{LeavesOpen};
 ghost use Rattle.replay.specs.Audits.{text_of_verdict, end_of_verdict, audited_text, audited_end, FindsBehind, FindsIn, AuditGoesOn, AuditPrints};
 
-use crate::endings::{Halt, Verdict};
+use crate::endings::{Halt, RunResult};
 use crate::heads::{Head, read_head};
 use crate::schedules::is_memory;
 use crate::turns::write;
-use audit::{Finding, Verdict as Found, examine};
+use audit::{AuditResult, Finding, examine};
 use fab_base::NoMem;
 use fab_io::{IoFault, Sink, Source};
 use layout::{Layout, LayoutFault};
-use lines::Unread;
+use lines::LineReader;
 use std::alloc::Global;
 
 /// What an audit finds of an input.
@@ -28,29 +28,29 @@ pub enum Audited {
     /// There is no line `---`.
     NoEnd,
     /// This is found of the text behind the layout.
-    Examined(Found),
+    Examined(AuditResult),
 }
 
 /// How what was found of a text ends an audit.
-fn end_of_verdict(found: Found) -> Verdict
+fn end_of_verdict(found: AuditResult) -> RunResult
     ensures { result ≡ end_of_verdict found }
 {
     match found {
-        Found::Judged(finding) => match finding {
-            Finding::Sound => Verdict::Whole,
-            Finding::BadMarks | Finding::BadStripe { .. } | Finding::BadCount => Verdict::Refuted,
+        AuditResult::Judged(finding) => match finding {
+            Finding::Sound => RunResult::Whole,
+            Finding::BadMarks | Finding::BadStripe { .. } | Finding::BadCount => RunResult::Refuted,
         },
-        Found::BadForm(line) => Verdict::BadLine(line),
-        Found::TooMany => Verdict::TooManyLines,
+        AuditResult::BadForm(line) => RunResult::BadLine(line),
+        AuditResult::TooMany => RunResult::TooManyLines,
     }
 }
 
 /// What is printed of a text.
-fn text_of_verdict(alloc: Global, found: Found) -> Result<String, NoMem>
+fn text_of_verdict(alloc: Global, found: AuditResult) -> Result<String, NoMem>
     ensures { IfOk result (λ text. string_bytes text ≡ text_of_verdict found) }
 {
     let text = match found {
-        Found::Judged(finding) => match finding {
+        AuditResult::Judged(finding) => match finding {
             Finding::Sound => String::from_str(alloc, "audit ok\n")?,
             Finding::BadMarks => String::from_str(alloc, "audit bad marks\n")?,
             Finding::BadStripe { group, stripe } => {
@@ -58,19 +58,19 @@ fn text_of_verdict(alloc: Global, found: Found) -> Result<String, NoMem>
             }
             Finding::BadCount => String::from_str(alloc, "audit bad count\n")?,
         },
-        Found::BadForm(line) => format!(in alloc; "bad line {line}\n")?,
-        Found::TooMany => String::from_str(alloc, "too many lines\n")?,
+        AuditResult::BadForm(line) => format!(in alloc; "bad line {line}\n")?,
+        AuditResult::TooMany => String::from_str(alloc, "too many lines\n")?,
     };
     Ok(text)
 }
 
 impl Audited {
     /// How this ends an audit.
-    fn end(&self) -> Verdict
+    fn end(&self) -> RunResult
         ensures { result ≡ audited_end self.now }
     {
         match self {
-            Audited::NoLayout(_) | Audited::LongLayout | Audited::NoEnd => Verdict::BadLayout,
+            Audited::NoLayout(_) | Audited::LongLayout | Audited::NoEnd => RunResult::BadLayout,
             Audited::Examined(found) => end_of_verdict(*found),
         }
     }
@@ -94,7 +94,7 @@ fn audit_layout<S: Source>(
     head: &[u8],
     is_alone: bool,
     source: &mut S,
-    unread: &mut Unread,
+    unread: &mut LineReader,
 ) -> Result<Audited, Halt>
     requires { is_alone ≡ true → IsAtEnd (prepend_known unread.old (S.told source.old)) }
     ensures found { IfOk result (FindsBehind head.now (prepend_known unread.old (S.told source.old))
@@ -109,7 +109,7 @@ fn audit_layout<S: Source>(
     match Layout::read_audited(alloc, head) {
         Ok(layout) => {
             if is_alone {
-                return Ok(Audited::Examined(Found::BadForm(1)));
+                return Ok(Audited::Examined(AuditResult::BadForm(1)));
             }
             match examine(alloc, &layout, source, unread) {
                 Ok(found) => Ok(Audited::Examined(found)),
@@ -135,7 +135,7 @@ fn audit_source<S: Source>(alloc: Global, source: &mut S) -> Result<Audited, Hal
         (result ≡ Err Halt.Source) }
     ensures cause { result ≢ Err Halt.Sink }
 {
-    let mut unread = Unread::new(alloc);
+    let mut unread = LineReader::new(alloc);
     match read_head(alloc, source, &mut unread)? {
         Head::Text(text) => audit_layout(alloc, text.as_slice(), false, source, &mut unread),
         Head::Alone(text) => audit_layout(alloc, text.as_slice(), true, source, &mut unread),
@@ -149,7 +149,7 @@ pub(crate) fn audit_input<S: Source, K: Sink>(
     alloc: Global,
     source: &mut S,
     sink: &mut K,
-) -> Result<Verdict, Halt>
+) -> Result<RunResult, Halt>
     ensures output { AuditPrints (FindsIn (S.told source.old) (S.told source.new)) (K.told sink.old) (K.told sink.new) result }
     ensures reads { ReadsPart (LeavesOpen AuditGoesOn) [] (S.told source.old) (S.told source.new) (K.told sink.old)
         (K.told sink.new) (S.came source.new) (source.new ≡ source.old) (result ≡ Err Halt.Source) }

@@ -9,7 +9,7 @@ use std::alloc::AllocError;
 
 /// How an input ends a run, or an audit.
 #[derive(Clone, Copy, PartialEq, Eq)]
-pub enum Verdict {
+pub enum RunResult {
     /// All lines were run; or all that the text says holds.
     Whole,
     /// The input has no layout: the text before the line `---` is none, or there is no such line.
@@ -50,15 +50,15 @@ impl From<AllocError> for Halt {
 }
 
 /// The exit status of an end.
-pub fn status_of(ending: Result<Verdict, Halt>) -> u8
+pub fn status_of(ending: Result<RunResult, Halt>) -> u8
     ensures { result ≡ status_of ending }
 {
     match ending {
-        Ok(Verdict::Whole) => 0,
-        Ok(Verdict::BadLayout) => 3,
-        Ok(Verdict::BadLine(_)) => 4,
-        Ok(Verdict::TooManyLines) => 8,
-        Ok(Verdict::Refuted) => 9,
+        Ok(RunResult::Whole) => 0,
+        Ok(RunResult::BadLayout) => 3,
+        Ok(RunResult::BadLine(_)) => 4,
+        Ok(RunResult::TooManyLines) => 8,
+        Ok(RunResult::Refuted) => 9,
         Err(Halt::Source) => 5,
         Err(Halt::Sink) => 6,
         Err(Halt::Memory) => 7,

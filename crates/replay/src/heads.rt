@@ -10,7 +10,7 @@ use crate::endings::Halt;
 use crate::turns::next;
 use fab_io::Source;
 use layout::texts::LAYOUT_LIMIT;
-use lines::{Piece, Unread, is_layout_end};
+use lines::{LineReader, NextLine, is_layout_end};
 use std::alloc::Global;
 
 /// What stands before the schedule of an input.
@@ -34,7 +34,7 @@ pub enum Head {
 pub fn read_head<S: Source>(
     alloc: Global,
     source: &mut S,
-    unread: &mut Unread,
+    unread: &mut LineReader,
 ) -> Result<Head, Halt>
     ensures head { IfOk result (λ head. HeadMeans (prepend_known unread.old (S.told source.old))
         (prepend_known unread.new (S.told source.new)) head) }
@@ -47,7 +47,7 @@ pub fn read_head<S: Source>(
     let mut head = Vec::new(alloc);
     for _ in 0..u64::MAX {
         match next(source, unread, LAYOUT_LIMIT)? {
-            Piece::Whole(line) => {
+            NextLine::Whole(line) => {
                 if is_layout_end(line.as_slice()) {
                     return Ok(Head::Text(head));
                 }
@@ -56,7 +56,7 @@ pub fn read_head<S: Source>(
                 }
                 head.extend_from_slice(line.as_slice())?;
             }
-            Piece::Last(line) => {
+            NextLine::Last(line) => {
                 if is_layout_end(line.as_slice()) {
                     return Ok(Head::Alone(head));
                 }
@@ -65,8 +65,8 @@ pub fn read_head<S: Source>(
                 }
                 return Ok(Head::Endless);
             }
-            Piece::Long => return Ok(Head::TooLong),
-            Piece::Ended => return Ok(Head::Endless),
+            NextLine::Long => return Ok(Head::TooLong),
+            NextLine::Ended => return Ok(Head::Endless),
         }
     }
     // No memory holds so many lines.

@@ -12,7 +12,7 @@ mod schedules;
 mod texts;
 mod turns;
 
-pub use endings::{Halt, Verdict, status_of};
+pub use endings::{Halt, RunResult, status_of};
 pub use heads::{Head, read_head};
 pub use programs::{is_word, replay};
 pub use turns::{MOST_LINES, next, write};

@@ -10,10 +10,10 @@ ghost use Rattle.printed.specs.Outputs.{most_lines};
 ghost use Rattle.replay.specs.Outputs.{finished, bad_line};
 ghost use Rattle.replay.specs.Turns.{Prints, LineMeans, LineTurnMeans, PieceMeans, TurnMeans, IsTheEnd};
 
-use crate::endings::{Halt, Verdict};
+use crate::endings::{Halt, RunResult};
 use crate::texts::closing_text;
 use fab_io::{IoFault, Sink, Source};
-use lines::{Piece, Unread, content_of};
+use lines::{LineReader, NextLine, content_of};
 use std::alloc::Global;
 use world::{StepFault, World};
 
@@ -25,7 +25,11 @@ pub const MOST_LINES: u64 = 1_048_576;
 /// # Errors
 ///
 /// `Source` where the source failed, `Memory` where no memory was left.
-pub fn next<S: Source>(source: &mut S, unread: &mut Unread, limit: usize) -> Result<Piece, Halt>
+pub fn next<S: Source>(
+    source: &mut S,
+    unread: &mut LineReader,
+    limit: usize,
+) -> Result<NextLine, Halt>
     ensures says { IfOk result (λ piece. Says limit (prepend_known unread.old (S.told source.old))
         (prepend_known unread.new (S.told source.new)) piece) }
     ensures reads { LineReads limit unread.old unread.new (S.told source.old) (S.told source.new) (S.came source.new)
@@ -64,7 +68,11 @@ pub fn write<K: Sink>(sink: &mut K, text: &[u8]) -> Result<(), Halt>
 }
 
 /// Writes what closes the output of a run that ends so.
-pub(crate) fn close<K: Sink>(sink: &mut K, text: &[u8], verdict: Verdict) -> Result<Verdict, Halt>
+pub(crate) fn close<K: Sink>(
+    sink: &mut K,
+    text: &[u8],
+    verdict: RunResult,
+) -> Result<RunResult, Halt>
     ensures content { Prints (K.told sink.old) (K.told sink.new) (record { text = text.now; verdict = Some verdict }) result }
     ensures kept { Kept (K.faults sink.old) (K.faults sink.new) (K.sound sink.old) (K.sound sink.new)
         (result ≡ Err Halt.Sink) }
@@ -80,25 +88,25 @@ pub(crate) fn finish<K: Sink>(
     world: &World,
     sink: &mut K,
     lines: u64,
-) -> Result<Verdict, Halt>
+) -> Result<RunResult, Halt>
     ensures content { Prints (K.told sink.old) (K.told sink.new) (finished world.now.layout (world_of world.now) lines) result }
     ensures kept { Kept (K.faults sink.old) (K.faults sink.new) (K.sound sink.old) (K.sound sink.new)
         (result ≡ Err Halt.Sink) }
     ensures cause { result ≢ Err Halt.Source }
 {
     let text = closing_text(alloc, world, lines)?;
-    close(sink, text.as_bytes(), Verdict::Whole)
+    close(sink, text.as_bytes(), RunResult::Whole)
 }
 
 /// Closes the output at a line that is no line, by its number.
-fn refuse_line<K: Sink>(alloc: Global, sink: &mut K, line: u64) -> Result<Verdict, Halt>
+fn refuse_line<K: Sink>(alloc: Global, sink: &mut K, line: u64) -> Result<RunResult, Halt>
     ensures content { Prints (K.told sink.old) (K.told sink.new) (bad_line line) result }
     ensures kept { Kept (K.faults sink.old) (K.faults sink.new) (K.sound sink.old) (K.sound sink.new)
         (result ≡ Err Halt.Sink) }
     ensures cause { result ≢ Err Halt.Source }
 {
     let text = format!(in alloc; "bad line {line}\n")?;
-    close(sink, text.as_bytes(), Verdict::BadLine(line))
+    close(sink, text.as_bytes(), RunResult::BadLine(line))
 }
 
 /// Runs a line and writes its text, and answers whether it is one.
@@ -125,10 +133,10 @@ fn run_or_refuse<K: Sink>(
     sink: &mut K,
     line: &[u8],
     count: u64,
-) -> Result<Option<Verdict>, Halt>
+) -> Result<Option<RunResult>, Halt>
     requires { count < MOST_LINES }
     ensures means { LineTurnMeans world.old world.new count (content line.now) (K.told sink.old) (K.told sink.new) result }
-    ensures whole { result ≢ Ok (Some Verdict.Whole) }
+    ensures whole { result ≢ Ok (Some RunResult.Whole) }
     ensures kept { Kept (K.faults sink.old) (K.faults sink.new) (K.sound sink.old) (K.sound sink.new)
         (result ≡ Err Halt.Sink) }
     ensures cause { result ≢ Err Halt.Source }
@@ -145,24 +153,24 @@ pub(crate) fn take_turn<K: Sink>(
     alloc: Global,
     world: &mut World,
     sink: &mut K,
-    piece: &Piece,
+    piece: &NextLine,
     count: u64,
-) -> Result<Option<Verdict>, Halt>
+) -> Result<Option<RunResult>, Halt>
     requires { count < MOST_LINES }
     ensures means { TurnMeans world.old world.new count piece.now (K.told sink.old) (K.told sink.new) result }
-    ensures whole { result ≡ Ok (Some Verdict.Whole) → IsTheEnd piece.now }
+    ensures whole { result ≡ Ok (Some RunResult.Whole) → IsTheEnd piece.now }
     ensures kept { Kept (K.faults sink.old) (K.faults sink.new) (K.sound sink.old) (K.sound sink.new)
         (result ≡ Err Halt.Sink) }
     ensures cause { result ≢ Err Halt.Source }
 {
     match piece {
-        Piece::Whole(line) => run_or_refuse(alloc, world, sink, line.as_slice(), count),
-        Piece::Last(line) => match run_or_refuse(alloc, world, sink, line.as_slice(), count)? {
+        NextLine::Whole(line) => run_or_refuse(alloc, world, sink, line.as_slice(), count),
+        NextLine::Last(line) => match run_or_refuse(alloc, world, sink, line.as_slice(), count)? {
             None => Ok(Some(finish(alloc, world, sink, count + 1)?)),
             Some(verdict) => Ok(Some(verdict)),
         },
-        Piece::Long => Ok(Some(refuse_line(alloc, sink, count + 1)?)),
-        Piece::Ended => Ok(Some(finish(alloc, world, sink, count)?)),
+        NextLine::Long => Ok(Some(refuse_line(alloc, sink, count + 1)?)),
+        NextLine::Ended => Ok(Some(finish(alloc, world, sink, count)?)),
     }
 }
 
@@ -171,16 +179,20 @@ pub(crate) fn take_last_turn<K: Sink>(
     alloc: Global,
     world: &World,
     sink: &mut K,
-    piece: &Piece,
-) -> Result<Verdict, Halt>
+    piece: &NextLine,
+) -> Result<RunResult, Halt>
     ensures rest { PieceMeans world.now most_lines piece.now (K.told sink.old) (K.told sink.new) result }
-    ensures whole { result ≡ Ok Verdict.Whole → IsTheEnd piece.now }
+    ensures whole { result ≡ Ok RunResult.Whole → IsTheEnd piece.now }
     ensures kept { Kept (K.faults sink.old) (K.faults sink.new) (K.sound sink.old) (K.sound sink.new)
         (result ≡ Err Halt.Sink) }
     ensures cause { result ≢ Err Halt.Source }
 {
-    if let Piece::Ended = piece {
+    if let NextLine::Ended = piece {
         return finish(alloc, world, sink, MOST_LINES);
     }
-    close(sink, b"too many lines\n".as_slice(), Verdict::TooManyLines)
+    close(
+        sink,
+        b"too many lines\n".as_slice(),
+        RunResult::TooManyLines,
+    )
 }

@@ -20,8 +20,8 @@ use Rattle.world.specs.Steps.{Ran, Runs}
 use Rattle.world.specs.Texts.{step_text}
 use Rattle.printed.specs.Outputs.{steps_text}
 use Rattle.replay.proofs.Steppings.{leads_none, leads_one, leads_both, leads_layout, leads_world, lines_both, steps_text-append, after_steps}
-use Rattle.replay.specs.declared.endings.Verdict.{Verdict}
-use Rattle.replay.specs.declared.endings.Verdict.TheVariants.{Whole, BadLayout, Refuted}
+use Rattle.replay.specs.declared.endings.RunResult.{RunResult}
+use Rattle.replay.specs.declared.endings.RunResult.TheVariants.{Whole, BadLayout, Refuted}
 use Rattle.replay.specs.declared.endings.Halt.{Halt}
 use Rattle.trace.specs.Told.{IsTold, indented, IsStepText}
 use Rattle.trace.specs.TextReport.{Takes, WritesTold, TellsRun, TellsNothing, TellsLines, TellsRest, EndsAs}
@@ -132,7 +132,7 @@ lines-more r value first before after source left next head raw text old mid new
     }
 
 -- the run ended, or was stopped, and what was written since tells nothing
-pub lines-end : {S : Type 0} (ending : Result Verdict Halt) (value : S) (first last : Run) (source left : Option (List ℕ)) (head : List ℕ)
+pub lines-end : {S : Type 0} (ending : Result RunResult Halt) (value : S) (first last : Run) (source left : Option (List ℕ)) (head : List ℕ)
     (old mid new : Option (List ℕ)) → TellsLines {T = S} first last source left head old mid (Ok value) → WritesTold ending mid new []
     → (ending ≡ Ok Whole → IsAtEnd left) → ending ≢ Ok Refuted → TellsRest first source head old new ending
 lines-end ending value first last source left head old mid new h writes all ran =
@@ -153,22 +153,22 @@ lines-end ending value first last source left head old mid new h writes all ran 
     }
 
 -- a run that stops does not end
-pub stopped : (halt : Halt) (verdict : Verdict) (P : Type 0) → (let r : Result Verdict Halt = Err halt in r ≡ Ok verdict → P)
+pub stopped : (halt : Halt) (verdict : RunResult) (P : Type 0) → (let r : Result RunResult Halt = Err halt in r ≡ Ok verdict → P)
 stopped halt verdict P e = cc
 
 -- the run was stopped in the midst of a line's text
 pub lines-stopped : (halt : Halt) (first last : Run) (source left : Option (List ℕ)) (head : List ℕ) (old new : Option (List ℕ))
-    → (let r : Result Verdict Halt = Err halt in TellsLines first last source left head old new r → TellsRest first source head old new r)
+    → (let r : Result RunResult Halt = Err halt in TellsLines first last source left head old new r → TellsRest first source head old new r)
 lines-stopped halt first last source left head old new h =
     record { last = last; left = left; lines = h; all = stopped halt Whole (IsAtEnd left); ran = stopped halt Refuted ⊥ }
 
 -- a run that goes on to one end has no other
-pub ends_not : (verdict other : Verdict) (ending : Result Verdict Halt) → EndsAs verdict ending → verdict ≢ other → ending ≢ Ok other
+pub ends_not : (verdict other : RunResult) (ending : Result RunResult Halt) → EndsAs verdict ending → verdict ≢ other → ending ≢ Ok other
 ends_not verdict other (Ok one) same differs e = differs (sym same ∙ (let is : one ≡ other = cc in is))
 ends_not verdict other (Err halt) same differs e = cc
 
 -- a run over a layout's disk, from its first line on
-pub run-told : (source old new : Option (List ℕ)) (ending : Result Verdict Halt) (head : List ℕ) (first : Run) → layout_of head ≡ Ok first.layout
+pub run-told : (source old new : Option (List ℕ)) (ending : Result RunResult Halt) (head : List ℕ) (first : Run) → layout_of head ≡ Ok first.layout
     → first ≡ record { layout = first.layout; steps = []; disks = first.disks } → ShowsDisks first → TellsRest first source head old new ending
     → TellsRun source old new ending
 run-told source old new ending head first is first_is fresh rest =
@@ -198,7 +198,7 @@ run-told source old new ending head first is first_is fresh rest =
     }
 
 -- no line was run, and what was written tells nothing
-pub nothing-told : (old new : Option (List ℕ)) (ending : Result Verdict Halt) → WritesTold ending old new [] → ending ≢ Ok Whole → ending ≢ Ok Refuted
+pub nothing-told : (old new : Option (List ℕ)) (ending : Result RunResult Halt) → WritesTold ending old new [] → ending ≢ Ok Whole → ending ≢ Ok Refuted
     → TellsNothing old new ending
 nothing-told old new ending writes not_all ran = record {
   text = writes.text;

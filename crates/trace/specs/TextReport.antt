@@ -13,8 +13,8 @@ use Rattle.world.specs.Disks.{ShowsDisks}
 use Rattle.world.specs.Steps.{Ran}
 use Rattle.printed.specs.Outputs.{steps_text}
 use Rattle.printed.specs.LineSteps.{LeadsTo, AreLinesOfSteps, AreStepsOf}
-use Rattle.replay.specs.declared.endings.Verdict.{Verdict}
-use Rattle.replay.specs.declared.endings.Verdict.TheVariants.{Whole, Refuted}
+use Rattle.replay.specs.declared.endings.RunResult.{RunResult}
+use Rattle.replay.specs.declared.endings.RunResult.TheVariants.{Whole, Refuted}
 use Rattle.replay.specs.declared.endings.Halt.{Halt}
 use Rattle.trace.specs.Told.{told_in, IsTold}
 use Rattle.trace.specs.declared.schedules.Opening.{Opening}
@@ -35,7 +35,7 @@ pub record WritesTold {T : Type 0} (result : Result T Halt) (old new : Option (L
 
 -- The first lines of a schedule were run over a layout, and a text was written that tells what `replay` prints for them, before it closes its
 -- output. Where all was run, no line is left. No run is refuted: an audit alone is.
-pub record TellsRun (source old new : Option (List ℕ)) (ending : Result Verdict Halt) : Type 0 where
+pub record TellsRun (source old new : Option (List ℕ)) (ending : Result RunResult Halt) : Type 0 where
   pub head : List ℕ
   pub lines : List (List ℕ)
   pub left : Option (List ℕ)
@@ -51,7 +51,7 @@ pub record TellsRun (source old new : Option (List ℕ)) (ending : Result Verdic
   pub ran : ending ≢ Ok Refuted
 
 -- no line was run, and a text was written that tells nothing
-pub record TellsNothing (old new : Option (List ℕ)) (ending : Result Verdict Halt) : Type 0 where
+pub record TellsNothing (old new : Option (List ℕ)) (ending : Result RunResult Halt) : Type 0 where
   pub text : List ℕ
   pub told : told_in text ≡ []
   pub taken : Takes ending old new text
@@ -59,7 +59,7 @@ pub record TellsNothing (old new : Option (List ℕ)) (ending : Result Verdict H
   pub ran : ending ≢ Ok Refuted
 
 -- what `trace text` writes of an input
-abbrev pub Tells : Option (List ℕ) → Option (List ℕ) → Option (List ℕ) → Result Verdict Halt → Type 0
+abbrev pub Tells : Option (List ℕ) → Option (List ℕ) → Option (List ℕ) → Result RunResult Halt → Type 0
 Tells source old new ending = TellsRun source old new ending ⊎ TellsNothing old new ending
 
 -- a text begins with a byte that is no space, and can begin a line
@@ -114,7 +114,7 @@ pub record TellsLines {T : Type 0} (first last : Run) (source left : Option (Lis
   pub writes : WritesTold result old new (steps_text (coding first.layout) (world_of first) steps)
 
 -- the same, up to an end: where all was run, no line is left
-pub record TellsRest (first : Run) (source : Option (List ℕ)) (head : List ℕ) (old new : Option (List ℕ)) (ending : Result Verdict Halt) : Type 0 where
+pub record TellsRest (first : Run) (source : Option (List ℕ)) (head : List ℕ) (old new : Option (List ℕ)) (ending : Result RunResult Halt) : Type 0 where
   pub last : Run
   pub left : Option (List ℕ)
   pub lines : TellsLines first last source left head old new ending
@@ -122,6 +122,6 @@ pub record TellsRest (first : Run) (source : Option (List ℕ)) (head : List ℕ
   pub ran : ending ≢ Ok Refuted
 
 -- a run that goes on to this end, where it is not stopped
-abbrev pub EndsAs : Verdict → Result Verdict Halt → Type 0
+abbrev pub EndsAs : RunResult → Result RunResult Halt → Type 0
 EndsAs verdict (Ok one) = one ≡ verdict
 EndsAs verdict (Err halt) = ⊤

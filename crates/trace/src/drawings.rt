@@ -2,8 +2,8 @@
 
 use crate::schedules::{Opening, Turn, open, take_turn};
 use fab_io::{Sink, Source};
-use lines::{Unread, content_of};
-use replay::{Halt, Verdict, write};
+use lines::{LineReader, content_of};
+use replay::{Halt, RunResult, write};
 use std::alloc::Global;
 use trace_runs::{Drawing, Journal, Text, histories_of};
 use world::World;
@@ -15,7 +15,7 @@ const MOST_DRAWN: u64 = 2_000;
 #[derive(Drop)]
 struct Outcome {
     /// How the run ended.
-    verdict: Verdict,
+    verdict: RunResult,
     /// The picture. Empty where nothing is drawn.
     picture: Text,
     /// Why nothing is drawn, or not all lines. Empty where they are.
@@ -30,14 +30,14 @@ fn drawn(alloc: Global, picture: Text, lines: u64) -> Outcome {
         notice.fill("the first % of % lines are drawn\n", &numbers);
     }
     Outcome {
-        verdict: Verdict::Whole,
+        verdict: RunResult::Whole,
         picture,
         notice,
     }
 }
 
 /// No picture: how that ends the run, and what `replay` prints then, without its line feed.
-fn refused(alloc: Global, verdict: Verdict, why: &str) -> Outcome {
+fn refused(alloc: Global, verdict: RunResult, why: &str) -> Outcome {
     let mut notice = Text::new(alloc);
     notice.put(why);
     notice.put("\n");
@@ -53,7 +53,7 @@ fn draw_lines<S: Source>(
     alloc: Global,
     world: &mut World,
     source: &mut S,
-    unread: &mut Unread,
+    unread: &mut LineReader,
 ) -> Result<Outcome, Halt> {
     let mut journal = Journal::new(alloc);
     let mut drawing = Drawing::new(alloc);
@@ -79,10 +79,10 @@ fn draw_lines<S: Source>(
 
 /// Runs a layout and a schedule from a source, and draws them.
 fn draw_source<S: Source>(alloc: Global, source: &mut S) -> Result<Outcome, Halt> {
-    let mut unread = Unread::new(alloc);
+    let mut unread = LineReader::new(alloc);
     match open(alloc, source, &mut unread)? {
         Opening::Opened(mut world) => draw_lines(alloc, &mut world, source, &mut unread),
-        Opening::Refused(why) => Ok(refused(alloc, Verdict::BadLayout, why.as_str())),
+        Opening::Refused(why) => Ok(refused(alloc, RunResult::BadLayout, why.as_str())),
     }
 }
 
@@ -97,7 +97,7 @@ pub(crate) fn draw<S: Source, K: Sink, E: Sink>(
     source: &mut S,
     sink: &mut K,
     errors: &mut E,
-) -> Result<Verdict, Halt> {
+) -> Result<RunResult, Halt> {
     let outcome = draw_source(alloc, source)?;
     say(sink, &outcome.picture)?;
     say(errors, &outcome.notice)?;

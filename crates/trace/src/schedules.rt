@@ -7,8 +7,8 @@ ghost use Rattle.trace.specs.TextReport.{IsNew, OpensLayout, IsRefused, Opens, I
 use fab_base::{Bytes, NoMem};
 use fab_io::Source;
 use layout::{Layout, LayoutFault};
-use lines::{LINE_LIMIT, Piece, Unread, content_of};
-use replay::{Halt, Head, MOST_LINES, Verdict, next, read_head};
+use lines::{LINE_LIMIT, LineReader, NextLine, content_of};
+use replay::{Halt, Head, MOST_LINES, RunResult, next, read_head};
 use std::alloc::Global;
 use trace_runs::{Journal, LineRun, take_line};
 use world::World;
@@ -30,7 +30,7 @@ pub(crate) enum Turn {
     /// No line.
     Ended,
     /// What is no line, or one too many: how that ends the run, and what `replay` prints then, without its line feed.
-    Refused(Verdict, String),
+    Refused(RunResult, String),
 }
 
 /// The disk of a layout, over which nothing was run yet.
@@ -63,7 +63,7 @@ fn no_opening(alloc: Global, why: &str) -> Result<Opening, Halt>
 pub(crate) fn open<S: Source>(
     alloc: Global,
     source: &mut S,
-    unread: &mut Unread,
+    unread: &mut LineReader,
 ) -> Result<Opening, Halt>
     ensures { IfOk result (Opens (prepend_known unread.old (S.told source.old)) (prepend_known unread.new (S.told source.new))) }
 {
@@ -80,7 +80,7 @@ fn bad_line(alloc: Global, number: u64) -> Result<Turn, Halt>
     ensures { IfOk result IsRefusal }
 {
     let why = format!(in alloc; "bad line {number}")?;
-    Ok(Turn::Refused(Verdict::BadLine(number), why))
+    Ok(Turn::Refused(RunResult::BadLine(number), why))
 }
 
 /// The turn of a line too many.
@@ -88,7 +88,7 @@ fn too_many_lines(alloc: Global) -> Result<Turn, Halt>
     ensures { IfOk result IsRefusal }
 {
     let why = String::from_str(alloc, "too many lines")?;
-    Ok(Turn::Refused(Verdict::TooManyLines, why))
+    Ok(Turn::Refused(RunResult::TooManyLines, why))
 }
 
 /// Runs a line. The journal notes it.
@@ -113,22 +113,22 @@ pub(crate) fn take_turn<S: Source>(
     world: &mut World,
     journal: &mut Journal,
     source: &mut S,
-    unread: &mut Unread,
+    unread: &mut LineReader,
     count: u64,
 ) -> Result<Turn, Halt>
     ensures { IfOk result (Turns world.old world.new (prepend_known unread.old (S.told source.old))
         (prepend_known unread.new (S.told source.new))) }
 {
     let piece = next(source, unread, LINE_LIMIT)?;
-    if let Piece::Ended = piece {
+    if let NextLine::Ended = piece {
         return Ok(Turn::Ended);
     }
     if count >= MOST_LINES {
         return too_many_lines(alloc);
     }
     match piece {
-        Piece::Whole(line) => run_line(alloc, world, journal, line, count + 1),
-        Piece::Last(line) => run_line(alloc, world, journal, line, count + 1),
-        Piece::Long | Piece::Ended => bad_line(alloc, count + 1),
+        NextLine::Whole(line) => run_line(alloc, world, journal, line, count + 1),
+        NextLine::Last(line) => run_line(alloc, world, journal, line, count + 1),
+        NextLine::Long | NextLine::Ended => bad_line(alloc, count + 1),
     }
 }

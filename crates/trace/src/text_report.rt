@@ -12,9 +12,9 @@ use crate::pages::Page;
 use crate::schedules::{Opening, Turn, open, take_turn};
 use fab_base::NoMem;
 use fab_io::{Sink, Source};
-use lines::{Unread, content_of};
+use lines::{LineReader, content_of};
 use messages::Packet;
-use replay::{Halt, Verdict, write};
+use replay::{Halt, RunResult, write};
 use std::alloc::Global;
 use trace_runs::{Journal, LineRun, StripeHistory, Text, histories_of};
 use world::World;
@@ -111,22 +111,22 @@ fn finish<K: Sink>(
     world: &World,
     journal: &Journal,
     sink: &mut K,
-) -> Result<Verdict, Halt>
+) -> Result<RunResult, Halt>
     ensures writes { WritesTold result (K.told sink.old) (K.told sink.new) [] }
-    ensures ends { EndsAs Verdict.Whole result }
+    ensures ends { EndsAs RunResult.Whole result }
 {
     let page = closing_page(alloc, world, journal)?;
     write(sink, page.as_slice())?;
-    Ok(Verdict::Whole)
+    Ok(RunResult::Whole)
 }
 
 /// Writes why a run ends.
 fn refuse<K: Sink>(
     alloc: Global,
     sink: &mut K,
-    verdict: Verdict,
+    verdict: RunResult,
     why: &str,
-) -> Result<Verdict, Halt>
+) -> Result<RunResult, Halt>
     requires { IsSolid why.now }
     ensures writes { WritesTold result (K.told sink.old) (K.told sink.new) [] }
     ensures ends { EndsAs verdict result }
@@ -142,9 +142,9 @@ fn tell_lines<S: Source, K: Sink>(
     alloc: Global,
     world: &mut World,
     source: &mut S,
-    unread: &mut Unread,
+    unread: &mut LineReader,
     sink: &mut K,
-) -> Result<Verdict, Halt>
+) -> Result<RunResult, Halt>
     ensures { (input : Option (List ℕ)) (head : List ℕ) → ReadsSchedule input (prepend_known unread.old (S.told source.old)) head []
         → TellsRest world.old input head (K.told sink.old) (K.told sink.new) result }
 {
@@ -169,12 +169,12 @@ pub(crate) fn tell<S: Source, K: Sink>(
     alloc: Global,
     source: &mut S,
     sink: &mut K,
-) -> Result<Verdict, Halt>
+) -> Result<RunResult, Halt>
     ensures { Tells (S.told source.old) (K.told sink.old) (K.told sink.new) result }
 {
-    let mut unread = Unread::new(alloc);
+    let mut unread = LineReader::new(alloc);
     match open(alloc, source, &mut unread)? {
         Opening::Opened(mut world) => tell_lines(alloc, &mut world, source, &mut unread, sink),
-        Opening::Refused(why) => refuse(alloc, sink, Verdict::BadLayout, why.as_str()),
+        Opening::Refused(why) => refuse(alloc, sink, RunResult::BadLayout, why.as_str()),
     }
 }

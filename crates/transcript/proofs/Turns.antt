@@ -4,8 +4,8 @@ use Rattle.std.specs.Io.KnownBytes.{IsAtEnd}
 use Rattle.std.proofs.lemmas.Bool.Decides.{nat_tests}
 use Rattle.lines.specs.Lines.{raw_lines, content}
 use Rattle.lines.specs.Reading.{Says, Passes, BeginsLong}
-use Rattle.lines.specs.declared.reader.Piece.{Piece}
-use Rattle.lines.specs.declared.reader.Piece.TheVariants.{Whole, Last, Long, Ended}
+use Rattle.lines.specs.declared.reader.NextLine.{NextLine}
+use Rattle.lines.specs.declared.reader.NextLine.TheVariants.{Whole, Last, Long, Ended}
 use Rattle.transcript.specs.declared.claims.Counts.{Counts}
 use Rattle.transcript.specs.declared.claims.Entry.{Entry}
 use Rattle.transcript.specs.declared.readings.Text.{Text}
@@ -100,7 +100,7 @@ from_start None text h = tt
 from_start (Some bytes) text h = h
 
 -- whatever comes next, once there are as many lines as there may be
-pub many_come : (n : ℕ) (said : Transcribed) (piece : Piece) (left rest : Option (List ℕ)) → most_lines ≤ n → (piece ≡ Ended → ⊥)
+pub many_come : (n : ℕ) (said : Transcribed) (piece : NextLine) (left rest : Option (List ℕ)) → most_lines ≤ n → (piece ≡ Ended → ⊥)
     → Says most_line_bytes left rest piece → IsTextBehind n said left TooManyLines
 many_come n said (Whole line) left rest h more says = many_passed n said line left rest h says.1
 many_come n said (Last line) left rest h more says = many_passed n said line left rest h says.1

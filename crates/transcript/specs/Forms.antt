@@ -6,9 +6,9 @@ use Rattle.lines.specs.Grammar.{◌>>=◌}
 use Rattle.lines.specs.declared.forms.Access.{Access}
 use Rattle.lines.specs.declared.forms.Access.TheVariants.{ReadBlock, WriteBlock, ReadStripe, WriteStripe}
 use Rattle.reg_model.specs.declared.marks.Happening.{Happening}
-use Rattle.transcript.specs.declared.claims.Claim.TheVariants.{Begin, End, Crash}
-use Rattle.transcript.specs.declared.claims.Outcome.{Outcome}
-use Rattle.transcript.specs.declared.claims.Outcome.TheVariants.{Data, Done, Aborted}
+use Rattle.transcript.specs.declared.claims.ParsedMark.TheVariants.{Begin, End, Crash}
+use Rattle.transcript.specs.declared.claims.ParsedAnswer.{ParsedAnswer}
+use Rattle.transcript.specs.declared.claims.ParsedAnswer.TheVariants.{Data, Done, Aborted}
 use Rattle.transcript.specs.declared.claims.Entry.{Entry}
 use Rattle.transcript.specs.declared.claims.Entry.TheVariants.{Mark, Other, Happened, Counted}
 use Rattle.transcript.specs.Tokens.{behind, plain_number, lower_hex, number_before}
@@ -64,7 +64,7 @@ begin_of p text = do
   ask_of p operation.0 brick.0 brick.1
 
 -- an operation ends
-abbrev pub ends : ℕ → ℕ → Outcome → Option Entry
+abbrev pub ends : ℕ → ℕ → ParsedAnswer → Option Entry
 ends p n outcome = Some (Mark (End p n outcome))
 
 -- `HEX`, behind `data `

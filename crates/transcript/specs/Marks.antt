@@ -6,12 +6,12 @@ use Rattle.fab_base.specs.declared.asks.Op.{Op}
 use Rattle.fab_base.specs.declared.answers.Answer.{Answer}
 use Rattle.fab_base.specs.declared.answers.Cause.{Cause}
 use Rattle.reg_model.specs.declared.marks.Mark.{Mark}
-use Rattle.transcript.specs.declared.claims.Claim.{Claim}
-use Rattle.transcript.specs.declared.claims.Claim.TheVariants.{Begin, End, Crash}
-use Rattle.transcript.specs.declared.claims.Outcome.{Outcome}
-use Rattle.transcript.specs.declared.claims.Outcome.TheVariants.{Data, Done, Aborted}
-use Rattle.transcript.specs.declared.claims.Reason.{Reason}
-use Rattle.transcript.specs.declared.claims.Reason.TheVariants.{Later, Gone, Full, Moved}
+use Rattle.transcript.specs.declared.claims.ParsedMark.{ParsedMark}
+use Rattle.transcript.specs.declared.claims.ParsedMark.TheVariants.{Begin, End, Crash}
+use Rattle.transcript.specs.declared.claims.ParsedAnswer.{ParsedAnswer}
+use Rattle.transcript.specs.declared.claims.ParsedAnswer.TheVariants.{Data, Done, Aborted}
+use Rattle.transcript.specs.declared.claims.ParsedCause.{ParsedCause}
+use Rattle.transcript.specs.declared.claims.ParsedCause.TheVariants.{Later, Gone, Full, Moved}
 
 -- what is asked
 abbrev pub op_of : Access → Op
@@ -21,7 +21,7 @@ op_of ReadStripe = Op.ReadStripe
 op_of (WriteStripe bytes) = Op.WriteStripe bytes
 
 -- why an operation was aborted
-abbrev pub cause_of : Reason → Cause
+abbrev pub cause_of : ParsedCause → Cause
 cause_of (Later b stamp) =
     Cause.Later (record { 0 = b })
     (record { view = record { 0 = stamp.view }; time = stamp.time; brick = record { 0 = stamp.brick }; boot = stamp.boot })
@@ -30,18 +30,18 @@ cause_of (Full b live) = Cause.Full (record { 0 = b }) live
 cause_of (Moved b view) = Cause.Moved (record { 0 = b }) (record { 0 = view })
 
 -- an answer
-abbrev pub answer_of : Outcome → Answer
+abbrev pub answer_of : ParsedAnswer → Answer
 answer_of (Data bytes) = Answer.Data bytes
 answer_of Done = Answer.Done
 answer_of (Aborted reason) = Answer.Aborted (cause_of reason)
 
 -- a mark
-abbrev pub mark_of : Claim → Mark
+abbrev pub mark_of : ParsedMark → Mark
 mark_of (Begin p n b g s access) =
     Mark.Begin p n (record { 0 = b }) (record { group = record { 0 = g }; stripe = record { 0 = s }; op = op_of access })
 mark_of (End p n outcome) = Mark.End p n (answer_of outcome)
 mark_of (Crash p b) = Mark.Crash p (record { 0 = b })
 
 -- the marks of a text
-abbrev pub marks_of : List Claim → List Mark
+abbrev pub marks_of : List ParsedMark → List Mark
 marks_of claims = map mark_of claims

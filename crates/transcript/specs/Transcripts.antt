@@ -4,8 +4,8 @@ use Rattle.std.specs.Prelude.{◌≡◌, ⊤, map, ℕ, ◌<◌, ◌+◌, ◌-�
 use Rattle.std.specs.Option.{is_none}
 use Rattle.std.specs.Io.KnownBytes.{IsAtEnd}
 use Rattle.lines.specs.Lines.{raw_lines, content}
-use Rattle.transcript.specs.declared.claims.Claim.{Claim}
-use Rattle.transcript.specs.declared.claims.Claim.TheVariants.{Begin, End, Crash}
+use Rattle.transcript.specs.declared.claims.ParsedMark.{ParsedMark}
+use Rattle.transcript.specs.declared.claims.ParsedMark.TheVariants.{Begin, End, Crash}
 use Rattle.transcript.specs.declared.claims.Counts.{Counts}
 use Rattle.transcript.specs.declared.claims.StripeLine.{StripeLine}
 use Rattle.transcript.specs.declared.claims.Entry.{Entry}
@@ -20,7 +20,7 @@ abbrev pub nothing_said : Transcribed
 nothing_said = record { claims = []; stripes = []; counts = None }
 
 -- the position that a mark says
-abbrev pub position_said : Claim → ℕ
+abbrev pub position_said : ParsedMark → ℕ
 position_said (Begin p n b g s access) = p
 position_said (End p n outcome) = p
 position_said (Crash p b) = p

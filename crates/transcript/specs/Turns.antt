@@ -3,8 +3,8 @@ use Rattle.std.specs.Prelude.{◌≡◌, ℕ, ◌+◌, ◌<◌, List, Option, So
 use Rattle.std.specs.Io.KnownBytes.{IsAtEnd}
 use Rattle.lines.specs.Lines.{content}
 use Rattle.lines.specs.Reading.{Says}
-use Rattle.lines.specs.declared.reader.Piece.{Piece}
-use Rattle.lines.specs.declared.reader.Piece.TheVariants.{Whole}
+use Rattle.lines.specs.declared.reader.NextLine.{NextLine}
+use Rattle.lines.specs.declared.reader.NextLine.TheVariants.{Whole}
 use Rattle.transcript.specs.declared.readings.Text.{Text}
 use Rattle.transcript.specs.declared.readings.Text.TheVariants.{BadLine}
 use Rattle.transcript.specs.declared.readings.Turn.{Turn}
@@ -21,7 +21,7 @@ TurnLeaves old new n left rest Bad = IsTextBehind n old left (BadLine (n + 1))
 TurnLeaves old new n left rest Ended = IsTextBehind n old left (text_at_end n new new.counts) × IsAtEnd rest
 
 -- the same, wherever what comes next was read
-abbrev pub TurnMeans : Transcribed → Transcribed → Piece → Turn → Type 0
+abbrev pub TurnMeans : Transcribed → Transcribed → NextLine → Turn → Type 0
 TurnMeans old new piece turn =
     (n : ℕ) (left rest : Option (List ℕ)) → n < most_lines → Says most_line_bytes left rest piece → TurnLeaves old new n left rest turn
 
@@ -33,7 +33,7 @@ TurnRises said Bad = ⊤
 TurnRises said Ended = StripesRise said.stripes
 
 -- what leads on and is not the last is a whole line
-abbrev pub TurnTakes : Transcribed → Transcribed → Piece → Turn → Type 0
+abbrev pub TurnTakes : Transcribed → Transcribed → NextLine → Turn → Type 0
 TurnTakes old new piece More = (line : List ℕ) × (piece ≡ Whole line) × (after_line old (entry_of (content line)) ≡ Some new)
 TurnTakes old new piece Last = ⊤
 TurnTakes old new piece Bad = ⊤

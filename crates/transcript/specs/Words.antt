@@ -5,8 +5,8 @@ use Rattle.std.specs.Option.{is_some}
 use Rattle.std.specs.Str.{bytes_eq}
 use Rattle.lines.specs.Grammar.{◌>>=◌}
 use Rattle.transcript.specs.declared.claims.ClaimedStamp.{ClaimedStamp}
-use Rattle.transcript.specs.declared.claims.Reason.{Reason}
-use Rattle.transcript.specs.declared.claims.Reason.TheVariants.{Later, Gone, Full, Moved}
+use Rattle.transcript.specs.declared.claims.ParsedCause.{ParsedCause}
+use Rattle.transcript.specs.declared.claims.ParsedCause.TheVariants.{Later, Gone, Full, Moved}
 use Rattle.transcript.specs.Tokens.{behind, cut, plain_number, is_plain, are_plain, number_before}
 
 -- one reading of what was found, where something was, or else another
@@ -28,34 +28,34 @@ stamp_of text = do
   Some (record { view = view.0; time = time.0; brick = brick.0; boot = boot })
 
 -- `B STAMP`, behind `later `
-unfoldable pub later_of : List ℕ → Option Reason
+unfoldable pub later_of : List ℕ → Option ParsedCause
 later_of text = do
   brick ← number_before 32 text
   stamp ← stamp_of brick.1
   Some (Later brick.0 stamp)
 
 -- `B`, behind `gone `
-unfoldable pub gone_of : List ℕ → Option Reason
+unfoldable pub gone_of : List ℕ → Option ParsedCause
 gone_of text = do
   brick ← plain_number text
   Some (Gone brick)
 
 -- `B LIVE`, behind `full `
-unfoldable pub full_of : List ℕ → Option Reason
+unfoldable pub full_of : List ℕ → Option ParsedCause
 full_of text = do
   brick ← number_before 32 text
   live ← plain_number brick.1
   Some (Full brick.0 live)
 
 -- `B VIEW`, behind `moved `
-unfoldable pub moved_of : List ℕ → Option Reason
+unfoldable pub moved_of : List ℕ → Option ParsedCause
 moved_of text = do
   brick ← number_before 32 text
   view ← plain_number brick.1
   Some (Moved brick.0 view)
 
 -- why an operation was aborted
-unfoldable pub cause_of : List ℕ → Option Reason
+unfoldable pub cause_of : List ℕ → Option ParsedCause
 cause_of text =
     or_else (behind (codes "later ") text) later_of (or_else (behind (codes "gone ") text) gone_of
     (or_else (behind (codes "full ") text) full_of (or_else (behind (codes "moved ") text) moved_of None)))

@@ -21,7 +21,7 @@ pub struct ClaimedStamp {
 
 /// Why an operation was aborted.
 #[derive(Clone, Copy)]
-pub enum Reason {
+pub enum ParsedCause {
     /// A brick had a later stamp.
     Later {
         /// The brick.
@@ -52,18 +52,18 @@ pub enum Reason {
 
 /// An answer.
 #[derive(Drop)]
-pub enum Outcome {
+pub enum ParsedAnswer {
     /// A read's data.
     Data(Bytes),
     /// A write is done.
     Done,
     /// The operation was aborted.
-    Aborted(Reason),
+    Aborted(ParsedCause),
 }
 
 /// A mark.
 #[derive(Drop)]
-pub enum Claim {
+pub enum ParsedMark {
     /// An operation begins.
     Begin {
         /// The mark's position.
@@ -86,7 +86,7 @@ pub enum Claim {
         /// The operation's number.
         operation: u64,
         /// The answer.
-        outcome: Outcome,
+        outcome: ParsedAnswer,
     },
     /// A brick stops.
     Crash {
@@ -97,7 +97,7 @@ pub enum Claim {
     },
 }
 
-impl Claim {
+impl ParsedMark {
     ghost use Rattle.transcript.specs.Transcripts.{position_said};
 
     /// The position that the mark says.
@@ -105,9 +105,9 @@ impl Claim {
         ensures { result ≡ position_said self.now }
     {
         match self {
-            Claim::Begin { position, .. } => *position,
-            Claim::End { position, .. } => *position,
-            Claim::Crash { position, .. } => *position,
+            ParsedMark::Begin { position, .. } => *position,
+            ParsedMark::End { position, .. } => *position,
+            ParsedMark::Crash { position, .. } => *position,
         }
     }
 }
@@ -151,7 +151,7 @@ pub struct Counts {
 #[derive(Drop)]
 pub enum Entry {
     /// A mark.
-    Mark(Claim),
+    Mark(ParsedMark),
     /// A refusal, `idle`, or how a proposal, a sync job or a scrub ended: what it says is not kept.
     Other,
     /// The happenings of a stripe.

@@ -13,7 +13,7 @@ mod tokens;
 mod transcripts;
 mod words;
 
-pub use claims::{Claim, ClaimedStamp, Counts, Entry, Outcome, Reason, StripeLine};
+pub use claims::{ClaimedStamp, Counts, Entry, ParsedAnswer, ParsedCause, ParsedMark, StripeLine};
 pub use forms::{LINE_LIMIT, parse};
 pub use happening_lists::HappeningList;
 pub use readings::{MOST_LINES, Text, read};

@@ -2,7 +2,7 @@
 ghost use Rattle.std.specs.Prelude.{◌≡◌, IfOk};
 ghost use Rattle.transcript.specs.Forms.{begins, read_of, write_of, read_all_of, write_all_of, ask_of, begin_of, data_of, aborted_of, answer_of, end_of, crash_of, mark_at, mark_of_line};
 
-use crate::claims::{Claim, Entry, Outcome};
+use crate::claims::{Entry, ParsedAnswer, ParsedMark};
 use crate::tokens::{behind, number_before, parse_lower_hex, parse_plain};
 use crate::words::parse_cause;
 use fab_base::NoMem;
@@ -22,7 +22,7 @@ impl Opening {
     fn asks(self, group: u64, stripe: u64, access: Access) -> Option<Entry>
         ensures { result ≡ begins self.position self.operation self.brick group stripe access }
     {
-        Some(Entry::Mark(Claim::Begin {
+        Some(Entry::Mark(ParsedMark::Begin {
             position: self.position,
             operation: self.operation,
             brick: self.brick,
@@ -131,10 +131,10 @@ fn parse_begin(alloc: Global, position: u64, text: &[u8]) -> Result<Option<Entry
 }
 
 /// An operation ends.
-fn end(position: u64, operation: u64, outcome: Outcome) -> Entry
-    ensures { result ≡ Entry.Mark (Claim.End position operation outcome) }
+fn end(position: u64, operation: u64, outcome: ParsedAnswer) -> Entry
+    ensures { result ≡ Entry.Mark (ParsedMark.End position operation outcome) }
 {
-    Entry::Mark(Claim::End {
+    Entry::Mark(ParsedMark::End {
         position,
         operation,
         outcome,
@@ -155,16 +155,16 @@ fn parse_answer(
         let Some(bytes) = parse_lower_hex(alloc, rest)? else {
             return Ok(None);
         };
-        return Ok(Some(end(position, operation, Outcome::Data(bytes))));
+        return Ok(Some(end(position, operation, ParsedAnswer::Data(bytes))));
     }
     if let Some(rest) = behind(text, b"aborted ") {
         let Some(reason) = parse_cause(rest) else {
             return Ok(None);
         };
-        return Ok(Some(end(position, operation, Outcome::Aborted(reason))));
+        return Ok(Some(end(position, operation, ParsedAnswer::Aborted(reason))));
     }
     if text == b"done".as_slice() {
-        Ok(Some(end(position, operation, Outcome::Done)))
+        Ok(Some(end(position, operation, ParsedAnswer::Done)))
     } else {
         Ok(None)
     }
@@ -187,7 +187,7 @@ fn parse_crash(position: u64, text: &[u8]) -> Option<Entry>
     ensures { result ≡ crash_of position text.now }
 {
     let brick = parse_plain(text)?;
-    Some(Entry::Mark(Claim::Crash { position, brick }))
+    Some(Entry::Mark(ParsedMark::Crash { position, brick }))
 }
 
 /// The rest of a mark, behind its position.

@@ -14,7 +14,7 @@ use crate::forms::{LINE_LIMIT, parse};
 use crate::transcripts::Transcript;
 use fab_base::NoMem;
 use fab_io::{IoFault, Source};
-use lines::{Piece, Unread, content_of};
+use lines::{LineReader, NextLine, content_of};
 use std::alloc::Global;
 
 /// The most lines of a text.
@@ -56,33 +56,33 @@ fn take_line(alloc: Global, said: &mut Transcript, line: &[u8]) -> Result<bool, 
 }
 
 /// Takes what comes next.
-fn take_turn(alloc: Global, said: &mut Transcript, piece: &Piece) -> Result<Turn, NoMem>
+fn take_turn(alloc: Global, said: &mut Transcript, piece: &NextLine) -> Result<Turn, NoMem>
     ensures turn { IfOk result (λ turn. TurnMeans said.old said.new piece.now turn) }
     ensures rises { IfOk result (λ turn. StripesRise said.old.stripes → TurnRises said.new turn) }
     ensures takes { IfOk result (λ turn. TurnTakes said.old said.new piece.now turn) }
 {
     match piece {
-        Piece::Whole(line) => {
+        NextLine::Whole(line) => {
             if take_line(alloc, said, line.as_slice())? {
                 Ok(Turn::More)
             } else {
                 Ok(Turn::Bad)
             }
         }
-        Piece::Last(line) => {
+        NextLine::Last(line) => {
             if take_line(alloc, said, line.as_slice())? {
                 Ok(Turn::Last)
             } else {
                 Ok(Turn::Bad)
             }
         }
-        Piece::Long => Ok(Turn::Bad),
-        Piece::Ended => Ok(Turn::Ended),
+        NextLine::Long => Ok(Turn::Bad),
+        NextLine::Ended => Ok(Turn::Ended),
     }
 }
 
 /// The same, as a fault of a source has it.
-fn take_next(alloc: Global, said: &mut Transcript, piece: &Piece) -> Result<Turn, IoFault>
+fn take_next(alloc: Global, said: &mut Transcript, piece: &NextLine) -> Result<Turn, IoFault>
     ensures turn { IfOk result (λ turn. TurnMeans said.old said.new piece.now turn) }
     ensures rises { IfOk result (λ turn. StripesRise said.old.stripes → TurnRises said.new turn) }
     ensures takes { IfOk result (λ turn. TurnTakes said.old said.new piece.now turn) }
@@ -108,7 +108,11 @@ fn finish(said: Transcript, lines: u64) -> Text
 /// Reads the text that is left of a source, as far as it takes to know what it is: no read is made once a line is bad, or one too many.
 ///
 /// `Failed` comes only where the source failed, and `NoMemory` where there was no memory.
-pub fn read<S: Source>(alloc: Global, source: &mut S, unread: &mut Unread) -> Result<Text, IoFault>
+pub fn read<S: Source>(
+    alloc: Global,
+    source: &mut S,
+    unread: &mut LineReader,
+) -> Result<Text, IoFault>
     ensures rises { IfOk result RisesWhole }
     ensures text { IfOk result (λ text. IsTextOf (prepend_known unread.old (S.told source.old)) text) }
     ensures end { IfOk result (λ text. EndsWhole text (prepend_known unread.new (S.told source.new))) }
@@ -128,7 +132,7 @@ pub fn read<S: Source>(alloc: Global, source: &mut S, unread: &mut Unread) -> Re
         }
     }
     let more = unread.next_line(source, LINE_LIMIT)?;
-    if let Piece::Ended = more {
+    if let NextLine::Ended = more {
         return Ok(finish(said, MOST_LINES));
     }
     Ok(Text::TooManyLines)

@@ -1,7 +1,7 @@
 // What the lines of a text say together.
 ghost use Rattle.std.specs.Prelude.{◌≡◌, IfOk, if◌then◌else◌, Some, None};
 
-use crate::claims::{Claim, Counts, Entry, StripeLine};
+use crate::claims::{Counts, Entry, ParsedMark, StripeLine};
 use fab_base::NoMem;
 use std::alloc::Global;
 use std::marker::Model;
@@ -9,7 +9,7 @@ use std::marker::Model;
 /// What the lines of a text say together: marks, then the happenings of stripes, then the counts.
 #[derive(Drop)]
 pub struct Transcript {
-    claims: Vec<Claim>,
+    claims: Vec<ParsedMark>,
     stripes: Vec<StripeLine>,
     counts: Option<Counts>,
 }
@@ -37,7 +37,7 @@ impl Transcript {
     }
 
     /// The marks, in order.
-    pub fn claims(&self) -> &[Claim]
+    pub fn claims(&self) -> &[ParsedMark]
         ensures { result.now ≡ self.now.claims }
     {
         self.claims.as_slice()
@@ -92,7 +92,7 @@ impl Transcript {
 
     /// Takes a mark.
     #[tactic(auto, unfolding(crate::specs::Transcripts::after_entry))]
-    fn take_mark(&mut self, claim: Claim) -> Result<bool, NoMem>
+    fn take_mark(&mut self, claim: ParsedMark) -> Result<bool, NoMem>
         ensures { IfOk result (λ taken. after_entry self.old (Entry.Mark claim) ≡ (if taken then Some self.new else None)) }
     {
         let position = self.claims.len() as u64;

@@ -2,7 +2,7 @@
 ghost use Rattle.std.specs.Prelude.{◌≡◌};
 ghost use Rattle.transcript.specs.Words.{is_ballot, stamp_of, later_of, gone_of, full_of, moved_of, cause_of, is_refusal, is_decided, is_view_end, is_stopped, is_sync_end, is_repaired, is_scrub_end, is_view, is_sync, is_scrub, is_word};
 
-use crate::claims::{ClaimedStamp, Reason};
+use crate::claims::{ClaimedStamp, ParsedCause};
 use crate::tokens::{are_plain, behind, cut, is_plain, number_before, parse_plain};
 
 /// Whether a text is a ballot: `ROUND.BRICK.BOOT`.
@@ -38,46 +38,46 @@ fn parse_stamp(text: &[u8]) -> Option<ClaimedStamp>
 
 /// `B STAMP`, behind `later `.
 #[tactic(auto, unfolding(crate::specs::Words::later_of))]
-fn parse_later(text: &[u8]) -> Option<Reason>
+fn parse_later(text: &[u8]) -> Option<ParsedCause>
     ensures { result ≡ later_of text.now }
 {
     let (brick, text) = number_before(text, b' ')?;
     let stamp = parse_stamp(text)?;
-    Some(Reason::Later { brick, stamp })
+    Some(ParsedCause::Later { brick, stamp })
 }
 
 /// `B`, behind `gone `.
 #[tactic(auto, unfolding(crate::specs::Words::gone_of))]
-fn parse_gone(text: &[u8]) -> Option<Reason>
+fn parse_gone(text: &[u8]) -> Option<ParsedCause>
     ensures { result ≡ gone_of text.now }
 {
     let brick = parse_plain(text)?;
-    Some(Reason::Gone { brick })
+    Some(ParsedCause::Gone { brick })
 }
 
 /// `B LIVE`, behind `full `.
 #[tactic(auto, unfolding(crate::specs::Words::full_of))]
-fn parse_full(text: &[u8]) -> Option<Reason>
+fn parse_full(text: &[u8]) -> Option<ParsedCause>
     ensures { result ≡ full_of text.now }
 {
     let (brick, text) = number_before(text, b' ')?;
     let live = parse_plain(text)?;
-    Some(Reason::Full { brick, live })
+    Some(ParsedCause::Full { brick, live })
 }
 
 /// `B VIEW`, behind `moved `.
 #[tactic(auto, unfolding(crate::specs::Words::moved_of))]
-fn parse_moved(text: &[u8]) -> Option<Reason>
+fn parse_moved(text: &[u8]) -> Option<ParsedCause>
     ensures { result ≡ moved_of text.now }
 {
     let (brick, text) = number_before(text, b' ')?;
     let view = parse_plain(text)?;
-    Some(Reason::Moved { brick, view })
+    Some(ParsedCause::Moved { brick, view })
 }
 
 /// Why an operation was aborted.
 #[tactic(auto, unfolding(crate::specs::Words::cause_of))]
-pub(crate) fn parse_cause(text: &[u8]) -> Option<Reason>
+pub(crate) fn parse_cause(text: &[u8]) -> Option<ParsedCause>
     ensures { result ≡ cause_of text.now }
 {
     if let Some(rest) = behind(text, b"later ") {

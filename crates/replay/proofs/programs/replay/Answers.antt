@@ -2,7 +2,7 @@ use Rattle.std.proofs.Common.{◌≡◌, ℕ, ◌⊎◌, Result, Err, inl, inr, 
 use Rattle.std.specs.Prelude.{map, string_bytes}
 use Rattle.std.specs.Io.KnownBytes.{Appends}
 use Rattle.fab_io.specs.Ends.{AppendsFront}
-use Rattle.replay.specs.declared.endings.Verdict.{Verdict}
+use Rattle.replay.specs.declared.endings.RunResult.{RunResult}
 use Rattle.replay.specs.declared.endings.Halt.{Halt}
 use Rattle.replay.specs.Outputs.{output_of}
 use Rattle.replay.specs.Turns.{Prints}
@@ -29,7 +29,7 @@ returns-then-is_word-clause-run g c = λ _.
       failed_source = λ failed. failed_source RunGoesOn _ _ _ _ _ _ _ c.run.ensures.reads failed;
       read = c.run.ensures.read;
       linearizable = λ whole. linearizable run.input run.steps c.run.result whole run.steps_are
-          (subst (λ (r : Result Verdict Halt). Prints (g.K.Sink.told c.args.sink.now) (g.K.Sink.told c.run.new.sink)
+          (subst (λ (r : Result RunResult Halt). Prints (g.K.Sink.told c.args.sink.now) (g.K.Sink.told c.run.new.sink)
           (output_of run.steps run.input) r) whole run.printed).0;
       stays_strict = stays_strict run.input;
     }

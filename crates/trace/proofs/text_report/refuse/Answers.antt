@@ -1,6 +1,6 @@
 -- The page tells nothing, and it was written, or some of it.
 use Rattle.std.proofs.Common.{[], Result}
-use Rattle.replay.specs.declared.endings.Verdict.{Verdict}
+use Rattle.replay.specs.declared.endings.RunResult.{RunResult}
 use Rattle.replay.specs.declared.endings.Halt.{Halt}
 use Rattle.trace.specs.TextReport.{WritesTold}
 use Rattle.trace.proofs.WholeTexts.{told-none}
@@ -11,7 +11,7 @@ pub returns-in_err-write-clause-writes : goal.returns-in_err-write-clause-writes
 returns-in_err-write-clause-writes g c =
     let told = c.in_ok-head.ensures [] (page-told c.new-page.result [] [] c.new-page.ensures told-none) in
     at_err c.from_residual-in_err-write.result
-    (λ (r : Result Verdict Halt). WritesTold r (g.K.Sink.told c.args.sink.now) (g.K.Sink.told c.write.new.sink) [])
+    (λ (r : Result RunResult Halt). WritesTold r (g.K.Sink.told c.args.sink.now) (g.K.Sink.told c.write.new.sink) [])
     (λ halt. record {
       text = c.as_slice.result.now;
       is_told = page-told c.as_slice.result.now c.head.new.self [] c.as_slice.ensures told;

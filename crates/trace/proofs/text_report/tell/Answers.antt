@@ -1,6 +1,6 @@
 use Rattle.std.proofs.Common.{Result, Err, inl, inr}
-use Rattle.replay.specs.declared.endings.Verdict.{Verdict}
-use Rattle.replay.specs.declared.endings.Verdict.TheVariants.{Whole, BadLayout, Refuted}
+use Rattle.replay.specs.declared.endings.RunResult.{RunResult}
+use Rattle.replay.specs.declared.endings.RunResult.TheVariants.{Whole, BadLayout, Refuted}
 use Rattle.replay.specs.declared.endings.Halt.{Halt}
 use Rattle.trace.specs.TextReport.{Tells}
 use Rattle.trace.proofs.LinesTold.{at_err, writes-stopped, stopped, layout_not_whole, layout_not_refuted, ends_not, run-told, nothing-told, from-start}
@@ -9,7 +9,7 @@ use Rattle.trace.proofs.text_report.tell.Goals as goal
 pub returns-in_err-world : goal.returns-in_err-world
 returns-in_err-world g c =
     let sink = g.K.Sink.told c.args.sink.now in
-    at_err c.from_residual.result (λ (r : Result Verdict Halt). Tells (g.S.Source.told c.args.source.now) sink sink r)
+    at_err c.from_residual.result (λ (r : Result RunResult Halt). Tells (g.S.Source.told c.args.source.now) sink sink r)
     (λ halt. inr (nothing-told sink sink (Err halt) (writes-stopped halt sink) (stopped halt Whole ⊥) (stopped halt Refuted ⊥))) c.from_residual.ensures.0
 
 pub returns-in-Opened : goal.returns-in-Opened

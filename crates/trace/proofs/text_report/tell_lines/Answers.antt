@@ -1,7 +1,7 @@
 -- What was told of the lines so far, and of the next one or the end.
 use Rattle.std.proofs.Common.{Result, Ok, Err}
-use Rattle.replay.specs.declared.endings.Verdict.{Verdict}
-use Rattle.replay.specs.declared.endings.Verdict.TheVariants.{Whole, Refuted}
+use Rattle.replay.specs.declared.endings.RunResult.{RunResult}
+use Rattle.replay.specs.declared.endings.RunResult.TheVariants.{Whole, Refuted}
 use Rattle.replay.specs.declared.endings.Halt.{Halt}
 use Rattle.replay.specs.declared.endings.Halt.TheVariants.{Memory}
 use Rattle.trace.specs.TextReport.{TellsRest}
@@ -11,7 +11,7 @@ use Rattle.trace.proofs.text_report.tell_lines.Goals as goal
 pub returns-in_err-line : goal.returns-in_err-line
 returns-in_err-line g c = λ input head read.
     at_err c.from_residual.result
-    (λ (r : Result Verdict Halt). TellsRest c.args.world.now input head (g.K.Sink.told c.args.sink.now) (g.K.Sink.told c.loop-count.sink) r)
+    (λ (r : Result RunResult Halt). TellsRest c.args.world.now input head (g.K.Sink.told c.args.sink.now) (g.K.Sink.told c.loop-count.sink) r)
     (λ halt. lines-end (Err halt) tt _ _ _ _ _ _ _ _ (c.loop-count.invariant input head read) (writes-stopped halt (g.K.Sink.told c.loop-count.sink))
     (stopped halt Whole _) (stopped halt Refuted ⊥))
     c.from_residual.ensures.0
@@ -20,9 +20,9 @@ pub returns-in_err-tell_line-in-Ran : goal.returns-in_err-tell_line-in-Ran
 returns-in_err-tell_line-in-Ran g c = λ input head read.
     let turn = rw c.in-Ran.is at c.in_ok-line.ensures in
     at_err c.from_residual-in_err-tell_line-in-Ran.result
-    (λ (r : Result Verdict Halt). TellsRest c.args.world.now input head (g.K.Sink.told c.args.sink.now) (g.K.Sink.told c.tell_line.new.sink) r)
+    (λ (r : Result RunResult Halt). TellsRest c.args.world.now input head (g.K.Sink.told c.args.sink.now) (g.K.Sink.told c.tell_line.new.sink) r)
     (λ halt. lines-stopped halt _ _ _ _ _ _ _
-    (lines-more {T = Verdict} (Err halt) tt _ _ _ _ _ _ _ c.in-Ran.line c.in-Ran.run.printed _ _ _ (c.loop-count.invariant input head read) turn.0 turn.1
+    (lines-more {T = RunResult} (Err halt) tt _ _ _ _ _ _ _ c.in-Ran.line c.in-Ran.run.printed _ _ _ (c.loop-count.invariant input head read) turn.0 turn.1
     (writes-halt c.in_err-tell_line-in-Ran.field-0.0 halt _ _ c.in-Ran.run.printed c.in_err-tell_line-in-Ran.ensures)))
     c.from_residual-in_err-tell_line-in-Ran.ensures.0
 

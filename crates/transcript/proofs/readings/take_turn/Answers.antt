@@ -2,7 +2,7 @@
 use Rattle.std.proofs.Common.{◌≡◌, ℕ, Bool, cond, List, Some, None, sym, ap, ◌∙◌, subst}
 use Rattle.lines.specs.Lines.{content}
 use Rattle.lines.specs.Reading.{Says}
-use Rattle.lines.specs.declared.reader.Piece.{Piece}
+use Rattle.lines.specs.declared.reader.NextLine.{NextLine}
 use Rattle.transcript.specs.Said.{Transcribed}
 use Rattle.transcript.specs.Forms.{entry_of, most_line_bytes}
 use Rattle.transcript.specs.Transcripts.{after_line}
@@ -18,17 +18,17 @@ answered old new line shown b t same is given =
 
 pub returns-then-branch-clause-turn : goal.returns-then-branch-clause-turn
 returns-then-branch-clause-turn c n left rest within says text behind =
-    let at = subst (λ (p : Piece). Says most_line_bytes left rest p) c.in-Whole.is says in
+    let at = subst (λ (p : NextLine). Says most_line_bytes left rest p) c.in-Whole.is says in
     leads_on n _ _ _ left rest within at.1 (answered _ _ _ _ _ _ c.as_slice.ensures.value c.if-branch.true c.in_ok-take_line-in-Whole.ensures) text behind
 
 pub returns-else-branch-clause-turn : goal.returns-else-branch-clause-turn
 returns-else-branch-clause-turn c n left rest within says =
-    let at = subst (λ (p : Piece). Says most_line_bytes left rest p) c.in-Whole.is says in
+    let at = subst (λ (p : NextLine). Says most_line_bytes left rest p) c.in-Whole.is says in
     leads_nowhere n _ _ left rest within at.1 (answered _ _ _ _ _ _ c.as_slice.ensures.value c.if-branch.false c.in_ok-take_line-in-Whole.ensures)
 
 pub returns-then-branch-2-clause-turn : goal.returns-then-branch-2-clause-turn
 returns-then-branch-2-clause-turn c n left rest within says =
-    let at = subst (λ (p : Piece). Says most_line_bytes left rest p) c.in-Last.is says in (
+    let at = subst (λ (p : NextLine). Says most_line_bytes left rest p) c.in-Last.is says in (
       leads_last n _ _ _ left rest within at.1 at.2
           (answered _ _ _ _ _ _ c.as_slice-in-Last.ensures.value c.if-branch-2.true c.in_ok-take_line-in-Last.ensures),
       at.2,
@@ -36,18 +36,18 @@ returns-then-branch-2-clause-turn c n left rest within says =
 
 pub returns-else-branch-2-clause-turn : goal.returns-else-branch-2-clause-turn
 returns-else-branch-2-clause-turn c n left rest within says =
-    let at = subst (λ (p : Piece). Says most_line_bytes left rest p) c.in-Last.is says in
+    let at = subst (λ (p : NextLine). Says most_line_bytes left rest p) c.in-Last.is says in
     leads_nowhere n _ _ left rest within at.1
     (answered _ _ _ _ _ _ c.as_slice-in-Last.ensures.value c.if-branch-2.false c.in_ok-take_line-in-Last.ensures)
 
 pub returns-in-Long-clause-turn : goal.returns-in-Long-clause-turn
 returns-in-Long-clause-turn c n left rest within says =
-    let at = subst (λ (p : Piece). Says most_line_bytes left rest p) c.in-Long.is says in
+    let at = subst (λ (p : NextLine). Says most_line_bytes left rest p) c.in-Long.is says in
     long_line n _ left within at.1
 
 pub returns-in-Ended-clause-turn : goal.returns-in-Ended-clause-turn
 returns-in-Ended-clause-turn c n left rest within says =
-    let at = subst (λ (p : Piece). Says most_line_bytes left rest p) c.in-Ended.is says in
+    let at = subst (λ (p : NextLine). Says most_line_bytes left rest p) c.in-Ended.is says in
     (none_left n _ left at.0, at.1)
 
 pub returns-then-branch-clause-rises : goal.returns-then-branch-clause-rises

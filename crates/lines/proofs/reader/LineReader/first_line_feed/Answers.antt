@@ -4,7 +4,7 @@ use Rattle.std.specs.List.{position}
 use Rattle.std.specs.Option.{option_map}
 use Rattle.lines.specs.Lines.{is_line_feed}
 use Rattle.lines.proofs.Scanning.{position_from}
-use Rattle.lines.proofs.reader.Unread.first_line_feed.Goals as goal
+use Rattle.lines.proofs.reader.LineReader.first_line_feed.Goals as goal
 
 pub returns-in-None-clause-value : goal.returns-in-None-clause-value
 returns-in-None-clause-value c =

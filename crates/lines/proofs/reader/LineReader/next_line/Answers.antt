@@ -9,7 +9,7 @@ use Rattle.lines.specs.Reading.{IsBegun}
 use Rattle.lines.proofs.RawLines.{stripped}
 use Rattle.lines.proofs.Answering.{says_found, says_long, says_last}
 use Rattle.lines.proofs.LineReading.{begun_of, HasRead, HasRead-filled, reads_of, reads_err, last_bytes}
-use Rattle.lines.proofs.reader.Unread.next_line.Goals as goal
+use Rattle.lines.proofs.reader.LineReader.next_line.Goals as goal
 
 pub returns-in-Some-clause-says : goal.returns-in-Some-clause-says
 returns-in-Some-clause-says g c =

@@ -1,6 +1,6 @@
 -- Each exit is proved whole, by one search.
 use Rattle.std.proofs.Common.{rules}
-use Rattle.lines.proofs.reader.Unread.fill.Goals as goal
+use Rattle.lines.proofs.reader.LineReader.fill.Goals as goal
 
 pub returns-in_err-reserve : goal.returns-in_err-reserve
 returns-in_err-reserve g c = search rules

@@ -4,7 +4,7 @@ use Rattle.std.specs.Io.KnownBytes.{Keeps, prepend_known}
 use Rattle.fab_io.specs.Ends.{Kept}
 use Rattle.lines.specs.Lines.{is_line_feed}
 use Rattle.lines.proofs.LineReading.{HasRead}
-use Rattle.lines.proofs.reader.Unread.next_line.Given as goal
+use Rattle.lines.proofs.reader.LineReader.next_line.Given as goal
 
 abbrev pub invariant-loop-at : goal.invariant-loop-at
 invariant-loop-at g l = record {
