@@ -142,7 +142,7 @@ fn write_text<K: Sink>(alloc: Global, out: &mut K, ending: &Ending) -> Result<()
     out.write(text.as_bytes())
 }
 
-/// Says that this brick serves.
+/// Says that this brick serves. The line stays printed, also if no memory is left behind it.
 pub(crate) fn say_serving<K: Sink>(alloc: Global, out: &mut K, me: BrickId) -> Result<(), IoFault>
     ensures content { WriteTakes (K.told out.old) (K.told out.new) result (serving_text me) }
     ensures memory { result ≡ Err IoFault.NoMemory → Keeps (K.told out.old) (K.told out.new) }

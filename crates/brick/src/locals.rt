@@ -89,6 +89,7 @@ fn host_bricks<H: Host, K: Sink>(
     }
     let name = match disk_name(alloc, prefix, id) {
         Ok(name) => name,
+        // A name without memory is told as a disk that was refused for that.
         Err(_) => return (bricks, Ending::Memory),
     };
     let name = name.as_str();

@@ -42,8 +42,8 @@ use std::alloc::Global;
 /// The host is asked for the source and then for the disk, and for `serve` then for the link and for the clock, each once. For `local` it is asked,
 /// after the source, for the disk of each brick and then for its link, by number, then for the clock, for the client's link at port 0, which is any
 /// free one, and for the source `-`. A store is opened before the next of these calls.
-/// The host is given back each before the end, at every status. What is told of these things is told of what was opened
-/// and what was given back; over a host that tells nothing of what it holds, the clauses do not tie them to its names.
+/// The host is given back each before the last text is written, at every status. What is told of these things is told of what was
+/// opened and what was given back; over a host that tells nothing of what it holds, the clauses do not tie them to its names.
 pub fn brick<H: Host, K: Sink>(alloc: Global, words: &[String], host: &mut H, out: &mut K) -> u8
     // Words of no form: the host is asked nothing.
     ensures words { command_of (map string_bytes words.now) ≡ None → host.new ≡ host.old }

@@ -29,7 +29,8 @@ fn main(rt: HostRuntime) -> ExitCode {
     ExitCode::from(status)
 }
 
-/// How many bytes of standard input are read at once: as many as a command of `brick local` may have.
+/// How many bytes of standard input are read at once: as many as a command of `brick local` may have. So more of it may be
+/// taken than the commands that are run.
 const READ_AHEAD: usize = 70_000;
 
 /// The status of a run that finds no memory, as `brick` answers it.

@@ -124,7 +124,7 @@ impl Index {
         Ok(made)
     }
 
-    /// Makes room for a change.
+    /// Makes room for a change. A store does so before it touches its disk, since no memory may be refused after that.
     pub fn reserve(&mut self, item: &Record) -> Result<(), NoMem>
         ensures same { state_of self.new ≡ state_of self.old }
         ensures limits { limits_of self.new ≡ limits_of self.old }

@@ -58,7 +58,8 @@ impl StripeChange {
 pub struct Stripe {
     /// The order stamp: the greatest stamp promised.
     pub order: Stamp,
-    /// Whether the version that a stripe of view 1 begins with, the zero block of the first stamp, is still in the log.
+    /// Whether the version that a stripe of view 1 begins with, the zero block of the first stamp, is still in the log. It
+    /// takes no room: this flag is all that is kept of it.
     pub from_start: bool,
     /// The versions that were added and not dropped since.
     pub added: VersionLog<u32>,

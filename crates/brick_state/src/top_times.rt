@@ -1,4 +1,8 @@
 //! The greatest time that is kept.
+//!
+//! The stripes of a view are walked for it only if its stamp goes for one of an earlier time. No event of the protocol's
+//! machine puts an order stamp back to an earlier time (`orders` of `protocol_laws::no_event_lowers`). What a Collect drops
+//! is below a version that stays, and not of a later time if the two are of one view: that they are, no clause says.
 
 ghost use Rattle.std.specs.Prelude.{◌≡◌, ◌≤◌, ℕ, IfSome, IsSome};
 ghost use Rattle.brick_state.specs.TopTimes.{IsReplaced};

@@ -49,7 +49,8 @@ fn rewrite<D: Disk>(
     Ok(())
 }
 
-// Makes room in the half for a frame with a body of this length: where it does not fit, the list is rewritten.
+// Makes room in the half for a frame with a body of this length: where it does not fit, the list is rewritten. That always makes
+// room, since there are at most as many live records as slots.
 fn make_room<D: Disk>(
     alloc: Global,
     frames: &mut FrameStore<D>,

@@ -43,7 +43,9 @@ pub fn open_store<D: Disk>(
     ensures found { IfOk result (λ store. D.tells → (st : StateOf Version) × IsFound (shape_of me.0 block records) st (D.seen disk)
         × (st.boot < 2 ^ 32 - 1) × (store.state ≡ booted (st.boot + 1) st)) }
     ensures durable { IfOk result (λ store. D.tells → LeavesState store.shape store.state (D.may_leave store.disk)) }
-    // At each moment each image is one that the disk allowed before, or opens as the state before or after.
+    // At each moment each image is one that the disk allowed before, or opens as the state before or after. It is told of a list
+    // with a closed gate behind it, as each list has that a store wrote: while another one is rewritten the file grows, and
+    // what a crash leaves behind the old end may count as frames.
     ensures moments { IfOk result (λ store. D.tells → (st : StateOf Version) → StandsFor (shape_of me.0 block records) st (D.seen disk)
         → LeavesOnly D.moment D.left_since disk store.disk
         (IsAllowedOr (D.may_leave disk) (StandsForEither (shape_of me.0 block records) st (booted (st.boot + 1) st)))) }
@@ -65,7 +67,8 @@ pub fn open_store<D: Disk>(
     // Cut short where no fault is listed, there was a store that was not worn.
     ensures not_worn { IfErr result (λ e. e.0 ≡ StoreFault.Disk → D.tells → D.unlisted disk → (st : StateOf Version)
         → StandsFor (shape_of me.0 block records) st (D.seen disk) → st.boot < 2 ^ 32 - 1) }
-    // What a read gives is as it was until the last call but one, and then the store with the opening counted.
+    // What a read gives is as it was until the last call but one, and then the store with the opening counted. An opening reads
+    // first, and a listed call may fail it before it writes: so it is told of a disk without one.
     ensures cut { IfErr result (λ e. e.0 ≡ StoreFault.Disk → D.tells → D.unlisted disk → (frames : List Frame) (closed : Bool)
         → OpensAs (shape_of me.0 block records) frames closed (D.seen disk)
         → (st : StateOf Version) → StandsFor (shape_of me.0 block records) st (D.seen disk)

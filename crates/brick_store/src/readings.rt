@@ -52,8 +52,8 @@ fn take_frame(index: &mut Index, frame: &Frame) -> Result<bool, NoMem>
     }
 }
 
-// What a list of frames makes of a brick that keeps nothing, and whether each of them is a record that can be. Where one is
-// not, the list ended before it.
+// What a list of frames makes of a brick that keeps nothing, in one pass, and whether each of them is a record that can be. Where
+// one is not, the list ended before it.
 #[derive(Drop)]
 pub(crate) struct Folded {
     pub(crate) index: Index,

@@ -28,6 +28,9 @@ use std::marker::Model;
 /// A change makes four calls of `write_at` and `sync`, five where it adds a version with a block of its own, and seven more
 /// where the list of frames has to be rewritten first.
 ///
+/// In memory it holds the blocks of its versions. One that no version names any more stays until its slot is written again: so
+/// there are never more than slots.
+///
 /// A clause sees the disk, what the store was made for, what it keeps, and whether it is halted.
 #[derive(Drop)]
 pub struct BrickStore<D: Disk> {
@@ -278,7 +281,7 @@ impl<D: Disk> BrickStore<D> {
         commit(self.alloc, &mut self.frames, &mut self.index, &item)
     }
 
-    // Adds a version with a block of its own.
+    // Adds a version with a block of its own, which is held as it was given: nothing is copied between the call and the disk.
     fn add_block(
         &mut self,
         group: GroupId,

@@ -37,7 +37,8 @@ fn may_be_base(block: u16, base: Stamp, found: &Option<Version>) -> bool
     }
 }
 
-/// How many bytes a seat tells of a version, where those of data block `j` are wanted alone.
+/// How many bytes a seat tells of a version, where those of data block `j` are wanted alone. A reply that tells another number does
+/// not count.
 fn told_length(block: u16, j: u8, seat: u8) -> u16
     ensures { result ≡ told_length block j seat }
 {

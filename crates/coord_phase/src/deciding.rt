@@ -132,7 +132,7 @@ impl Operation {
         }
     }
 
-    /// The phase again, to each member without a counted reply.
+    /// The phase again, to each member without a counted reply: to all, if the operation forgot those that it had.
     ///
     /// # Errors
     ///

@@ -200,7 +200,8 @@ impl Operation {
         bytes_at(seat, self.counted())
     }
 
-    /// The content of a version, by the first m of its blocks that the replies tell.
+    /// The content of a version, by the first m of its blocks that the replies tell, in the order in which they came. Any
+    /// other m give the same.
     pub fn content_of(&self, alloc: Global, version: Stamp) -> Result<Bytes, NoMem>
         requires whole { wants_all self.now.state.phase ≡ true }
         requires enough { self.now.state.group.m ≤ length (pieces_at version self.now.state.counted) }

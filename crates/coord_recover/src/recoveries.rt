@@ -155,6 +155,8 @@ impl Recovery {
     /// read back. It is asked of the members of the view, whose number and that of the group's data blocks are within the limits of a
     /// quorum. The data block that is asked for is one of them, what is to be written has its length, and what was read back is m blocks.
     ///
+    /// No program calls it: a recovery follows the operation that asks for it ([`follow`](Recovery::follow)).
+    ///
     /// # Errors
     ///
     /// `NoMemory` where no memory was left.

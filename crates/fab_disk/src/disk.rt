@@ -67,7 +67,8 @@ pub trait Disk {
     /// What is to befall one of the coming calls of `write_at` and `sync`.
     ghost plan: { Self → Plan };
 
-    /// No call is listed to fail, so that a call fails by the plan alone.
+    /// No call is listed to fail, so that a call fails by the plan alone. The trait says no more of a list, whose numbers count the
+    /// calls that read too. A plan counts `write_at` and `sync` alone, as the clock does.
     ghost unlisted: { Self → Type 0 };
 
     /// The coming calls of `write_at` and `sync`, so many, with so many bytes in all and ends at most there, never want memory.

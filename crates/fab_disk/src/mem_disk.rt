@@ -68,7 +68,8 @@ impl MemDisk {
     }
 
     /// Lists the calls that are to fail, in the place of those listed before: the calls of `len`, `read_at`, `write_at` and
-    /// `sync` are numbered together, and the next one is 1.
+    /// `sync` are numbered together, and the next one is 1. That a listed call fails is said by the parts of
+    /// this type, and not by the trait.
     pub fn fail_at(&mut self, calls: Vec<u64>)
         ensures content { content_of self.new ≡ content_of self.old }
         ensures past { past_of_disk self.new ≡ past_of_disk self.old }
@@ -289,6 +290,7 @@ impl Armed for MemDisk {
         ensures failing { self.new.failing ≡ self.old.failing }
     {
         self.plan = plan;
+        // What undoes calls that a sync settled is needed no more.
         self.medium.forget();
     }
 }

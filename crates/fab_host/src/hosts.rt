@@ -33,6 +33,8 @@ pub enum Asked {
 /// asked of it, in order; giving back is no such call. It may tell what it holds. A host that is sound fails only where a name is
 /// missing, or exists where it is to be made; what it opens is sound, and it stays sound where what it is given
 /// back is.
+///
+/// Whether a host tells what it holds never changes. If it does, what it has lent can't be opened again until it is given back.
 pub trait Host {
     ghost use Rattle.fab_host.specs.declared.hosts.Asked.{Asked};
     ghost use Rattle.fab_host.specs.Holdings.{Holdings};

@@ -131,7 +131,7 @@ impl<'r, R: Files<File = File> + Net + time::Clock, I: Source + Drop> Host for O
     fn keep_clock(&mut self, _clock: SystemClock<&'r R>) {}
 }
 
-// Opens a disk's file and locks it. A fresh one must not be there before.
+// Opens a disk's file and locks it. A fresh one must not be there before; it stays if its lock fails, or the sync of its folder.
 fn open_disk<R: Files<File = File>>(files: &R, name: &str, fresh: bool) -> io::Result<File> {
     let file = File::options()
         .read(true)

@@ -17,7 +17,8 @@ pub trait Source {
     // The bytes that are left, where the source tells them.
     ghost told: { Self → Option (List ℕ) };
 
-    // How many bytes the last read gave; none where it failed, or before the first.
+    // How many bytes the last read gave; none where it failed, or before the first. A program that reads no further than it
+    // needs is told by this number: what was read before the last read did not yet decide how it ends.
     ghost came: { Self → ℕ };
 
     // No call fails from here on.

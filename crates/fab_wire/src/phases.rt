@@ -1,4 +1,7 @@
 //! Requests and replies: the numbers of their kinds, and their fields.
+//!
+//! A kind's number stands beside the kind in the format, which the contracts cite, and in an arm here. An arm with another
+//! number is refused.
 
 ghost use Rattle.std.specs.Prelude.{◌∷◌, ◌++◌};
 ghost use Rattle.fields.specs.Parts.{Adds, exactly};

@@ -13,6 +13,8 @@ use std::alloc::{AllocError, Global};
 use std::marker::Model;
 
 /// A brick that a process hosts: what it knows beside its node, its node, and its link.
+///
+/// A clause sees the clients that wait, the last tick, the node and the link, since what a clause sees is data.
 #[derive(Drop)]
 struct HostedBrick<D: Disk, L: Link> {
     server: Server,

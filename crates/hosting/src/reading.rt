@@ -78,7 +78,8 @@ fn pay(turns: &mut u64, paid: &mut usize, count: usize)
 }
 
 /// Reads the next line. A turn is taken as its first byte is read, and one more for each further 70,000 bytes begun; with no turn left, no byte
-/// that would take one is read. `None` where no line is left, or no turn for the next byte, if there is one.
+/// that would take one is read. `None` where no line is left, or no turn for the next byte, if there is one. The bytes that count are those of
+/// the source, the line feed with them.
 pub(crate) fn read_line<S: Source>(
     alloc: Global,
     source: &mut S,

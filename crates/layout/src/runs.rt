@@ -1,6 +1,7 @@
 //! The stripes that segments have taken, as runs of places: each group has places of its own, one a stripe.
 //!
-//! An ordered map holds the end of each run at its start, so that a segment need be held against one run alone.
+//! One ordered map, for all groups, holds the end of each run at its start, so that a segment need be held against one run
+//! alone.
 
 ghost use Rattle.std.specs.Prelude.{◌≡◌, IfOk};
 ghost use Rattle.std.specs.List.{AllByRecursion};

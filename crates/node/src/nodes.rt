@@ -139,6 +139,7 @@ impl<D: Disk> Node<D> {
             Ok(store) => store,
             Err(refused) => return Err(refused),
         };
+        // In a later view the brick would not know whom it serves.
         if !is_first_view(&store) {
             return Err((StoreFault::NotAStore, store.into_disk()));
         }

@@ -7,7 +7,8 @@ use protocol::{Answered, Told};
 use std::alloc::Global;
 use std::marker::Model;
 
-/// What a step sends, in order, what it tells of an operation's version, and the operation that it answers. A clause sees each as a list.
+/// What a step sends, in order, what it tells of an operation's version, and the operation that it answers. A clause sees each as a list,
+/// as the machine has it. No step tells or answers more than one, so one of each is held.
 #[derive(Drop)]
 pub struct Outs {
     /// The messages, each with its receiver, in the order of sending.

@@ -90,7 +90,7 @@ with_entry operation e above =
     }
     else above
 
--- the effect of entries that ascend, from the greatest down
+-- the effect of entries that ascend, from the greatest down: a base is below its version, so one sweep finds all
 abbrev pub effect_of : (ℕ → Option Operation) → List Entry → Effect
 effect_of operations [] = record { told = []; versions = []; needed = [] }
 effect_of operations (e ∷ entries) = with_entry (operations e.operation) e (effect_of operations entries)

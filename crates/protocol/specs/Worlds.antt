@@ -252,7 +252,7 @@ replies_with setting w packet = replies_of packet.message
     replies_of (Message.Reply call reply) = replies_at setting w packet.to packet.from call reply ((w.nodes packet.to.0).calls call.seq)
     replies_of message = w.replies
 
--- the packet of a number is delivered to a brick of the layout that is up
+-- the packet of a number is delivered to a brick of the layout that is up; it counts as delivered also if the brick ignores it
 abbrev pub delivered : Setting → World → ℕ → Option Packet → World
 delivered setting w number None = w
 delivered setting w number (Some packet) =
@@ -320,7 +320,8 @@ world_started w brick openings =
 abbrev pub may_start : Layout → World → BrickId → ℕ → Bool
 may_start layout w brick openings = is_brick layout brick && (not (w.up brick.0) && may_open openings (w.nodes brick.0))
 
--- the time that a brick knew last in a boot, or knows now
+-- the time that a brick knew last in a boot, or knows now: the greatest that it knew in that boot, since a known time never falls
+-- within one
 abbrev pub known_in : World → ℕ → ℕ → ℕ
 known_in w i boot = if nat_eq boot (w.nodes i).boot then (w.nodes i).known else w.past i boot
 

@@ -20,6 +20,8 @@ pub fn all_fit(marks: &[Mark], m: u8, block: usize) -> bool
 /// The marks are those of one stripe of m data blocks, each of `block` bytes, and what they ask fits it. `scratch` has room
 /// for the stripe; what it holds before does not matter, and what it holds afterwards says nothing. No memory is taken. The
 /// time is at most in proportion to the square of the number of marks and happenings, and a stripe's bytes for each happening.
+///
+/// `block` is a `usize`, since it is compared with lengths. No program calls this: the crate `audit` decides the same faster.
 pub fn check(
     marks: &[Mark],
     happenings: &[Happening],

@@ -90,6 +90,7 @@ pub record IsLinearizable (input : Input) (text : List ℕ) : Type 0 where
   pub steps_text_is : steps_text (coding layout) (first_world layout) steps ≡ printed_texts printed
   pub marks_are : printed_marks printed ≡ world.marks
   pub is_strict : IsStrictWorld layout world
+  -- a field, and no clause beside this record: the text is pinned here already
   pub audits : IsSoundText layout text
 
 -- However far a run comes, what its steps left by then is strict, and what further steps leave follows it: no

@@ -28,9 +28,9 @@ use std::alloc::Global;
 /// | 8 | there are more than 1,048,576 lines; the first 1,048,576 were run and printed | `too many lines` |
 ///
 /// For every schedule that `replay` accepts, the happenings printed for each stripe make its blocks plain
-/// registers: each answered operation happens once between its invocation and its answer, each aborted or
-/// interrupted one between its invocation and its abort or crash, or never, and each read answers what the
-/// registers then hold.
+/// registers. Each answered operation happens once between its invocation and its answer. Each aborted or
+/// interrupted one happens once between its invocation and its abort or crash, or never. Each read answers
+/// what the registers then hold.
 ///
 /// This is strict linearizability (Aguilera and Frølund, "Strict Linearizability and the Power of Aborting",
 /// 2003). It rests on these definitions: what is printed for an input is `output_of` (`specs/Outputs.antt`),

@@ -12,7 +12,8 @@ use gf_lanes::Factor;
 // m * (n - m) is at most 16 * 16.
 const MAX_FACTORS: usize = 256;
 
-/// A code with the factors of its parity blocks, those from `m` on: made once, for many stripes.
+/// A code with the factors of its parity blocks, those from `m` on: made once, for many stripes. They are no part of a
+/// [`Code`], since a code is made at each call, and a decode needs none of them.
 #[derive(Clone, Copy)]
 pub struct Encoder {
     code: Code,

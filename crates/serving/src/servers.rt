@@ -37,7 +37,8 @@ pub struct Server {
 }
 
 impl Server {
-    /// The brick of this node begins to serve: no client waits, and no tick was. The server holds no memory yet.
+    /// The brick of this node begins to serve: no client waits, and no tick was. The server holds no memory yet. A client whose operation
+    /// is open already gets no answer.
     pub fn new<D: Disk>(alloc: Global, node: &Node<D>) -> Server
         ensures server { IsServerOf result node.now }
         ensures begins { serving_of result node.now ≡ begun (state_of node.now) }

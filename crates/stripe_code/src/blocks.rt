@@ -79,7 +79,8 @@ pub fn delta(alloc: Global, size: u16, old: &[u8], new: &[u8]) -> Result<Bytes, 
 }
 
 /// The block that the member at this seat keeps once data block `j` of its stripe, of `m` data blocks of `size` bytes, changed by
-/// `delta`. It kept `block` before, which is cut to `size` bytes, or filled with zeros, where it has another length.
+/// `delta`. It kept `block` before, which is cut to `size` bytes, or filled with zeros, where it has another length. The block is
+/// made anew: the store of the member keeps the old one.
 ///
 /// `NoMemory` comes where the block has no room.
 pub fn modify(
