@@ -151,10 +151,10 @@ fn tell_lines<S: Source, K: Sink>(
     let mut journal = Journal::new(alloc);
     for count in 0..u64::MAX {
         match take_turn(alloc, world, &mut journal, source, unread, count)? {
-            Turn::Ran(line, run) => {
+            Turn::Ran(line, line_run) => {
                 let content = content_of(line.as_slice());
                 let sent = world.sent();
-                tell_line(alloc, sent, &journal, sink, count + 1, content, &run)?;
+                tell_line(alloc, sent, &journal, sink, count + 1, content, &line_run)?;
             }
             Turn::Ended => return finish(alloc, world, &journal, sink),
             Turn::Refused(verdict, why) => return refuse(alloc, sink, verdict, why.as_str()),

@@ -22,8 +22,8 @@ returns-in_err-tell_line-in-Ran g c = λ input head read.
     at_err c.from_residual-in_err-tell_line-in-Ran.result
     (λ (r : Result RunResult Halt). TellsRest c.args.world.now input head (g.K.Sink.told c.args.sink.now) (g.K.Sink.told c.tell_line.new.sink) r)
     (λ halt. lines-stopped halt _ _ _ _ _ _ _
-    (lines-more {T = RunResult} (Err halt) tt _ _ _ _ _ _ _ c.in-Ran.line c.in-Ran.run.printed _ _ _ (c.loop-count.invariant input head read) turn.0 turn.1
-    (writes-halt c.in_err-tell_line-in-Ran.field-0.0 halt _ _ c.in-Ran.run.printed c.in_err-tell_line-in-Ran.ensures)))
+    (lines-more {T = RunResult} (Err halt) tt _ _ _ _ _ _ _ c.in-Ran.line c.in-Ran.line_run.printed _ _ _ (c.loop-count.invariant input head read) turn.0 turn.1
+    (writes-halt c.in_err-tell_line-in-Ran.field-0.0 halt _ _ c.in-Ran.line_run.printed c.in_err-tell_line-in-Ran.ensures)))
     c.from_residual-in_err-tell_line-in-Ran.ensures.0
 
 pub returns-in-Ended : goal.returns-in-Ended
@@ -42,7 +42,7 @@ returns-in-Refused g c = λ input head read.
 pub loop-count-preserved : goal.loop-count-preserved
 loop-count-preserved g c = λ input head read.
     let turn = rw c.in-Ran.is at c.in_ok-line.ensures in
-    lines-more {T = Unit {0}} (Ok tt) tt _ _ _ _ _ _ _ c.in-Ran.line c.in-Ran.run.printed _ _ _ (c.loop-count.invariant input head read) turn.0 turn.1
+    lines-more {T = Unit {0}} (Ok tt) tt _ _ _ _ _ _ _ c.in-Ran.line c.in-Ran.line_run.printed _ _ _ (c.loop-count.invariant input head read) turn.0 turn.1
     c.in_ok-tell_line-in-Ran.ensures
 
 pub loop-count-init : goal.loop-count-init
