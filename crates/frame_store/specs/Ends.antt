@@ -8,6 +8,7 @@ use Rattle.frame_store.specs.Stores.{Held}
 use Rattle.frame_store.specs.declared.faults.FrameFault.{FrameFault}
 use Rattle.frame_store.specs.declared.faults.FrameFault.TheVariants.{Disk}
 
+-- how a change ended, by its answer: a fault of the disk cut it short, and any other came before the first call
 abbrev pub end_of : {T : Type 0} → Result T FrameFault → End
 end_of (Ok value) = Whole
 end_of (Err Disk) = Cut
