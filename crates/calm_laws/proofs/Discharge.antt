@@ -3,7 +3,7 @@ use Rattle.protocol.specs.Calms.{IsCalm}
 use Rattle.protocol.specs.declared.phases.Phase.{Phase}
 use Rattle.fab_base.specs.declared.asks.Op.{Op}
 use Rattle.calm_laws.proofs.Calmness.{ends_alone}
-use Rattle.protocol.specs.Views.{view_of}
+use Rattle.protocol.specs.Views.{view_of, layout_views}
 use Rattle.std.proofs.Common.{◌≡◌, ◌≢◌, ℕ, suc, ◌+◌, ◌≤◌, ◌<◌, ◌⊎◌, inl, inr, true, false, List, [], ◌∷◌, length, Some, refl, sym, ap, ◌∙◌, subst, ⊎_elim, arith}
 use Rattle.std.specs.Prelude.{slice_get}
 use Rattle.std.proofs.lemmas.Bool.{cases_Bool, cases_eq}
@@ -39,7 +39,7 @@ use Rattle.calm_laws.proofs.FreshRuns.{always_fresh}
 use Rattle.calm_laws.proofs.Lives.{CountsLives, always_count, log_within}
 
 module _ (setting : Setting) (sound : IsSound setting) (encodes : EncodesBlocks setting) (small : setting.layout.records ≤ most_records) (w : World)
-    (stamps : Stamping) (books : Books setting w) (said : Said setting w stamps) (n : ℕ) (o : Operation) (c : Coordinator) (is : IsOperation w n o)
+    (stamps : Stamping) (books : Books setting w) (said : Said setting (layout_views setting.layout) w stamps) (n : ℕ) (o : Operation) (c : Coordinator) (is : IsOperation w n o)
     (at : IsOpenAt w n c) (fresh : IsFresh setting w n c) (numbered : IsNumbered w) (counts : (i : ℕ) → CountsLives setting.layout (w.nodes i)) where
   -- the operation is the one that is open
   same : at.operation ≡ o
@@ -127,10 +127,10 @@ module _ (setting : Setting) (sound : IsSound setting) (encodes : EncodesBlocks 
       let says = said.packets was.sent.0 (record { from = was.from; to = was.to; message = Message.Request was.call (Request.Collect s) }) was.sent.1 in
       let m : ℕ = w.numbers was.from.0 was.call.boot was.call.seq in
       let maker : Operation = says.operation in
-      let stands : Stands setting w maker.ask.group.0 maker.ask.stripe.0 s
+      let stands : Stands setting (layout_views setting.layout) w maker.ask.group.0 maker.ask.stripe.0 s
       = (said.operations m maker says.called.is).stands s says.version (inr says.answered) in
-      subst (λ (g : ℕ). Stands setting w g c.call.stripe.0 s) (says.called.group ∙ was.group)
-      (subst (λ (t : ℕ). Stands setting w maker.ask.group.0 t s) (says.called.stripe ∙ was.stripe) stands) c.group call_group
+      subst (λ (g : ℕ). Stands setting (layout_views setting.layout) w g c.call.stripe.0 s) (says.called.group ∙ was.group)
+      (subst (λ (t : ℕ). Stands setting (layout_views setting.layout) w maker.ask.group.0 t s) (says.called.stripe ∙ was.stripe) stands) c.group call_group
 
   lowest_stands : (i : ℕ) → (lowest i ≡ first_stamp)
       ⊎ (quorum_of c.group ≤ count (length c.group.members) (λ seat. w.held (brick_at c.group seat) c.call.group.0 c.call.stripe.0 (lowest i)))
@@ -206,7 +206,7 @@ module _ (setting : Setting) (sound : IsSound setting) (encodes : EncodesBlocks 
           let made : IsMadeOrFirst w c.call.group.0 c.call.stripe.0 c.stamp
           = subst (λ (t : Stamp). IsMadeOrFirst w c.call.group.0 c.call.stripe.0 t) place.3
           (said.logs c.call.group.0 1 c.call.stripe.0 i place.0 place.1 place.2).made in
-          not_made_yet setting w stamps books said n o c.call.phase c.stamp is unmade stamped c.call.group.0 c.call.stripe.0 made
+          not_made_yet setting (layout_views setting.layout) w stamps books said n o c.call.phase c.stamp is unmade stamped c.call.group.0 c.call.stripe.0 made
         where
           -- the operation has made nothing in its first phase
           unmade : o.made ≡ false
@@ -232,7 +232,7 @@ pub known_of : (setting : Setting) (events : List Event) (n : ℕ) (bricks : Lis
     → Known setting (run setting events (first_world setting.layout)) n calm.operation calm.coordinator
 known_of setting events n bricks sound encodes small calm =
     let w : World = run setting events (first_world setting.layout) in
-    let said = always_said setting events sound in
+    let said = always_said setting (layout_views setting.layout) events sound in
     let always = always_fresh setting events in
     let at : IsOpenAt w n calm.coordinator = opens_at w n calm.coordinator calm.open_is in
     let fresh : IsFresh setting w n calm.coordinator = always.1 n calm.coordinator calm.open_is calm.untouched in

@@ -164,7 +164,7 @@ module _ (layout : Layout) (is : IsLayout layout) where
     -- data that was answered is bytes
 
     -- the content of a version is bytes
-    content_bytes : (stamps : Stamping) (said : Said (coding layout) w stamps) (g s : ℕ) (t : Stamp) (group : Group)
+    content_bytes : (stamps : Stamping) (said : Said (coding layout) (layout_views layout) w stamps) (g s : ℕ) (t : Stamp) (group : Group)
         → group_of layout g ≡ Some group → IsMadeOrFirst w g s t
         → are_bytes (w.contents g s t) ≡ true
     content_bytes stamps said g s t group here (inl first) =
@@ -193,7 +193,7 @@ module _ (layout : Layout) (is : IsLayout layout) where
     data_bytes : (k p n : ℕ) (bytes : List ℕ) → slice_get w.marks k ≡ Some (End p n (Data bytes))
         → are_bytes bytes ≡ true
     data_bytes k p n bytes at =
-        let said = always_said (coding layout) events (coding_is_sound layout is) in
+        let said = always_said (coding layout) (layout_views layout) events (coding_is_sound layout is) in
         let shown = said.1.ends k p n (Data bytes) at in
         let own = (books.books (coding layout) events).operations n shown.operation shown.is in
         read_bytes shown.operation.ask.op bytes

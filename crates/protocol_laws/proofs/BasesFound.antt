@@ -2,6 +2,7 @@
 use Rattle.std.proofs.Common.{◌≡◌, ℕ, ◌++◌, ◌∷◌, [], false, Option, Some, None, is_some, refl, sym, ◌∙◌, subst}
 use Rattle.std.proofs.lemmas.Option.{same_Some}
 use Rattle.fab_base.specs.Layouts.{Group, seat_in}
+use Rattle.protocol.specs.Views.{Views}
 use Rattle.protocol.specs.Settings.{Setting, IsSound}
 use Rattle.protocol.specs.declared.phases.Counted.{Counted}
 use Rattle.protocol.specs.Coordinators.{greatest_refuser, lowest_full}
@@ -18,11 +19,11 @@ is_none : {A : Type 0} (o : Option A) → is_some o ≡ false → o ≡ None
 is_none None isnt = refl
 is_none (Some x) isnt = cc
 
-pub bases_found : (setting : Setting) → IsSound setting → (w : World) (stamps : Stamping) → Books setting w → Said setting w stamps
+pub bases_found : (setting : Setting) (views : Views) → IsSound setting → (w : World) (stamps : Stamping) → Books setting w → Said setting views w stamps
     → BasesAreFound setting w
-bases_found setting sound w stamps books said i k seat c base from reply is reads sent counts many unrefused roomy =
-    base_enough setting sound w stamps (record { 0 = i }) c books said call (c.counted ++ (one ∷ []))
-    (each_more (CountedSays setting w i c) c.counted one says.counted new_says) (once_more c.counted one says.once facts.first)
+bases_found setting views sound w stamps books said i k seat c base from reply is reads sent counts many unrefused roomy =
+    base_enough setting views sound w stamps (record { 0 = i }) c books said call (c.counted ++ (one ∷ []))
+    (each_more (CountedSays setting views w i c) c.counted one says.counted new_says) (once_more c.counted one says.once facts.first)
     many base reads (is_none (greatest_refuser (c.counted ++ (one ∷ []))) unrefused) (is_none (lowest_full (c.counted ++ (one ∷ []))) roomy)
   where
     one : Counted
@@ -34,13 +35,13 @@ bases_found setting sound w stamps books said i k seat c base from reply is read
     call : IsCall w i c.call.seq c
     call = subst (λ (l : ℕ). IsCall w i l c) (sym its.call_seq) is
 
-    says : CallSays setting w stamps i c.call.seq c
+    says : CallSays setting views w stamps i c.call.seq c
     says = said.calls i c.call.seq c call
 
     facts : CountsAt setting.layout.block c from.0 c.call reply seat
     facts = counts_facts setting.layout.block c from.0 c.call reply seat counts
 
-    new_says : CountedSays setting w i c one
+    new_says : CountedSays setting views w i c one
     new_says = record {
       sent = sent;
       answers = facts.answers;

@@ -14,6 +14,7 @@ use Rattle.reg_model.specs.declared.marks.Mark.TheVariants.{Begin, End}
 use Rattle.reg_model.specs.Marks.{life_of, position_of}
 use Rattle.reg_model.specs.Walk.{last_of}
 use Rattle.fab_base.specs.Layouts.{Group, group_of}
+use Rattle.protocol.specs.Views.{Views}
 use Rattle.protocol.specs.Settings.{Setting}
 use Rattle.protocol.specs.Replicas.{top_of, Replica}
 use Rattle.protocol.specs.declared.phases.Phase.{Phase}
@@ -53,8 +54,8 @@ is_first (WriteBlock j bytes) = tt
 is_first ReadStripe = tt
 is_first (WriteStripe bytes) = tt
 
-module _ (setting : Setting) (w : World) (stamps : Stamping) (me : BrickId) (ask : Ask) (group : Group) (books : Books setting w)
-    (said : Said setting w stamps) (group_is : group_of setting.layout ask.group.0 ≡ Some group) where
+module _ (setting : Setting) (views : Views) (w : World) (stamps : Stamping) (me : BrickId) (ask : Ask) (group : Group) (books : Books setting w)
+    (said : Said setting views w stamps) (group_is : group_of setting.layout ask.group.0 ≡ Some group) where
   -- the brick before
   abbrev old : Node
   old = w.nodes me.0
@@ -178,7 +179,7 @@ module _ (setting : Setting) (w : World) (stamps : Stamping) (me : BrickId) (ask
       inl (subst (λ (z : Stamp). IsKnown stamps z) (sym part) (said.tops ask.group.0 (view_at (w.nodes i) ask.group.0) ask.stripe.0 i)))
       (top_cases (w.nodes i) ask.group.0 ask.stripe.0)
 
-  operation_says : OperationSays setting next later (w.begun + 1) new
+  operation_says : OperationSays setting views next later (w.begun + 1) new
   operation_says = record {
     begin = grows.marks;
     floors = λ i. grows.parts.tops ask.group.0 ask.stripe.0 i;
@@ -218,7 +219,7 @@ module _ (setting : Setting) (w : World) (stamps : Stamping) (me : BrickId) (ask
 
   -- the first request
   request_in : (p : Phase) → first_phase ask.op ≡ p → (j seat : ℕ)
-      → RequestSays setting next later me.0 j c.call (request_of setting.code (record c { phase = p }) seat)
+      → RequestSays setting views next later me.0 j c.call (request_of setting.code (record c { phase = p }) seat)
   unfolding request_of
   request_in Looks is j seat = (new, called)
   request_in (LooksAt d) is j seat = (new, called)
@@ -247,7 +248,7 @@ module _ (setting : Setting) (w : World) (stamps : Stamping) (me : BrickId) (ask
   request_in (Bases base) is j seat = absurd (other_phase (Bases base) is)
   request_in Stores is j seat = absurd (other_phase Stores is)
 
-  request_says : (j seat : ℕ) → RequestSays setting next later me.0 j c.call (request_of setting.code c seat)
+  request_says : (j seat : ℕ) → RequestSays setting views next later me.0 j c.call (request_of setting.code c seat)
   request_says j seat = request_in (first_phase ask.op) refl j seat
 
   not_based : (p : Phase) (base : Stamp) → first_phase ask.op ≡ p → base_in p ≡ Some base → ⊥
@@ -260,13 +261,13 @@ module _ (setting : Setting) (w : World) (stamps : Stamping) (me : BrickId) (ask
   boot_now = ap (λ (x : Node). x.boot) (put_same w.nodes me.0 node)
 
   calls : (k : ℕ) (d : Coordinator) → node.calls k ≡ Some d
-      → (((w.nodes me.0).calls k ≡ Some d) × KeepsStamps stamps later me.0 c.call.boot k) ⊎ CallSays setting next later me.0 k d
+      → (((w.nodes me.0).calls k ≡ Some d) × KeepsStamps stamps later me.0 c.call.boot k) ⊎ CallSays setting views next later me.0 k d
   calls k d =
       put_each (λ j x. x ≡ Some d
-      → (((w.nodes me.0).calls j ≡ Some d) × KeepsStamps stamps later me.0 c.call.boot j) ⊎ CallSays setting next later me.0 j d)
+      → (((w.nodes me.0).calls j ≡ Some d) × KeepsStamps stamps later me.0 c.call.boot j) ⊎ CallSays setting views next later me.0 j d)
       (w.nodes me.0).calls c.call.seq (Some c)
       (λ at. let same : c ≡ d = cc in
-      inr (subst (λ (z : Coordinator). CallSays setting next later me.0 c.call.seq z) same
+      inr (subst (λ (z : Coordinator). CallSays setting views next later me.0 c.call.seq z) same
       (record {
         begun = subst (λ (b : ℕ). IsBegun later me.0 b c.call.seq c.call.phase c.phase c.stamp) (sym boot_now) begun_now;
         last = λ p less.
@@ -294,7 +295,7 @@ module _ (setting : Setting) (w : World) (stamps : Stamping) (me : BrickId) (ask
       subst (λ (s : ℕ). IsGuarded w ask.group.0 s group u) stripes
       (subst (λ (g : ℕ). IsGuarded w g earlier.ask.stripe.0 group u) groups guarded)
 
-  in_order : IsInOrder setting next
+  in_order : IsInOrder setting views next
   in_order a b earlier late u earlier_is late_is groups stripes version =
       put_each (λ i x. x ≡ Some earlier
       → ((other : Group) → group_of setting.layout late.ask.group.0 ≡ Some other → FloorsAtLeast late other u)
@@ -321,10 +322,10 @@ module _ (setting : Setting) (w : World) (stamps : Stamping) (me : BrickId) (ask
       a earlier_is
 
   -- the invariant holds when an operation began
-  pub said_began : IsSaid setting next
+  pub said_began : IsSaid setting views next
   said_began = (
     later,
-    said_after setting w next stamps later books said grows (record {
+    said_after setting views w next stamps later books said grows (record {
       stamps_say = stamps_say stamps me.0 c.call.boot c.call.seq c.call.phase first none from w next said.stamps_say
           (ages_by w next me.0 node refl (ages_within (w.nodes me.0) node refl (omega arith) (omega arith)))
           (subst (λ (x : Node). IsStampOf x me.0 c.call.boot c.stamp) (sym (put_same w.nodes me.0 node)) own) (omega arith)
@@ -336,14 +337,14 @@ module _ (setting : Setting) (w : World) (stamps : Stamping) (me : BrickId) (ask
           (λ (there : slice_get w.packets k ≡ Some packet). inl there)
           (λ (sent : (j : ℕ) × (slice_get (phase_packets setting me c) j ≡ Some packet)).
           let to = sent_to_member me c.call (request_of setting.code c) 0 group.members sent.0 packet sent.1 in
-          inr (subst (λ (z : Packet). PacketSays setting next later z) (sym to.2) (request_says to.0.0 (0 + sent.0))))
+          inr (subst (λ (z : Packet). PacketSays setting views next later z) (sym to.2) (request_says to.0.0 (0 + sent.0))))
           (get_grown w.packets (phase_packets setting me c) k packet is);
       operations = λ a e.
-          put_each (λ i x. x ≡ Some e → IsOperation w i e ⊎ OperationSays setting next later i e) w.operations (w.begun + 1) (Some new)
-          (λ is. let same : new ≡ e = cc in inr (subst (λ (z : Operation). OperationSays setting next later (w.begun + 1) z) same operation_says))
+          put_each (λ i x. x ≡ Some e → IsOperation w i e ⊎ OperationSays setting views next later i e) w.operations (w.begun + 1) (Some new)
+          (λ is. let same : new ≡ e = cc in inr (subst (λ (z : Operation). OperationSays setting views next later (w.begun + 1) z) same operation_says))
           (λ i other is. inl is) a;
       calls = λ i k d.
-          calls_by setting w next stamps later me.0 node refl refl k d (calls k d)
+          calls_by setting views w next stamps later me.0 node refl refl k d (calls k d)
           (λ j other. stamps_other stamps me.0 c.call.boot c.call.seq c.call.phase first j (w.nodes j).boot k (λ brick same. other brick)) i;
       ends = λ k q a answer at. ⊎_elim
           (λ (there : slice_get w.marks k ≡ Some (End q a answer)). inl there)

@@ -16,6 +16,7 @@ use Rattle.reg_model.proofs.Bases.{BaseFacts, IsEffective, Standing, BaseOf, Are
 use Rattle.reg_model.specs.declared.entries.Entry.{Entry}
 use Rattle.reg_model.proofs.Chains.{no_crossing}
 use Rattle.reg_model.proofs.Versions.{versions_are_effective}
+use Rattle.protocol.specs.Views.{Views}
 use Rattle.protocol.specs.Settings.{Setting}
 use Rattle.protocol.specs.Worlds.{World, Operation}
 use Rattle.protocol.specs.Happenings.{is_of, entries_to, ascending, was_answered, base_of, Effect, effect_of}
@@ -88,7 +89,7 @@ base_in_is operations (x ∷ entries) e agree has maker =
         (and_from (not e.reader) (stamp_same e.stamp e.stamp) (ap not maker) (stamp_same_refl e.stamp))))
     behind (suc k, lt, is) there = (k, omega arith, is)
 
-module _ (setting : Setting) (w : World) (g s : ℕ) (books : Books setting w) (facts : QuorumFacts setting w) where
+module _ (setting : Setting) (views : Views) (w : World) (g s : ℕ) (books : Books setting w) (facts : QuorumFacts setting views w) where
   -- the entries of the stripe's operations, in order, and what the sweep finds
   abbrev entries : List Entry
   entries = ascending (entries_to w.operations g s w.begun)
@@ -126,7 +127,7 @@ module _ (setting : Setting) (w : World) (g s : ℕ) (books : Books setting w) (
   pub maker_made : (e : Entry) (mine : IsEntryOf w.operations g s e) → e.reader ≡ false → mine.operation.made ≡ true
   maker_made e mine maker = not-false mine.operation.made (sym mine.reader ∙ maker)
 
-  pub maker_facts : (e : Entry) (mine : IsEntryOf w.operations g s e) → e.reader ≡ false → MakerFacts setting w mine.operation e.stamp
+  pub maker_facts : (e : Entry) (mine : IsEntryOf w.operations g s e) → e.reader ≡ false → MakerFacts setting views w mine.operation e.stamp
   maker_facts e mine maker = facts.maker e.operation mine.operation e.stamp mine.is (maker_made e mine maker) mine.version
 
   -- two makers of one version are one operation
@@ -155,7 +156,7 @@ module _ (setting : Setting) (w : World) (g s : ℕ) (books : Books setting w) (
   -- a maker with a base read it back
   record MadeBack (e : Entry) (b : Stamp) : Type 0 where
     mine : IsOurs e
-    says : BaseSays setting w mine.operation e.stamp
+    says : BaseSays setting views w mine.operation e.stamp
     base_is : says.base ≡ b
 
   maker_base : (e : Entry) → Contains entries e → e.reader ≡ false → (b : Stamp) → base_of (w.operations e.operation) ≡ Some b → MadeBack e b
@@ -167,7 +168,7 @@ module _ (setting : Setting) (w : World) (g s : ℕ) (books : Books setting w) (
       own : mine.operation.base ≡ Some b
       own = sym (ap (λ (o : Option Operation). base_of o) mine.is) ∙ is
 
-      by : WritesWhole w mine.operation e.stamp ⊎ BaseSays setting w mine.operation e.stamp → MadeBack e b
+      by : WritesWhole w mine.operation e.stamp ⊎ BaseSays setting views w mine.operation e.stamp → MadeBack e b
       by (inl whole) = absurd (let never : None ≡ Some b = sym whole.0 ∙ own in cc)
       by (inr says) = record { mine = mine; says = says; base_is = same_Some says.base b (sym says.base_is ∙ own) }
 
@@ -181,11 +182,11 @@ module _ (setting : Setting) (w : World) (g s : ℕ) (books : Books setting w) (
     pub answered : operation.answered ≡ true
 
   -- is held by a quorum
-  answered_stands : (t : Stamp) → IsAnsweredVersion t → Stands setting w g s t
+  answered_stands : (t : Stamp) → IsAnsweredVersion t → Stands setting views w g s t
   answered_stands t v =
       let at : (v.operation.ask.group.0 ≡ g) × (v.operation.ask.stripe.0 ≡ s) = stripe_of v.operation v.of in
-      subst (λ (x : ℕ). Stands setting w x s t) at.0
-      (subst (λ (y : ℕ). Stands setting w v.operation.ask.group.0 y t) at.1 (facts.stands v.number v.operation t v.is v.version (inr v.answered)))
+      subst (λ (x : ℕ). Stands setting views w x s t) at.0
+      (subst (λ (y : ℕ). Stands setting views w v.operation.ask.group.0 y t) at.1 (facts.stands v.number v.operation t v.is v.version (inr v.answered)))
 
   -- what is known of bases
   pub base_facts : BaseFacts IsAnsweredVersion (base_in w.operations (ascending (entries_to w.operations g s w.begun)))
@@ -200,8 +201,8 @@ module _ (setting : Setting) (w : World) (g s : ℕ) (books : Books setting w) (
         let back : MadeBack found.entry b = maker_base found.entry found.stands found.maker b found.base in
         let at : (back.mine.operation.ask.group.0 ≡ g) × (back.mine.operation.ask.stripe.0 ≡ s) = stripe_of back.mine.operation back.mine.of in
         back.says.none_between u
-        (subst (λ (x : ℕ). Stands setting w x back.mine.operation.ask.stripe.0 u) (sym at.0)
-        (subst (λ (y : ℕ). Stands setting w g y u) (sym at.1) (answered_stands u answered)))
+        (subst (λ (x : ℕ). Stands setting views w x back.mine.operation.ask.stripe.0 u) (sym at.0)
+        (subst (λ (y : ℕ). Stands setting views w g y u) (sym at.1) (answered_stands u answered)))
         (subst (λ (x : Stamp). stamp_below x u ≡ true) (sym back.base_is) between.0)
         (subst (λ (x : Stamp). stamp_below u x ≡ true) (sym found.stamp) between.1));
   }
@@ -431,7 +432,7 @@ module _ (setting : Setting) (w : World) (g s : ℕ) (books : Books setting w) (
           (cases_Bool (stamp_below first_stamp b)))
           (stamp_below_first b))
 
-      how_made : (v : MadeVersion t) → WritesWhole w v.operation t ⊎ BaseSays setting w v.operation t
+      how_made : (v : MadeVersion t) → WritesWhole w v.operation t ⊎ BaseSays setting views w v.operation t
           → ((bytes : List ℕ) × (v.operation.ask.op ≡ WriteStripe bytes)) ⊎ (v.operation.base ≡ Some first_stamp)
       how_made v (inl whole) = inl (_, whole.1)
       how_made v (inr says) =
@@ -464,7 +465,7 @@ module _ (setting : Setting) (w : World) (g s : ℕ) (books : Books setting w) (
       at_t : get_or effect.versions (k + 1) first_stamp ≡ t
       at_t = get_or_from_slice_get effect.versions (k + 1) t first_stamp t_is
 
-      how_made : stamp_below u t ≡ true → (v : MadeVersion t) → WritesWhole w v.operation t ⊎ BaseSays setting w v.operation t
+      how_made : stamp_below u t ≡ true → (v : MadeVersion t) → WritesWhole w v.operation t ⊎ BaseSays setting views w v.operation t
           → ((bytes : List ℕ) × (v.operation.ask.op ≡ WriteStripe bytes)) ⊎ (v.operation.base ≡ Some u)
       how_made above v (inl whole) = inl (_, whole.1)
       how_made above v (inr says) =

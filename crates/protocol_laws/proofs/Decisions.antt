@@ -1,4 +1,5 @@
 -- What the replies that count show of the operation, when they are a quorum.
+use Rattle.protocol.specs.Views.{Views}
 use Rattle.protocol_laws.proofs.Blocking.{blocked_never_stands}
 use Rattle.fab_base.specs.declared.asks.Ask.{Ask}
 use Rattle.protocol_laws.proofs.OwnStamps.{maker_stamp, operation_unique}
@@ -57,9 +58,9 @@ pub record FoundAt (setting : Setting) (w : World) (j : ℕ) (o : Operation) (or
   pub block : (group : Group) (seat : ℕ) → group_of setting.layout o.ask.group.0 ≡ Some group → seat_in group.members j ≡ Some seat
       → (version.block ≡ []) ⊎ (version.block ≡ setting.code.encode group.m (w.contents o.ask.group.0 o.ask.stripe.0 version.stamp) seat)
 
-found_at : (setting : Setting) (w : World) (j i : ℕ) (call : Call) (o : Operation) (order : Stamp) (version : Version)
-    → IsOperation w (w.numbers i call.boot call.seq) o → FoundSays setting w j i call order version → FoundAt setting w j o order version
-found_at setting w j i call o order version is says =
+found_at : (setting : Setting) (views : Views) (w : World) (j i : ℕ) (call : Call) (o : Operation) (order : Stamp) (version : Version)
+    → IsOperation w (w.numbers i call.boot call.seq) o → FoundSays setting views w j i call order version → FoundAt setting w j o order version
+found_at setting views w j i call o order version is says =
     let same : says.operation ≡ o = (let e : Some says.operation ≡ Some o = sym says.called.is ∙ is in cc) in
     let group : o.ask.group.0 ≡ call.group.0 = ap (λ (p : Operation). p.ask.group.0) (sym same) ∙ says.called.group in
     let stripe : o.ask.stripe.0 ≡ call.stripe.0 = ap (λ (p : Operation). p.ask.stripe.0) (sym same) ∙ says.called.stripe in
@@ -74,7 +75,7 @@ found_at setting w j i call o order version is says =
           (subst (λ (s : ℕ). IsMadeOrFirst w call.group.0 s version.stamp) (sym stripe) says.says.made);
       block = λ its seat its_is at. ⊎_elim
           (λ (none : version.block ≡ []). inl none)
-          (λ (block : IsBlockOf setting w call.group.0 call.stripe.0 j version.stamp version.block).
+          (λ (block : IsBlockOf setting views w call.group.0 call.stripe.0 j version.stamp version.block).
           inr (block its seat (ap (group_of setting.layout) (sym group) ∙ its_is) at
           ∙ ap (λ content. setting.code.encode its.m content seat)
           (ap (λ (g : ℕ). w.contents g call.stripe.0 version.stamp) (sym group) ∙ ap (λ (s : ℕ). w.contents o.ask.group.0 s version.stamp)
@@ -246,9 +247,9 @@ told_version_is x (Some version) v is told =
     let some : Some version.stamp ≡ Some v = sym (ap (option_map (λ (z : Version). z.stamp)) is) ∙ told in
     (version, refl, same_Some version.stamp v some)
 
-module _ (setting : Setting) (sound : IsSound setting) (w : World) (stamps : Stamping) (me : BrickId) (c : Coordinator)
-    (books : Books setting w) (said : Said setting w stamps) (is : IsCall w me.0 c.call.seq c)
-    (counted : List Counted) (each : EachCounted (CountedSays setting w me.0 c) counted) (once : AreOnce counted)
+module _ (setting : Setting) (views : Views) (sound : IsSound setting) (w : World) (stamps : Stamping) (me : BrickId) (c : Coordinator)
+    (books : Books setting w) (said : Said setting views w stamps) (is : IsCall w me.0 c.call.seq c)
+    (counted : List Counted) (each : EachCounted (CountedSays setting views w me.0 c) counted) (once : AreOnce counted)
     (many : quorum_of c.group ≤ length counted) where
   -- its group, and its members
   abbrev group : Group
@@ -268,12 +269,12 @@ module _ (setting : Setting) (sound : IsSound setting) (w : World) (stamps : Sta
   its_group = ap (λ a. group_of setting.layout a.group.0) (sym its.ask) ∙ group_is
 
   -- a counted reply says what its packet says
-  counted_says : (x : Counted) → CountedSays setting w me.0 c x → ReplySays setting w stamps x.brick (record { 0 = me.0 }) c.call x.reply
+  counted_says : (x : Counted) → CountedSays setting views w me.0 c x → ReplySays setting views w stamps x.brick (record { 0 = me.0 }) c.call x.reply
   counted_says x says =
       said.packets says.sent.0 (record { from = x.brick; to = record { 0 = me.0 }; message = Message.Reply c.call x.reply }) says.sent.1
 
   -- the seat of a counted reply, and its brick
-  seat_fits : (x : Counted) → CountedSays setting w me.0 c x → (x.seat < length group.members) × (brick_at group x.seat ≡ x.brick.0)
+  seat_fits : (x : Counted) → CountedSays setting views w me.0 c x → (x.seat < length group.members) × (brick_at group x.seat ≡ x.brick.0)
   seat_fits x says =
       let at : seat_in group.members x.brick.0 ≡ Some x.seat = says.seat group group_is in
       (seat_within group x.brick.0 x.seat at, brick_at_seat group x.brick.0 x.seat at)
@@ -310,7 +311,7 @@ module _ (setting : Setting) (sound : IsSound setting) (w : World) (stamps : Sta
   held_at seat t = w.held (brick_at group seat) its_operation.ask.group.0 its_operation.ask.stripe.0 t
 
   -- what a member's part has, its seat's part has
-  at_seat : (P : ℕ → ℕ → ℕ → Type 0) (x : Counted) → CountedSays setting w me.0 c x → P c.call.group.0 c.call.stripe.0 x.brick.0
+  at_seat : (P : ℕ → ℕ → ℕ → Type 0) (x : Counted) → CountedSays setting views w me.0 c x → P c.call.group.0 c.call.stripe.0 x.brick.0
       → P its_operation.ask.group.0 its_operation.ask.stripe.0 (brick_at group x.seat)
   at_seat P x says h =
       subst (λ (j : ℕ). P its_operation.ask.group.0 its_operation.ask.stripe.0 j) (sym (seat_fits x says).1) (of_stripe (λ g s. P g s x.brick.0) h)
@@ -321,7 +322,7 @@ module _ (setting : Setting) (sound : IsSound setting) (w : World) (stamps : Sta
     pub top : stamp_below (come_to x.seat) c.stamp ≡ false
     pub floor : stamp_below c.stamp (its_operation.floor (brick_at group x.seat)) ≡ false
 
-  promises_at : (x : Counted) → CountedSays setting w me.0 c x → (p : Operation) (t : Stamp) → IsCalled w me.0 c.call p → t ≡ c.stamp
+  promises_at : (x : Counted) → CountedSays setting views w me.0 c x → (p : Operation) (t : Stamp) → IsCalled w me.0 c.call p → t ≡ c.stamp
       → stamp_below (top_in w c.call.group.0 c.call.stripe.0 x.brick.0) t ≡ false → stamp_below t (p.floor x.brick.0) ≡ false → PromisesAt x
   promises_at x says p t called at promised floor = record {
     within = (seat_fits x says).0;
@@ -350,18 +351,18 @@ module _ (setting : Setting) (sound : IsSound setting) (w : World) (stamps : Sta
       once many
 
   -- each counted reply, where none refuses and no store is full
-  each_allows : greatest_refuser counted ≡ None → lowest_full counted ≡ None → EachCounted (λ x. CountedSays setting w me.0 c x × Allows x) counted
+  each_allows : greatest_refuser counted ≡ None → lowest_full counted ≡ None → EachCounted (λ x. CountedSays setting views w me.0 c x × Allows x) counted
   each_allows none roomy =
-      each_both (CountedSays setting w me.0 c) Allows counted each
+      each_both (CountedSays setting views w me.0 c) Allows counted each
       (each_both (λ x. refuser_of x ≡ None) (λ x. full_member_of x ≡ None) counted (none_refuses counted none) (none_full counted roomy))
 
   -- an order that was answered
-  ordered_seat : c.phase ≡ Orders → (x : Counted) → CountedSays setting w me.0 c x → Allows x → PromisesAt x
+  ordered_seat : c.phase ≡ Orders → (x : Counted) → CountedSays setting views w me.0 c x → Allows x → PromisesAt x
   ordered_seat orders x says allows =
       let answers : answers_phase setting.layout.block c.stamp x.seat Orders x.reply ≡ true
       = subst (λ (p : Phase). answers_phase setting.layout.block c.stamp x.seat p x.reply ≡ true) orders says.answers in
       let told : OrderedSays w stamps x.brick.0 me.0 c.call
-      = subst (λ (r : Reply). ReplySays setting w stamps x.brick (record { 0 = me.0 }) c.call r)
+      = subst (λ (r : Reply). ReplySays setting views w stamps x.brick (record { 0 = me.0 }) c.call r)
       (order_answered setting.layout.block c.stamp x answers allows) (counted_says x says) in
       promises_at x says told.operation told.stamp told.called
       (begun_once stamps me.0 c.call.boot c.call.seq c.call.phase Orders c.phase told.stamp c.stamp told.stamp_is its_begun).1
@@ -370,10 +371,10 @@ module _ (setting : Setting) (sound : IsSound setting) (w : World) (stamps : Sta
   -- an order that a quorum answered
   pub all_ordered : c.phase ≡ Orders → greatest_refuser counted ≡ None → lowest_full counted ≡ None → EachCounted PromisesAt counted
   all_ordered orders none roomy =
-      each_then (λ x. CountedSays setting w me.0 c x × Allows x) PromisesAt counted (λ x h. ordered_seat orders x h.0 h.1) (each_allows none roomy)
+      each_then (λ x. CountedSays setting views w me.0 c x × Allows x) PromisesAt counted (λ x h. ordered_seat orders x h.0 h.1) (each_allows none roomy)
 
   -- the stamp of what a call has stored is its own
-  stored_by : (to : ℕ) (request : Request) (t : Stamp) → RequestSays setting w stamps me.0 to c.call request → stamp_stored request ≡ Some t
+  stored_by : (to : ℕ) (request : Request) (t : Stamp) → RequestSays setting views w stamps me.0 to c.call request → stamp_stored request ≡ Some t
       → t ≡ c.stamp
   stored_by to (Request.Write z block) t says stores =
       let same : z ≡ t = cc in
@@ -384,12 +385,12 @@ module _ (setting : Setting) (sound : IsSound setting) (w : World) (stamps : Sta
   stored_by to request t says stores = cc
 
   -- a version that a member said it stored
-  stored_seat : (x : Counted) → CountedSays setting w me.0 c x → x.reply ≡ Reply.Stored
+  stored_seat : (x : Counted) → CountedSays setting views w me.0 c x → x.reply ≡ Reply.Stored
       → (x.seat < length group.members) × (held_at x.seat c.stamp ≡ true)
   stored_seat x says reply_is =
-      let told : ReplySays setting w stamps x.brick (record { 0 = me.0 }) c.call Reply.Stored
-      = subst (λ (r : Reply). ReplySays setting w stamps x.brick (record { 0 = me.0 }) c.call r) reply_is (counted_says x says) in
-      let asks : RequestSays setting w stamps me.0 x.brick.0 c.call told.1
+      let told : ReplySays setting views w stamps x.brick (record { 0 = me.0 }) c.call Reply.Stored
+      = subst (λ (r : Reply). ReplySays setting views w stamps x.brick (record { 0 = me.0 }) c.call r) reply_is (counted_says x says) in
+      let asks : RequestSays setting views w stamps me.0 x.brick.0 c.call told.1
       = said.packets told.2.0 (record { from = record { 0 = me.0 }; to = x.brick; message = Message.Request c.call told.1 }) told.2.1 in (
         (seat_fits x says).0,
         subst (λ (t : Stamp). held_at x.seat t ≡ true) (stored_by x.brick.0 told.1 told.0 asks told.3)
@@ -397,10 +398,10 @@ module _ (setting : Setting) (sound : IsSound setting) (w : World) (stamps : Sta
       )
 
   -- a version that a quorum stored stands
-  all_stored : EachCounted (λ x. CountedSays setting w me.0 c x × (x.reply ≡ Reply.Stored)) counted → AtQuorum group (λ seat. held_at seat c.stamp)
+  all_stored : EachCounted (λ x. CountedSays setting views w me.0 c x × (x.reply ≡ Reply.Stored)) counted → AtQuorum group (λ seat. held_at seat c.stamp)
   all_stored stored =
       at_quorum group counted (λ seat. held_at seat c.stamp)
-      (each_then (λ x. CountedSays setting w me.0 c x × (x.reply ≡ Reply.Stored)) (λ x. (x.seat < length group.members)
+      (each_then (λ x. CountedSays setting views w me.0 c x × (x.reply ≡ Reply.Stored)) (λ x. (x.seat < length group.members)
       × (held_at x.seat c.stamp ≡ true))
       counted (λ x h. stored_seat x h.0 h.1) stored)
       once many
@@ -408,7 +409,7 @@ module _ (setting : Setting) (sound : IsSound setting) (w : World) (stamps : Sta
   pub stored_stands : c.phase ≡ Stores → greatest_refuser counted ≡ None → lowest_full counted ≡ None
       → AtQuorum group (λ seat. held_at seat c.stamp)
   stored_stands stores none roomy =
-      all_stored (each_then (λ x. CountedSays setting w me.0 c x × Allows x) (λ x. CountedSays setting w me.0 c x × (x.reply ≡ Reply.Stored)) counted
+      all_stored (each_then (λ x. CountedSays setting views w me.0 c x × Allows x) (λ x. CountedSays setting views w me.0 c x × (x.reply ≡ Reply.Stored)) counted
       (λ x h. (
         h.0,
         write_answered setting.layout.block c.stamp x
@@ -420,14 +421,14 @@ module _ (setting : Setting) (sound : IsSound setting) (w : World) (stamps : Sta
   pub modified_stands : (base : Stamp) (j : ℕ) → c.phase ≡ Modifies base j → greatest_refuser counted ≡ None → lowest_full counted ≡ None
       → some_behind counted ≡ false → AtQuorum group (λ seat. held_at seat c.stamp)
   modified_stands base j modifies none roomy level =
-      all_stored (each_then (λ x. (CountedSays setting w me.0 c x × Allows x) × (is_behind x.reply ≡ false))
-      (λ x. CountedSays setting w me.0 c x × (x.reply ≡ Reply.Stored)) counted
+      all_stored (each_then (λ x. (CountedSays setting views w me.0 c x × Allows x) × (is_behind x.reply ≡ false))
+      (λ x. CountedSays setting views w me.0 c x × (x.reply ≡ Reply.Stored)) counted
       (λ x h. (
         h.0.0,
         modify_answered setting.layout.block j c.stamp base x
             (subst (λ (p : Phase). answers_phase setting.layout.block c.stamp x.seat p x.reply ≡ true) modifies h.0.0.answers) h.0.1 h.1,
       ))
-      (each_both (λ x. CountedSays setting w me.0 c x × Allows x) (λ x. is_behind x.reply ≡ false) counted (each_allows none roomy)
+      (each_both (λ x. CountedSays setting views w me.0 c x × Allows x) (λ x. is_behind x.reply ≡ false) counted (each_allows none roomy)
       (none_behind counted level)))
 
   -- what a reply to a phase that looks for a version shows
@@ -478,16 +479,16 @@ module _ (setting : Setting) (sound : IsSound setting) (w : World) (stamps : Sta
       maker = collects.operation
 
       -- of the same stripe
-      stands : Stands setting w its_operation.ask.group.0 its_operation.ask.stripe.0 passed.at
-      stands = of_stripe (λ g s. Stands setting w g s passed.at)
-          (subst (λ (g : ℕ). Stands setting w g c.call.stripe.0 passed.at) (collects.called.group ∙ passed.collected.group)
-          (subst (λ (s : ℕ). Stands setting w maker.ask.group.0 s passed.at) (collects.called.stripe ∙ passed.collected.stripe)
+      stands : Stands setting views w its_operation.ask.group.0 its_operation.ask.stripe.0 passed.at
+      stands = of_stripe (λ g s. Stands setting views w g s passed.at)
+          (subst (λ (g : ℕ). Stands setting views w g c.call.stripe.0 passed.at) (collects.called.group ∙ passed.collected.group)
+          (subst (λ (s : ℕ). Stands setting views w maker.ask.group.0 s passed.at) (collects.called.stripe ∙ passed.collected.stripe)
           ((said.operations n maker collects.called.is).stands passed.at collects.version (inr collects.answered))))
 
       -- it is another than the one that is open
       not_own : passed.at ≡ c.stamp → ⊥
       not_own same =
-          let theirs = maker_stamp setting w stamps books said n maker passed.at collects.called.is collects.made collects.version in
+          let theirs = maker_stamp setting views w stamps books said n maker passed.at collects.called.is collects.made collects.version in
           let mine : IsStamped stamps its_operation.brick.0 its_operation.boot its_operation.seq c.call.phase passed.at
           = subst (λ (t : Stamp). IsStamped stamps its_operation.brick.0 its_operation.boot its_operation.seq c.call.phase t) (sym same)
           (subst (λ (i : ℕ). IsStamped stamps i its_operation.boot its_operation.seq c.call.phase c.stamp) (sym its.brick)
@@ -495,7 +496,7 @@ module _ (setting : Setting) (sound : IsSound setting) (w : World) (stamps : Sta
           (subst (λ (k : ℕ). IsStamped stamps me.0 (w.nodes me.0).boot k c.call.phase c.stamp) (sym its.seq)
           (c.phase, (said.calls me.0 c.call.seq c is).begun)))) in
           let number : n ≡ number_of w me.0 c.call.seq
-          = operation_unique setting w stamps books said n (number_of w me.0 c.call.seq) maker its_operation theirs.0 c.call.phase passed.at
+          = operation_unique setting views w stamps books said n (number_of w me.0 c.call.seq) maker its_operation theirs.0 c.call.phase passed.at
           collects.called.is its.operation_is theirs.1 mine in
           let one : maker ≡ its_operation
           = same_Some maker its_operation (sym collects.called.is ∙ ap (λ (a : ℕ). w.operations a) number ∙ its.operation_is) in
@@ -518,7 +519,7 @@ module _ (setting : Setting) (sound : IsSound setting) (w : World) (stamps : Sta
           ((said.operations (number_of w me.0 c.call.seq) its_operation its.operation_is).maker c.stamp made.0.1 made.0.0)
         where
           by_maker : (base : Stamp) → stamp_same d base ≡ true → stamp_below passed.at c.stamp ≡ true → its_operation.base ≡ Some base
-              → WritesWhole w its_operation c.stamp ⊎ ReadsBack setting w its_operation c.stamp
+              → WritesWhole w its_operation c.stamp ⊎ ReadsBack setting views w its_operation c.stamp
               → IsBlocked w its_operation.ask.group.0 its_operation.ask.stripe.0 group passed.at
           by_maker base looked less based (inl whole) = let none : None ≡ Some base = sym whole.0 ∙ based in cc
           by_maker base looked less based (inr back) =
@@ -527,11 +528,11 @@ module _ (setting : Setting) (sound : IsSound setting) (w : World) (stamps : Sta
               back.blocked group its_group passed.at
               (subst (λ (t : Stamp). stamp_below t passed.at ≡ true) (sym same) passed.above, less)
 
-  read_seat : (look : Look) → look_of c.phase c.stamp ≡ Some look → (x : Counted) → CountedSays setting w me.0 c x → Allows x → ReadsAt look x
+  read_seat : (look : Look) → look_of c.phase c.stamp ≡ Some look → (x : Counted) → CountedSays setting views w me.0 c x → Allows x → ReadsAt look x
   read_seat look looks x says allows =
       let answer : FoundBy look x = found_by setting.layout.block c.stamp c.phase look x looks says.answers allows in
-      let told : OrderedReadSays setting w stamps x.brick.0 me.0 c.call answer.found
-      = subst (λ (r : Reply). ReplySays setting w stamps x.brick (record { 0 = me.0 }) c.call r) answer.reply_is (counted_says x says) in
+      let told : OrderedReadSays setting views w stamps x.brick.0 me.0 c.call answer.found
+      = subst (λ (r : Reply). ReplySays setting views w stamps x.brick (record { 0 = me.0 }) c.call r) answer.reply_is (counted_says x says) in
       let same = look_same told.phase told.stamp look told.look told.begun told.look_is looks in
       record {
         promises = promises_at x says told.operation told.stamp told.called same.0 told.promised told.floor;
@@ -554,7 +555,7 @@ module _ (setting : Setting) (sound : IsSound setting) (w : World) (stamps : Sta
             (setting.code.encode group.m (w.contents c.call.group.0 c.call.stripe.0 version.stamp) x.seat) sound.positive
             (wanted_long setting.layout.block c.stamp x.seat c.phase x.reply version (ap told_in answer.reply_is ∙ is) says.answers wanted)
             (⊎_elim (λ (none : version.block ≡ []). inl none)
-            (λ (block : IsBlockOf setting w c.call.group.0 c.call.stripe.0 x.brick.0 version.stamp version.block).
+            (λ (block : IsBlockOf setting views w c.call.group.0 c.call.stripe.0 x.brick.0 version.stamp version.block).
             inr (block group x.seat (ap (group_of setting.layout) (sym call_group) ∙ its_group) (says.seat group group_is)))
             (told.says version is).block));
       }
@@ -563,7 +564,7 @@ module _ (setting : Setting) (sound : IsSound setting) (w : World) (stamps : Sta
   pub all_read : (look : Look) → look_of c.phase c.stamp ≡ Some look → greatest_refuser counted ≡ None → lowest_full counted ≡ None
       → EachCounted (ReadsAt look) counted
   all_read look looks none roomy =
-      each_then (λ x. CountedSays setting w me.0 c x × Allows x) (ReadsAt look) counted (λ x h. read_seat look looks x h.0 h.1)
+      each_then (λ x. CountedSays setting views w me.0 c x × Allows x) (ReadsAt look) counted (λ x h. read_seat look looks x h.0 h.1)
       (each_allows none roomy)
 
   -- what a reply that tells version v shows
@@ -576,12 +577,12 @@ module _ (setting : Setting) (sound : IsSound setting) (w : World) (stamps : Sta
     block : is_wanted (want_of c.phase) x.seat ≡ true
         → found_bytes x.reply ≡ setting.code.encode group.m (w.contents its_operation.ask.group.0 its_operation.ask.stripe.0 v) x.seat
 
-  tells_at : (v : Stamp) (x : Counted) → CountedSays setting w me.0 c x → TellsVersion v x.reply → TellsAt v x
+  tells_at : (v : Stamp) (x : Counted) → CountedSays setting views w me.0 c x → TellsVersion v x.reply → TellsAt v x
   tells_at v x says tells =
-      let told : FoundSays setting w x.brick.0 me.0 c.call tells.order tells.version
-      = subst (λ (r : Reply). ReplySays setting w stamps x.brick (record { 0 = me.0 }) c.call r) tells.reply_is (counted_says x says) in
+      let told : FoundSays setting views w x.brick.0 me.0 c.call tells.order tells.version
+      = subst (λ (r : Reply). ReplySays setting views w stamps x.brick (record { 0 = me.0 }) c.call r) tells.reply_is (counted_says x says) in
       let at : FoundAt setting w x.brick.0 its_operation tells.order tells.version
-      = found_at setting w x.brick.0 me.0 c.call its_operation tells.order tells.version its_called told in
+      = found_at setting views w x.brick.0 me.0 c.call its_operation tells.order tells.version its_called told in
       let most : Stamp = stamp_max tells.order tells.version.stamp in
       let above : stamp_below most v ≡ false
       = subst (λ (t : Stamp). stamp_below most t ≡ false) tells.stamp (max_right tells.order tells.version.stamp) in
@@ -610,8 +611,8 @@ module _ (setting : Setting) (sound : IsSound setting) (w : World) (stamps : Sta
 
   all_tell_at : (v : Stamp) → fast_version counted ≡ Some v → EachCounted (TellsAt v) counted
   all_tell_at v fast =
-      each_then (λ x. CountedSays setting w me.0 c x × TellsVersion v x.reply) (TellsAt v) counted (λ x h. tells_at v x h.0 h.1)
-      (each_both (CountedSays setting w me.0 c) (λ x. TellsVersion v x.reply) counted each (fast_each counted v fast))
+      each_then (λ x. CountedSays setting views w me.0 c x × TellsVersion v x.reply) (TellsAt v) counted (λ x h. tells_at v x h.0 h.1)
+      (each_both (CountedSays setting views w me.0 c) (λ x. TellsVersion v x.reply) counted each (fast_each counted v fast))
 
   -- a version that may be answered at once is guarded
   pub fast_guards : (v : Stamp) → fast_version counted ≡ Some v → IsGuarded w its_operation.ask.group.0 its_operation.ask.stripe.0 group v

@@ -13,6 +13,7 @@ use Rattle.messages.specs.declared.requests.Request.TheVariants as Request
 use Rattle.reg_model.specs.declared.marks.Mark.{Mark}
 use Rattle.reg_model.specs.declared.marks.Mark.TheVariants.{End}
 use Rattle.reg_model.specs.Registers.{read_of}
+use Rattle.protocol.specs.Views.{Views}
 use Rattle.protocol.specs.Happenings.{writes}
 use Rattle.protocol.specs.Settings.{Setting}
 use Rattle.protocol.specs.Coordinators.{Coordinator}
@@ -36,8 +37,8 @@ WillShow setting w o seen (Data bytes) =
 WillShow setting w o seen Done = writes o.ask.op ≡ true
 WillShow setting w o seen (Aborted cause) = Unit {0}
 
-module _ (setting : Setting) (w : World) (stamps : Stamping) (me : BrickId) (c : Coordinator) (known : ℕ)
-    (books : Books setting w) (said : Said setting w stamps) (is : IsCall w me.0 c.call.seq c)
+module _ (setting : Setting) (views : Views) (w : World) (stamps : Stamping) (me : BrickId) (c : Coordinator) (known : ℕ)
+    (books : Books setting w) (said : Said setting views w stamps) (is : IsCall w me.0 c.call.seq c)
     (more_known : (w.nodes me.0).known ≤ known) (answer : Answer) (seen stored : Option Stamp) where
   abbrev its : CallBooks setting w me.0 c.call.seq c
   its = books.calls me.0 c.call.seq c is
@@ -117,9 +118,9 @@ module _ (setting : Setting) (w : World) (stamps : Stamping) (me : BrickId) (c :
       (put_same w.operations n (with_seen v (w.operations n)) ∙ ap (λ (x : Option Operation). with_seen v x) its.operation_is))
 
   module _ (keeps_version : (v : Stamp) → o.version ≡ Some v → version_after o.version seen ≡ Some v)
-      (has_version : (v : Stamp) → version_after o.version seen ≡ Some v → HasVersion setting w o v)
+      (has_version : (v : Stamp) → version_after o.version seen ≡ Some v → HasVersion setting views w o v)
       (stands : (v : Stamp) → version_after o.version seen ≡ Some v → (o.made ≡ false) ⊎ (is_answer answer ≡ true)
-      → Stands setting w o.ask.group.0 o.ask.stripe.0 v)
+      → Stands setting views w o.ask.group.0 o.ask.stripe.0 v)
       (answered_made : is_answer answer ≡ true → writes o.ask.op ≡ true → o.made ≡ true)
       (shows : WillShow setting w o seen answer)
       (collects : (t : Stamp) → stored ≡ Some t → (o.made ≡ true) × (version_after o.version seen ≡ Some t) × (is_answer answer ≡ true)) where
@@ -156,11 +157,11 @@ module _ (setting : Setting) (w : World) (stamps : Stamping) (me : BrickId) (c :
 
     grows : Grows w next stamps stamps
     grows =
-        operated_grows setting w stamps stamps me node (collect_packets me c stored) marks n o ended w.contents keeps said.logged (stamps_same stamps)
+        operated_grows setting views w stamps stamps me node (collect_packets me c stored) marks n o ended w.contents keeps said.logged (stamps_same stamps)
 
-    ended_has : (v : Stamp) → version_after o.version seen ≡ Some v → HasVersion setting next ended v
+    ended_has : (v : Stamp) → version_after o.version seen ≡ Some v → HasVersion setting views next ended v
     ended_has v has =
-        let old : HasVersion setting next o v = stays_has_version setting w next stamps stamps books grows o v (has_version v has) in
+        let old : HasVersion setting views next o v = stays_has_version setting views w next stamps stamps books grows o v (has_version v has) in
         record { made = old.made; reader = old.reader; guarded = old.guarded; floors = old.floors }
 
     -- the version of an operation that made one
@@ -170,7 +171,7 @@ module _ (setting : Setting) (w : World) (stamps : Stamping) (me : BrickId) (c :
         had.2 ∙ ap (λ (t : Stamp). Some t) (same_Some had.0 v (sym (keeps_version had.0 had.2) ∙ has))
 
     -- how it was made
-    ended_maker : (v : Stamp) → WritesWhole next o v ⊎ ReadsBack setting next o v → WritesWhole next ended v ⊎ ReadsBack setting next ended v
+    ended_maker : (v : Stamp) → WritesWhole next o v ⊎ ReadsBack setting views next o v → WritesWhole next ended v ⊎ ReadsBack setting views next ended v
     ended_maker v (inl whole) = inl whole
     ended_maker v (inr back) = inr (record {
       base = back.base;
@@ -182,10 +183,10 @@ module _ (setting : Setting) (w : World) (stamps : Stamping) (me : BrickId) (c :
       blocked = back.blocked;
     })
 
-    operation_says : OperationSays setting next stamps n ended
+    operation_says : OperationSays setting views next stamps n ended
     operation_says =
-        let old : OperationSays setting next stamps n o
-        = stays_operation setting w next stamps stamps books grows n o its.operation_is (said.operations n o its.operation_is) in
+        let old : OperationSays setting views next stamps n o
+        = stays_operation setting views w next stamps stamps books grows n o its.operation_is (said.operations n o its.operation_is) in
         record {
           begin = old.begin;
           floors = old.floors;
@@ -194,16 +195,16 @@ module _ (setting : Setting) (w : World) (stamps : Stamping) (me : BrickId) (c :
           made = λ made. let had = old.made made in (had.0, had.1, keeps_version had.0 had.2, had.3);
           maker = λ v made has. ended_maker v (old.maker v made (was_version v made has));
           content = λ v made has. old.content v made (was_version v made has);
-          stands = λ v has how. stays_standing setting w next stamps stamps books grows o.ask.group.0 o.ask.stripe.0 v (stands v has how);
+          stands = λ v has how. stays_standing setting views w next stamps stamps books grows o.ask.group.0 o.ask.stripe.0 v (stands v has how);
           version = ended_has;
           answered = answered_made;
         }
 
     calls : (k : ℕ) (d : Coordinator) → node.calls k ≡ Some d
-        → (((w.nodes me.0).calls k ≡ Some d) × KeepsStamps stamps stamps me.0 (w.nodes me.0).boot k) ⊎ CallSays setting next stamps me.0 k d
+        → (((w.nodes me.0).calls k ≡ Some d) × KeepsStamps stamps stamps me.0 (w.nodes me.0).boot k) ⊎ CallSays setting views next stamps me.0 k d
     calls k d =
         put_each (λ j x. x ≡ Some d
-        → (((w.nodes me.0).calls j ≡ Some d) × KeepsStamps stamps stamps me.0 (w.nodes me.0).boot j) ⊎ CallSays setting next stamps me.0 j d)
+        → (((w.nodes me.0).calls j ≡ Some d) × KeepsStamps stamps stamps me.0 (w.nodes me.0).boot j) ⊎ CallSays setting views next stamps me.0 j d)
         (w.nodes me.0).calls c.call.seq None
         (λ at. cc) (λ j other at. inl (at, λ p. refl)) k
 
@@ -220,12 +221,12 @@ module _ (setting : Setting) (w : World) (stamps : Stamping) (me : BrickId) (c :
     }
 
     packets : (z : Option Stamp) → stored ≡ z → (k : ℕ) (packet : Packet) → slice_get (collect_packets me c z) k ≡ Some packet
-        → PacketSays setting next stamps packet
+        → PacketSays setting views next stamps packet
     packets None is k packet at = cc
     packets (Some t) is k packet at =
         let sent = sent_to_member me c.call (λ seat. Request.Collect t) 0 c.group.members k packet at in
         let made = collects t is in
-        subst (λ (z : Packet). PacketSays setting next stamps z) (sym sent.2)
+        subst (λ (z : Packet). PacketSays setting views next stamps z) (sym sent.2)
         (record { operation = ended; called = called; made = made.0; version = made.1; answered = made.2 })
 
     end_shows : (a : Answer) → a ≡ answer → EndShows setting next n a
@@ -253,13 +254,13 @@ module _ (setting : Setting) (w : World) (stamps : Stamping) (me : BrickId) (c :
         (get_grown w.marks (End (length w.marks) n answer ∷ []) k (End q a other) at)
 
     -- the invariant holds when an operation ended
-    pub said_ended : Said setting (world_stepped setting w me (step_by seen)) stamps
+    pub said_ended : Said setting views (world_stepped setting w me (step_by seen)) stamps
     said_ended =
-        subst (λ (z : World). Said setting z stamps) (sym (next_is seen))
-        (said_operated setting w stamps stamps me node (collect_packets me c stored) marks n o ended w.contents books said
+        subst (λ (z : World). Said setting views z stamps) (sym (next_is seen))
+        (said_operated setting views w stamps stamps me node (collect_packets me c stored) marks n o ended w.contents books said
         (stamps_same stamps) keeps
         (record {
-          stamps_say = stamps_stay_by setting w next stamps me.0 node said refl (ages_within (w.nodes me.0) node refl more_known (omega arith));
+          stamps_say = stamps_stay_by setting views w next stamps me.0 node said refl (ages_within (w.nodes me.0) node refl more_known (omega arith));
           stamps_other = λ i b k other p. refl;
           operation = operation_says;
           calls = calls;

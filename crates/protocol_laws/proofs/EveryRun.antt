@@ -21,8 +21,8 @@ use Rattle.protocol_laws.proofs.Walks.{happenings_strict}
 use Rattle.protocol_laws.proofs.Guards.{writes_were_guarded}
 
 -- the laws, from the books, from what quorums show, and from the history of replies
-laws : (setting : Setting) (views : Views) (w : World) (stamps : Stamping) → Books setting w → Said setting w stamps → Follows setting.layout views w
-    → WritesWereGuarded setting views w → QuorumFacts setting w → Tallied w → IsNumbered w → RefusalsWereTrue setting w → Laws setting views w
+laws : (setting : Setting) (views : Views) (w : World) (stamps : Stamping) → Books setting w → Said setting views w stamps → Follows setting.layout views w
+    → WritesWereGuarded setting views w → QuorumFacts setting views w → Tallied w → IsNumbered w → RefusalsWereTrue setting w → Laws setting views w
 laws setting views w stamps booked said follows guards facts history numbered truths = record {
   one_content = one_content setting views w stamps booked said follows;
   first_is_zero = facts.first;
@@ -34,8 +34,8 @@ laws setting views w stamps booked said follows guards facts history numbered tr
   drops = drops_older setting views w stamps booked said follows;
   bases = bases_newest setting views w stamps booked said follows;
   bases_found = facts.bases_found;
-  neighbours = λ g s. neighbours_follow setting w g s booked facts;
-  lowest = λ g s. lowest_follows setting w g s booked facts;
+  neighbours = λ g s. neighbours_follow setting views w g s booked facts;
+  lowest = λ g s. lowest_follows setting views w g s booked facts;
   real_time = facts.real_time;
   counted = history.counted;
   aborts = history.aborts;
@@ -45,17 +45,17 @@ laws setting views w stamps booked said follows guards facts history numbered tr
   without_gaps = record { placed = booked.places; numbered = numbered.each };
   words = facts.words;
   stripe_well_formed = λ g s. well_formed_stripe g s w.marks booked.well_formed (numbers_from_one w.marks (λ n life is. (booked.lives n life is).0));
-  strict = λ g s group is. happenings_strict setting w g s booked facts group is;
+  strict = λ g s group is. happenings_strict setting views w g s booked facts group is;
 }
 
 -- the laws of every run
 pub every_run : EveryRunKeepsTheLaws
 every_run setting views events sound follows =
     let w : World = run setting events (first_world setting.layout) in
-    let said = always_said setting events sound in
+    let said = always_said setting views events sound in
     laws setting views w said.0 (books setting events) said.1 (follows events [] (sym (append-nil events)))
     (writes_were_guarded setting views events sound follows)
-    (facts setting sound w said.0 (books setting events) said.1)
+    (facts setting views sound w said.0 (books setting events) said.1)
     (tallied setting events sound)
     (always_numbered setting events)
     (refusals_true setting events)

@@ -1,4 +1,5 @@
 -- What was said stays said: nothing falls, messages and versions stay, and a version's content does not change.
+use Rattle.protocol.specs.Views.{Views}
 use Rattle.protocol_laws.proofs.Logs.{IsWithin}
 use Rattle.std.proofs.Common.{◌≡◌, ℕ, ◌≤◌, ◌⊎◌, inl, inr, true, false, not, List, length, Option, Some, None, refl, sym, ap, ◌∙◌, subst, ⊎_elim, arith, []}
 use Rattle.std.proofs.lemmas.Bool.{not-true, not_from_false, false≢true}
@@ -106,7 +107,7 @@ guarded_stays w next tops g s group t guarded =
     (above_stays w next tops g s (brick_at group k) t (not-true (stamp_below (top_in w g s (brick_at group k)) t) is))) in
     omega (arith, guarded, more)
 
-module _ (setting : Setting) (w next : World) (stamps later : Stamping) (books : Books setting w) (grows : Grows w next stamps later) where
+module _ (setting : Setting) (views : Views) (w next : World) (stamps later : Stamping) (books : Books setting w) (grows : Grows w next stamps later) where
   -- a version that was made stays made
   pub stays_made : (g s : ℕ) (t : Stamp) → IsMadeOrFirst w g s t → IsMadeOrFirst next g s t
   stays_made g s t (inl first) = inl first
@@ -169,43 +170,43 @@ module _ (setting : Setting) (w next : World) (stamps later : Stamping) (books :
   stays_guarded g s group t guarded = guarded_stays w next grows.parts.tops g s group t guarded
 
   -- what is blocked stays blocked
-  pub stay_blocked : (g s : ℕ) (Q : Stamp → Type 0) → AreBlocked setting w g s Q → AreBlocked setting next g s Q
+  pub stay_blocked : (g s : ℕ) (Q : Stamp → Type 0) → AreBlocked setting views w g s Q → AreBlocked setting views next g s Q
   stay_blocked g s Q blocked group is d has = blocked_stays w next grows.parts g s group d (blocked group is d has)
 
   -- what stands goes on standing
-  pub stays_standing : (g s : ℕ) (v : Stamp) → Stands setting w g s v → Stands setting next g s v
+  pub stays_standing : (g s : ℕ) (v : Stamp) → Stands setting views w g s v → Stands setting views next g s v
   stays_standing g s v stands group is = stands_stays w next grows.parts g s group v (stands group is)
 
   -- a block stays the block of its version
-  pub stays_block : (g s i : ℕ) (t : Stamp) (block : List ℕ) → IsMadeOrFirst w g s t → IsBlockOf setting w g s i t block
-      → IsBlockOf setting next g s i t block
+  pub stays_block : (g s i : ℕ) (t : Stamp) (block : List ℕ) → IsMadeOrFirst w g s t → IsBlockOf setting views w g s i t block
+      → IsBlockOf setting views next g s i t block
   stays_block g s i t block made is group seat its at =
       is group seat its at ∙ ap (λ content. setting.code.encode group.m content seat) (sym (grows.contents g s t made))
 
-  pub stays_version : (g s i : ℕ) (version : Version) → VersionSays setting w g s i version → VersionSays setting next g s i version
+  pub stays_version : (g s i : ℕ) (version : Version) → VersionSays setting views w g s i version → VersionSays setting views next g s i version
   stays_version g s i version says = record {
     made = stays_made g s version.stamp says.made;
     block = stays_block g s i version.stamp version.block says.made says.block;
   }
 
-  pub stays_told : (g s i : ℕ) (version : Version) → ToldSays setting w g s i version → ToldSays setting next g s i version
+  pub stays_told : (g s i : ℕ) (version : Version) → ToldSays setting views w g s i version → ToldSays setting views next g s i version
   stays_told g s i version says = record {
     made = stays_made g s version.stamp says.made;
     block = ⊎_elim
         (λ (none : version.block ≡ []). inl none)
-        (λ (block : IsBlockOf setting w g s i version.stamp version.block).
+        (λ (block : IsBlockOf setting views w g s i version.stamp version.block).
         inr (stays_block g s i version.stamp version.block says.made block))
         says.block;
   }
 
   -- the version that a request stores was made by its operation
-  pub maker_made : (from to : ℕ) (call : Call) (phase : Phase) (t : Stamp) → MakerSays setting w stamps from to call phase t
+  pub maker_made : (from to : ℕ) (call : Call) (phase : Phase) (t : Stamp) → MakerSays setting views w stamps from to call phase t
       → IsMadeOrFirst w call.group.0 call.stripe.0 t
   maker_made from to call phase t says =
       inr (w.numbers from call.boot call.seq, says.operation, says.called.is, says.called.group, says.called.stripe, says.made, says.version)
 
-  stays_maker_of : (from to : ℕ) (call : Call) (phase : Phase) (t : Stamp) → MakerSays setting w stamps from to call phase t
-      → MakerSays setting next later from to call phase t
+  stays_maker_of : (from to : ℕ) (call : Call) (phase : Phase) (t : Stamp) → MakerSays setting views w stamps from to call phase t
+      → MakerSays setting views next later from to call phase t
   stays_maker_of from to call phase t says =
       let goes = stays_called from call says.operation says.called in
       record {
@@ -218,8 +219,8 @@ module _ (setting : Setting) (w next : World) (stamps later : Stamping) (books :
         guarded = λ group is. stays_guarded call.group.0 call.stripe.0 group t (says.guarded group is);
       }
 
-  pub stays_write : (from to : ℕ) (call : Call) (t : Stamp) (block : List ℕ) → WriteSays setting w stamps from to call t block
-      → WriteSays setting next later from to call t block
+  pub stays_write : (from to : ℕ) (call : Call) (t : Stamp) (block : List ℕ) → WriteSays setting views w stamps from to call t block
+      → WriteSays setting views next later from to call t block
   stays_write from to call t block says = record {
     maker = stays_maker_of from to call Stores t says.maker;
     is_block = stays_block call.group.0 call.stripe.0 to t block (maker_made from to call Stores t says.maker) says.is_block;
@@ -250,8 +251,8 @@ module _ (setting : Setting) (w next : World) (stamps later : Stamping) (books :
         ∙ says.makes ∙ ap (λ (z : List ℕ). setting.code.encode group.m z seat) (sym (grows.contents g s t made));
   }
 
-  pub stays_modify : (from to : ℕ) (call : Call) (t base : Stamp) (j : ℕ) (sent : List ℕ) → ModifySays setting w stamps from to call t base j sent
-      → ModifySays setting next later from to call t base j sent
+  pub stays_modify : (from to : ℕ) (call : Call) (t base : Stamp) (j : ℕ) (sent : List ℕ) → ModifySays setting views w stamps from to call t base j sent
+      → ModifySays setting views next later from to call t base j sent
   stays_modify from to call t base j sent says = record {
     maker = stays_maker_of from to call (Modifies base j) t says.maker;
     base_made = stays_made call.group.0 call.stripe.0 base says.base_made;
@@ -286,8 +287,8 @@ module _ (setting : Setting) (w next : World) (stamps later : Stamping) (books :
         below = says.below;
       }
 
-  pub stays_request : (i j : ℕ) (call : Call) (request : Request) → RequestSays setting w stamps i j call request
-      → RequestSays setting next later i j call request
+  pub stays_request : (i j : ℕ) (call : Call) (request : Request) → RequestSays setting views w stamps i j call request
+      → RequestSays setting views next later i j call request
   stays_request i j call (Request.Read want) says = let goes = stays_called i call says.0 says.1 in (goes.0, goes.1)
   stays_request i j call (Request.Order t) says = stays_order i call t says
   stays_request i j call (Request.OrderRead t look want) says = stays_order_read i call t look want says
@@ -316,8 +317,8 @@ module _ (setting : Setting) (w next : World) (stamps later : Stamping) (books :
         floor = subst (λ (f : ℕ → Stamp). stamp_below says.stamp (f j) ≡ false) (sym goes.2.floor) says.floor;
       }
 
-  pub stays_found : (j i : ℕ) (call : Call) (order : Stamp) (version : Version) → FoundSays setting w j i call order version
-      → FoundSays setting next j i call order version
+  pub stays_found : (j i : ℕ) (call : Call) (order : Stamp) (version : Version) → FoundSays setting views w j i call order version
+      → FoundSays setting views next j i call order version
   stays_found j i call order version says =
       let goes = stays_called i call says.operation says.called in
       record {
@@ -330,8 +331,8 @@ module _ (setting : Setting) (w next : World) (stamps later : Stamping) (books :
       }
 
   -- what was found stays the newest that is looked for, or the others are passed over, since nothing comes to be held below the promised stamp
-  pub stays_ordered_read : (j i : ℕ) (call : Call) (found : Option Version) → OrderedReadSays setting w stamps j i call found
-      → OrderedReadSays setting next later j i call found
+  pub stays_ordered_read : (j i : ℕ) (call : Call) (found : Option Version) → OrderedReadSays setting views w stamps j i call found
+      → OrderedReadSays setting views next later j i call found
   stays_ordered_read j i call found says =
       let goes = stays_called i call says.operation says.called in
       record {
@@ -371,8 +372,8 @@ module _ (setting : Setting) (w next : World) (stamps later : Stamping) (books :
   stays_asked call from to t asked =
       (asked.0, grows.sent (record { from = from; to = to; message = Message.Request call asked.0 }) asked.1, asked.2)
 
-  pub stays_reply : (from to : BrickId) (call : Call) (reply : Reply) → ReplySays setting w stamps from to call reply
-      → ReplySays setting next later from to call reply
+  pub stays_reply : (from to : BrickId) (call : Call) (reply : Reply) → ReplySays setting views w stamps from to call reply
+      → ReplySays setting views next later from to call reply
   stays_reply from to call (Reply.Found order (Some version)) says = stays_found from.0 to.0 call order version says
   stays_reply from to call Reply.Ordered says = stays_ordered from.0 to.0 call says
   stays_reply from to call (Reply.OrderedRead found) says = stays_ordered_read from.0 to.0 call found says
@@ -387,17 +388,17 @@ module _ (setting : Setting) (w next : World) (stamps later : Stamping) (books :
   stays_reply from to call (Reply.Full live) says = says
   stays_reply from to call reply says = tt
 
-  pub stays_message : (from to : BrickId) (message : Message) → MessageSays setting w stamps from to message
-      → MessageSays setting next later from to message
+  pub stays_message : (from to : BrickId) (message : Message) → MessageSays setting views w stamps from to message
+      → MessageSays setting views next later from to message
   stays_message from to (Message.Request call request) says = stays_request from.0 to.0 call request says
   stays_message from to (Message.Reply call reply) says = stays_reply from to call reply says
   stays_message from to message says = tt
 
   -- what a packet says stays said
-  pub stays_packet : (packet : Packet) → PacketSays setting w stamps packet → PacketSays setting next later packet
+  pub stays_packet : (packet : Packet) → PacketSays setting views w stamps packet → PacketSays setting views next later packet
   stays_packet packet says = stays_message packet.from packet.to packet.message says
 
-  pub stays_has_version : (o : Operation) (v : Stamp) → HasVersion setting w o v → HasVersion setting next o v
+  pub stays_has_version : (o : Operation) (v : Stamp) → HasVersion setting views w o v → HasVersion setting views next o v
   stays_has_version o v has = record {
     made = stays_made o.ask.group.0 o.ask.stripe.0 v has.made;
     reader = has.reader;
@@ -412,8 +413,8 @@ module _ (setting : Setting) (w next : World) (stamps later : Stamping) (books :
 
   -- and so does how it was made
   stays_maker : (n : ℕ) (o : Operation) (v : Stamp) → IsOperation w n o → o.made ≡ true → o.version ≡ Some v → WritesWhole w o v
-      ⊎ ReadsBack setting w o v
-      → WritesWhole next o v ⊎ ReadsBack setting next o v
+      ⊎ ReadsBack setting views w o v
+      → WritesWhole next o v ⊎ ReadsBack setting views next o v
   stays_maker n o v is made version (inl whole) =
       inl (whole.0, whole.1 ∙ ap (λ (bytes : List ℕ). WriteStripe bytes) (sym (stays_content n o v is made version)))
   stays_maker n o v is made version (inr back) = inr (record {
@@ -428,7 +429,7 @@ module _ (setting : Setting) (w next : World) (stamps later : Stamping) (books :
   })
 
   -- what an operation says stays said
-  pub stays_operation : (n : ℕ) (o : Operation) → IsOperation w n o → OperationSays setting w stamps n o → OperationSays setting next later n o
+  pub stays_operation : (n : ℕ) (o : Operation) → IsOperation w n o → OperationSays setting views w stamps n o → OperationSays setting views next later n o
   stays_operation n o is says = record {
     begin = omega (arith, says.begin, grows.marks);
     floors = λ i. stays_above o.ask.group.0 o.ask.stripe.0 i (o.floor i) (says.floors i);
@@ -452,14 +453,14 @@ module _ (setting : Setting) (w next : World) (stamps later : Stamping) (books :
     answered = says.answered;
   }
 
-  pub stays_counted : (i : ℕ) (c : Coordinator) (x : Counted) → CountedSays setting w i c x → CountedSays setting next i c x
+  pub stays_counted : (i : ℕ) (c : Coordinator) (x : Counted) → CountedSays setting views w i c x → CountedSays setting views next i c x
   stays_counted i c x says = record {
     sent = grows.sent (record { from = x.brick; to = record { 0 = i }; message = Message.Reply c.call x.reply }) says.sent;
     answers = says.answers;
     seat = says.seat;
   }
 
-  pub stays_made_on : (c : Coordinator) (base : Stamp) → MadeOn setting w c base → MadeOn setting next c base
+  pub stays_made_on : (c : Coordinator) (base : Stamp) → MadeOn setting views w c base → MadeOn setting views next c base
   stays_made_on c base on = record {
     base_is = on.base_is;
     below = on.below;
@@ -472,8 +473,8 @@ module _ (setting : Setting) (w next : World) (stamps later : Stamping) (books :
 
   -- what a coordinator says stays said, where its brick goes on, and its call has no new stamp
   pub stays_call : (i k : ℕ) (c : Coordinator) → (next.nodes i).boot ≡ (w.nodes i).boot
-      → ((p : ℕ) → later i (w.nodes i).boot k p ≡ stamps i (w.nodes i).boot k p) → CallSays setting w stamps i k c
-      → CallSays setting next later i k c
+      → ((p : ℕ) → later i (w.nodes i).boot k p ≡ stamps i (w.nodes i).boot k p) → CallSays setting views w stamps i k c
+      → CallSays setting views next later i k c
   stays_call i k c boot same says = record {
     begun = subst (λ (b : ℕ). IsBegun later i b k c.call.phase c.phase c.stamp) (sym boot)
         (stays_phase i (w.nodes i).boot k c.call.phase c.phase c.stamp says.begun);
@@ -494,11 +495,11 @@ module _ (setting : Setting) (w next : World) (stamps later : Stamping) (books :
           stored.1 ∙ sym (grows.contents c.ask.group.0 c.ask.stripe.0 c.stamp stored.0),
         );
     based = λ base is. stays_made_on c base (says.based base is);
-    counted = each_then (CountedSays setting w i c) (CountedSays setting next i c) c.counted (λ x h. stays_counted i c x h) says.counted;
+    counted = each_then (CountedSays setting views w i c) (CountedSays setting views next i c) c.counted (λ x h. stays_counted i c x h) says.counted;
     once = says.once;
   }
 
-  pub stays_shown : (said : (n : ℕ) (o : Operation) → IsOperation w n o → OperationSays setting w stamps n o) (n : ℕ) (bytes : List ℕ)
+  pub stays_shown : (said : (n : ℕ) (o : Operation) → IsOperation w n o → OperationSays setting views w stamps n o) (n : ℕ) (bytes : List ℕ)
       → DataShown setting w n bytes
       → DataShown setting next n bytes
   stays_shown said n bytes shown =
@@ -517,7 +518,7 @@ module _ (setting : Setting) (w next : World) (stamps later : Stamping) (books :
       }
 
   -- what an end shows stays shown
-  pub stays_end : (said : (n : ℕ) (o : Operation) → IsOperation w n o → OperationSays setting w stamps n o) (n : ℕ) (answer : Answer)
+  pub stays_end : (said : (n : ℕ) (o : Operation) → IsOperation w n o → OperationSays setting views w stamps n o) (n : ℕ) (answer : Answer)
       → EndShows setting w n answer → EndShows setting next n answer
   stays_end said n (Data bytes) shows = stays_shown said n bytes shows
   stays_end said n Done shows =

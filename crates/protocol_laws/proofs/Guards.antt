@@ -240,6 +240,6 @@ writes_were_guarded setting views events sound follows k call from to request t 
         ≡ Some (record { from = from; to = to; message = Message.Request call request })
         → IsGuarded (run setting upto (first_world setting.layout)) call.group.0 call.stripe.0 group t
     guarded_there upto later is there =
-        let said = always_said setting upto sound in
+        let said = always_said setting views upto sound in
         writes_guarded setting views (run setting upto (first_world setting.layout)) said.0 (books setting upto) said.1 (follows upto later is) call from to
         request t group found (k, there) stores

@@ -10,6 +10,7 @@ use Rattle.reg_model.specs.declared.marks.Mark.TheVariants.{End}
 use Rattle.reg_model.specs.Marks.{life_of}
 use Rattle.reg_model.specs.Walk.{last_of}
 use Rattle.fab_base.specs.Layouts.{Group, group_of}
+use Rattle.protocol.specs.Views.{Views}
 use Rattle.protocol.specs.Settings.{Setting}
 use Rattle.protocol.specs.Replicas.{top_of, Replica}
 use Rattle.protocol.specs.Coordinators.{Coordinator}
@@ -56,7 +57,7 @@ pub record OperatedKeeps (w : World) (me : BrickId) (node : Node) (marks : List 
   pub lasts : (a : ℕ) → last_of (life_of w.marks a) ≤ last_of (life_of marks a)
   pub unended : length w.marks ≤ last_of (life_of marks n)
 
-module _ (setting : Setting) (w : World) (stamps later : Stamping) (me : BrickId) (node : Node) (more : List Packet) (marks : List Mark) (n : ℕ)
+module _ (setting : Setting) (views : Views) (w : World) (stamps later : Stamping) (me : BrickId) (node : Node) (more : List Packet) (marks : List Mark) (n : ℕ)
     (o p : Operation)
     (contents : ℕ → ℕ → Stamp → List ℕ) (keeps : OperatedKeeps w me node marks n o p contents) where
   abbrev next : World
@@ -90,7 +91,7 @@ module _ (setting : Setting) (w : World) (stamps later : Stamping) (me : BrickId
   }
 
   -- the operations stay in order: the one that changed is open
-  stays_in_order : Said setting w stamps → IsInOrder setting next
+  stays_in_order : Said setting views w stamps → IsInOrder setting views next
   stays_in_order said a b earlier late u earlier_is late_is groups stripes version =
       let e = came_from a earlier earlier_is in
       let l = came_from b late late_is in
@@ -117,27 +118,27 @@ module _ (setting : Setting) (w : World) (stamps later : Stamping) (me : BrickId
           omega arith
 
 -- what such a change owes
-pub record OperatedOwes (setting : Setting) (w next : World) (stamps later : Stamping) (me : BrickId) (node : Node) (more : List Packet) (n : ℕ)
+pub record OperatedOwes (setting : Setting) (views : Views) (w next : World) (stamps later : Stamping) (me : BrickId) (node : Node) (more : List Packet) (n : ℕ)
     (p : Operation) : Type 0 where
   pub stamps_say : StampsSay next later
   pub stamps_other : (i b k : ℕ) → i ≢ me.0 → KeepsStamps stamps later i b k
-  pub operation : OperationSays setting next later n p
+  pub operation : OperationSays setting views next later n p
   pub calls : (k : ℕ) (c : Coordinator) → node.calls k ≡ Some c
-      → (((w.nodes me.0).calls k ≡ Some c) × KeepsStamps stamps later me.0 (w.nodes me.0).boot k) ⊎ CallSays setting next later me.0 k c
-  pub packets : (k : ℕ) (packet : Packet) → slice_get more k ≡ Some packet → PacketSays setting next later packet
+      → (((w.nodes me.0).calls k ≡ Some c) × KeepsStamps stamps later me.0 (w.nodes me.0).boot k) ⊎ CallSays setting views next later me.0 k c
+  pub packets : (k : ℕ) (packet : Packet) → slice_get more k ≡ Some packet → PacketSays setting views next later packet
   pub ends : (k q a : ℕ) (answer : Answer) → slice_get next.marks k ≡ Some (End q a answer)
       → (slice_get w.marks k ≡ Some (End q a answer)) ⊎ EndShows setting next a answer
 
 -- the invariant holds after an operation changed
-pub said_operated : (setting : Setting) (w : World) (stamps later : Stamping) (me : BrickId) (node : Node) (more : List Packet) (marks : List Mark)
+pub said_operated : (setting : Setting) (views : Views) (w : World) (stamps later : Stamping) (me : BrickId) (node : Node) (more : List Packet) (marks : List Mark)
     (n : ℕ)
-    (o p : Operation) (contents : ℕ → ℕ → Stamp → List ℕ) → Books setting w → Said setting w stamps → StampsGrow stamps later
+    (o p : Operation) (contents : ℕ → ℕ → Stamp → List ℕ) → Books setting w → Said setting views w stamps → StampsGrow stamps later
     → OperatedKeeps w me node marks n o p contents
-    → OperatedOwes setting w (operated w me node more marks n p contents) stamps later me node more n p
-    → Said setting (operated w me node more marks n p contents) later
-said_operated setting w stamps later me node more marks n o p contents books said grow keeps owes =
+    → OperatedOwes setting views w (operated w me node more marks n p contents) stamps later me node more n p
+    → Said setting views (operated w me node more marks n p contents) later
+said_operated setting views w stamps later me node more marks n o p contents books said grow keeps owes =
     let after : World = operated w me node more marks n p contents in
-    said_after setting w after stamps later books said (operated_grows setting w stamps later me node more marks n o p contents keeps said.logged grow) (record {
+    said_after setting views w after stamps later books said (operated_grows setting views w stamps later me node more marks n o p contents keeps said.logged grow) (record {
       stamps_say = owes.stamps_say;
       tops = λ g e s i. inl (ap (λ (r : Replica). top_of r) (part_same w after me.0 node refl keeps.places.2 g e s i));
       logs = λ g e s i k version is. inl (k, ap (λ (r : Replica). slice_get r.log k) (sym (part_same w after me.0 node refl keeps.places.2 g e s i)) ∙ is);
@@ -147,12 +148,12 @@ said_operated setting w stamps later me node more marks n o p contents books sai
           (λ (new : (j : ℕ) × (slice_get more j ≡ Some packet)). inr (owes.packets new.0 packet new.1))
           (get_grown w.packets more k packet is);
       operations = λ a e.
-          put_each (λ i x. x ≡ Some e → IsOperation w i e ⊎ OperationSays setting after later i e) w.operations n (Some p)
-          (λ is. let same : p ≡ e = cc in inr (subst (λ (z : Operation). OperationSays setting after later n z) same owes.operation))
+          put_each (λ i x. x ≡ Some e → IsOperation w i e ⊎ OperationSays setting views after later i e) w.operations n (Some p)
+          (λ is. let same : p ≡ e = cc in inr (subst (λ (z : Operation). OperationSays setting views after later n z) same owes.operation))
           (λ i other is. inl is) a;
       calls = λ i k c.
-          calls_by setting w after stamps later me.0 node refl keeps.boot k c (owes.calls k c)
+          calls_by setting views w after stamps later me.0 node refl keeps.boot k c (owes.calls k c)
           (λ j other. owes.stamps_other j (w.nodes j).boot k other) i;
       ends = owes.ends;
-      order = stays_in_order setting w stamps later me node more marks n o p contents keeps said;
+      order = stays_in_order setting views w stamps later me node more marks n o p contents keeps said;
     })

@@ -16,7 +16,7 @@ use Rattle.messages.specs.declared.requests.Want.{Want}
 use Rattle.messages.specs.declared.requests.Want.TheVariants.{Seat, All}
 use Rattle.messages.specs.declared.requests.Request.{Request}
 use Rattle.protocol.specs.Settings.{Setting}
-use Rattle.protocol.specs.Views.{view_of}
+use Rattle.protocol.specs.Views.{Views, view_of}
 use Rattle.protocol.specs.declared.phases.Phase.{Phase}
 use Rattle.protocol.specs.declared.phases.Phase.TheVariants.{LooksAt, Orders, OrdersAt, Recovers, Descends, Modifies, Stores}
 use Rattle.protocol.specs.Coordinators.{Coordinator}
@@ -46,7 +46,7 @@ is_round (WriteStripe bytes) = tt
 ordering_only : (op : Op) (p : Phase) → p ≡ ordering op → IsRound p
 ordering_only op p is = subst (λ (q : Phase). IsRound q) (sym is) (is_round op)
 
-module _ (setting : Setting) (w : World) (stamps : Stamping) (books : Books setting w) (said : Said setting w stamps) where
+module _ (setting : Setting) (views : Views) (w : World) (stamps : Stamping) (books : Books setting w) (said : Said setting views w stamps) where
   -- two phases with one stamp are of the same call
   stamp_unique : (i j b c k l p q : ℕ) (t : Stamp) → IsStamped stamps i b k p t → IsStamped stamps j c l q t → (i ≡ j) × (b ≡ c) × (k ≡ l)
   stamp_unique i j b c k l p q t here there =
@@ -103,7 +103,7 @@ module _ (setting : Setting) (w : World) (stamps : Stamping) (books : Books sett
   -- what a request that was sent says
   sent_says : (call : Call) (from to : BrickId) (request : Request)
       → WasSent w (record { from = from; to = to; message = Message.Request call request })
-      → RequestSays setting w stamps from.0 to.0 call request
+      → RequestSays setting views w stamps from.0 to.0 call request
   sent_says call from to request sent = said.packets sent.0 (record { from = from; to = to; message = Message.Request call request }) sent.1
 
   -- the operation of a call is one alone
@@ -147,7 +147,7 @@ module _ (setting : Setting) (w : World) (stamps : Stamping) (books : Books sett
   order_begun call from to o ReadStripe t called is sent = read_begun call from to o ReadStripe t called is refl sent
 
   -- what is asked in the phase in which an operation orders is its order
-  order_is : (call : Call) (from to : BrickId) (op : Op) (request : Request) (t u : Stamp) → RequestSays setting w stamps from.0 to.0 call request
+  order_is : (call : Call) (from to : BrickId) (op : Op) (request : Request) (t u : Stamp) → RequestSays setting views w stamps from.0 to.0 call request
       → stamp_asked request ≡ Some t → IsBegun stamps from.0 call.boot call.seq call.phase (ordering op) u → request ≡ order_of op t
   order_is call from to op (Request.Order z) t u says asked begun =
       let same = begun_once stamps from.0 call.boot call.seq call.phase Orders (ordering op) z u says.begun begun in
@@ -184,7 +184,7 @@ module _ (setting : Setting) (w : World) (stamps : Stamping) (books : Books sett
   order_is call from to op request t u says asked begun = cc
 
   -- the operation that asks at a stamp
-  asker : (call : Call) (from to : ℕ) (request : Request) (t : Stamp) → RequestSays setting w stamps from to call request
+  asker : (call : Call) (from to : ℕ) (request : Request) (t : Stamp) → RequestSays setting views w stamps from to call request
       → stamp_asked request ≡ Some t → (o : Operation) × IsCalled w from call o
   asker call from to (Request.Order z) t says asked = (says.operation, says.called)
   asker call from to (Request.OrderRead z look want) t says asked = (says.operation, says.called)
@@ -197,7 +197,7 @@ module _ (setting : Setting) (w : World) (stamps : Stamping) (books : Books sett
       → RequestSent w call o.brick to request → stamp_asked request ≡ Some t → RequestSent w call o.brick other (order_of o.ask.op u)
       → request ≡ order_of o.ask.op t
   orders_alone n o call to other request t u is own sent asked ordered =
-      let says : RequestSays setting w stamps o.brick.0 to.0 call request = sent_says call o.brick to request sent in
+      let says : RequestSays setting views w stamps o.brick.0 to.0 call request = sent_says call o.brick to request sent in
       let by : (p : Operation) × IsCalled w o.brick.0 call p = asker call o.brick.0 to.0 request t says asked in
       let number : w.numbers o.brick.0 call.boot call.seq ≡ n
       = ap (λ (b : ℕ). w.numbers o.brick.0 b call.seq) own.0 ∙ ap (λ (k : ℕ). w.numbers o.brick.0 o.boot k) own.1

@@ -17,6 +17,7 @@ use Rattle.reg_model.specs.Marks.{Life, life_of, Answered}
 use Rattle.reg_model.specs.Registers.{zero_registers, after_op, read_of}
 use Rattle.reg_model.specs.Walk.{last_of}
 use Rattle.fab_base.specs.Layouts.{Group, group_of}
+use Rattle.protocol.specs.Views.{Views}
 use Rattle.protocol.specs.Settings.{Setting, IsSound}
 use Rattle.protocol.specs.Worlds.{World, Operation, zero_content, content_on}
 use Rattle.protocol.specs.Happenings.{writes}
@@ -34,18 +35,18 @@ use Rattle.protocol_laws.proofs.OwnStamps.{maker_stamp, made_later, operation_un
 
 -- an operation that made version t on a base: the base is below it, was made itself or is the first, and the content is what the operation makes of
 -- the base's; and nothing that a quorum holds lies between the two
-pub record BaseSays (setting : Setting) (w : World) (o : Operation) (t : Stamp) : Type 0 where
+pub record BaseSays (setting : Setting) (views : Views) (w : World) (o : Operation) (t : Stamp) : Type 0 where
   pub base : Stamp
   pub base_is : o.base ≡ Some base
   pub op : (bytes : List ℕ) → o.ask.op ≡ WriteStripe bytes → ⊥
   pub below : stamp_below base t ≡ true
   pub made : IsMadeOrFirst w o.ask.group.0 o.ask.stripe.0 base
   pub content : w.contents o.ask.group.0 o.ask.stripe.0 t ≡ after_op setting.layout.block o.ask.op (w.contents o.ask.group.0 o.ask.stripe.0 base)
-  pub none_between : (u : Stamp) → Stands setting w o.ask.group.0 o.ask.stripe.0 u → stamp_below base u ≡ true → stamp_below u t ≡ true → ⊥
+  pub none_between : (u : Stamp) → Stands setting views w o.ask.group.0 o.ask.stripe.0 u → stamp_below base u ≡ true → stamp_below u t ≡ true → ⊥
 
 -- an operation that made version t wrote it whole, on no base, or made it on its base
-pub record MakerFacts (setting : Setting) (w : World) (o : Operation) (t : Stamp) : Type 0 where
-  pub how : WritesWhole w o t ⊎ BaseSays setting w o t
+pub record MakerFacts (setting : Setting) (views : Views) (w : World) (o : Operation) (t : Stamp) : Type 0 where
+  pub how : WritesWhole w o t ⊎ BaseSays setting views w o t
   pub later : stamp_below first_stamp t ≡ true
 
 -- an operation that read version t at once is a read, and the version is the first one or was made
@@ -54,15 +55,15 @@ pub record ReaderFacts (w : World) (o : Operation) (t : Stamp) : Type 0 where
   pub made : IsMadeOrFirst w o.ask.group.0 o.ask.stripe.0 t
 
 -- the facts on versions
-pub record QuorumFacts (setting : Setting) (w : World) : Type 0 where
+pub record QuorumFacts (setting : Setting) (views : Views) (w : World) : Type 0 where
   pub real_time : (g s : ℕ) → FollowsRealTime w g s
   pub maker_unique : (a b : ℕ) (one other : Operation) (t : Stamp) → IsOperation w a one → IsOperation w b other
       → one.made ≡ true → other.made ≡ true → one.version ≡ Some t → other.version ≡ Some t → a ≡ b
   pub made_version : (n : ℕ) (o : Operation) → IsOperation w n o → o.made ≡ true → (t : Stamp) × (o.version ≡ Some t)
-  pub maker : (n : ℕ) (o : Operation) (t : Stamp) → IsOperation w n o → o.made ≡ true → o.version ≡ Some t → MakerFacts setting w o t
+  pub maker : (n : ℕ) (o : Operation) (t : Stamp) → IsOperation w n o → o.made ≡ true → o.version ≡ Some t → MakerFacts setting views w o t
   pub reader : (n : ℕ) (o : Operation) (t : Stamp) → IsOperation w n o → o.made ≡ false → o.version ≡ Some t → ReaderFacts w o t
   pub stands : (n : ℕ) (o : Operation) (t : Stamp) → IsOperation w n o → o.version ≡ Some t → (o.made ≡ false) ⊎ (o.answered ≡ true)
-      → Stands setting w o.ask.group.0 o.ask.stripe.0 t
+      → Stands setting views w o.ask.group.0 o.ask.stripe.0 t
   pub answered_data : (n : ℕ) (o : Operation) (t : Stamp) (life : Life) (p : ℕ) (bytes : List ℕ) → IsOperation w n o → o.version ≡ Some t
       → life_of w.marks n ≡ Some life → life.ending ≡ Answered p (Data bytes)
       → read_of setting.layout.block o.ask.op (w.contents o.ask.group.0 o.ask.stripe.0 t) ≡ Some bytes
@@ -75,7 +76,7 @@ pub record QuorumFacts (setting : Setting) (w : World) : Type 0 where
   pub bases_found : BasesAreFound setting w
   pub words : WordsFit setting.layout w.marks
 
-module _ (setting : Setting) (sound : IsSound setting) (w : World) (stamps : Stamping) (books : Books setting w) (said : Said setting w stamps) where
+module _ (setting : Setting) (views : Views) (sound : IsSound setting) (w : World) (stamps : Stamping) (books : Books setting w) (said : Said setting views w stamps) where
   -- of two versions between which a quorum's floors lie, the lower is not above the other, nor equal to it where the later operation made it
   shared_floor : (b : ℕ) (later : Operation) (u v : Stamp) (i : ℕ) → IsOperation w b later → later.version ≡ Some v
       → stamp_below (later.floor i) u ≡ false → stamp_below v (later.floor i) ≡ false → (stamp_below u v ≡ true) ⊎ ((u ≡ v) × (later.made ≡ false))
@@ -87,7 +88,7 @@ module _ (setting : Setting) (sound : IsSound setting) (w : World) (stamps : Sta
       ⊎_elim
       (λ (made : later.made ≡ true).
       let own : (p : ℕ) × IsStamped stamps later.brick.0 later.boot later.seq p v
-      = maker_stamp setting w stamps books said b later v is made version in
+      = maker_stamp setting views w stamps books said b later v is made version in
       let floor : later.floor i ≡ v
       = stamp_neither_below (later.floor i) v (subst (λ (t : Stamp). stamp_below (later.floor i) t ≡ false) same above) below in
       absurd ((said.operations b later is).fresh i own.0
@@ -122,7 +123,7 @@ module _ (setting : Setting) (sound : IsSound setting) (w : World) (stamps : Sta
       (eqb-true earlier.ask.stripe.0 s a_at.1 ∙ sym (eqb-true later.ask.stripe.0 s b_at.1)) a_version)
 
   -- a version that another was made on is the base
-  base_says : (n : ℕ) (o : Operation) (t : Stamp) → IsOperation w n o → ReadsBack setting w o t → BaseSays setting w o t
+  base_says : (n : ℕ) (o : Operation) (t : Stamp) → IsOperation w n o → ReadsBack setting views w o t → BaseSays setting views w o t
   base_says n o t is back =
       let its : OperationBooks setting w n o = books.operations n o is in
       record {
@@ -137,18 +138,18 @@ module _ (setting : Setting) (sound : IsSound setting) (w : World) (stamps : Sta
             (stands its.group its.group_is);
       }
 
-  maker_holds : (n : ℕ) (o : Operation) (t : Stamp) → IsOperation w n o → o.made ≡ true → o.version ≡ Some t → MakerFacts setting w o t
+  maker_holds : (n : ℕ) (o : Operation) (t : Stamp) → IsOperation w n o → o.made ≡ true → o.version ≡ Some t → MakerFacts setting views w o t
   maker_holds n o t is made version = record {
     how = ⊎_elim
         (λ (whole : WritesWhole w o t). inl whole)
-        (λ (back : ReadsBack setting w o t). inr (base_says n o t is back))
+        (λ (back : ReadsBack setting views w o t). inr (base_says n o t is back))
         ((said.operations n o is).maker t made version);
-    later = above_first t (made_later setting w stamps books said n o t is made version);
+    later = above_first t (made_later setting views w stamps books said n o t is made version);
   }
 
   reader_holds : (n : ℕ) (o : Operation) (t : Stamp) → IsOperation w n o → o.made ≡ false → o.version ≡ Some t → ReaderFacts w o t
   reader_holds n o t is unmade version =
-      let has : HasVersion setting w o t = (said.operations n o is).version t version in record { op = has.reader unmade; made = has.made }
+      let has : HasVersion setting views w o t = (said.operations n o is).version t version in record { op = has.reader unmade; made = has.made }
 
   answered_data_holds : (n : ℕ) (o : Operation) (t : Stamp) (life : Life) (p : ℕ) (bytes : List ℕ) → IsOperation w n o → o.version ≡ Some t
       → life_of w.marks n ≡ Some life → life.ending ≡ Answered p (Data bytes)
@@ -169,19 +170,19 @@ module _ (setting : Setting) (sound : IsSound setting) (w : World) (stamps : Sta
       ap (λ (op : Op). content_on setting.layout.block (w.contents o.ask.group.0 o.ask.stripe.0) op o.base) whole.1
       ∙ ap (λ (z : Option Stamp). content_on setting.layout.block (w.contents o.ask.group.0 o.ask.stripe.0)
       (WriteStripe (w.contents o.ask.group.0 o.ask.stripe.0 t)) z) whole.0))
-      (λ (back : ReadsBack setting w o t).
+      (λ (back : ReadsBack setting views w o t).
       back.content ∙ sym (
       ap (λ (z : Option Stamp). content_on setting.layout.block (w.contents o.ask.group.0 o.ask.stripe.0) o.ask.op z) back.base_is))
       ((said.operations n o is).maker t made version)
 
   -- what is said of a world makes these facts true
-  pub facts : QuorumFacts setting w
+  pub facts : QuorumFacts setting views w
   facts = record {
     real_time = real_time_holds;
     maker_unique = λ a b one other t one_is other_is one_made other_made one_version other_version.
-        let first = maker_stamp setting w stamps books said a one t one_is one_made one_version in
-        let second = maker_stamp setting w stamps books said b other t other_is other_made other_version in
-        operation_unique setting w stamps books said a b one other first.0 second.0 t one_is other_is first.1 second.1;
+        let first = maker_stamp setting views w stamps books said a one t one_is one_made one_version in
+        let second = maker_stamp setting views w stamps books said b other t other_is other_made other_version in
+        operation_unique setting views w stamps books said a b one other first.0 second.0 t one_is other_is first.1 second.1;
     made_version = λ n o is made. let had = (said.operations n o is).made made in (had.0, had.2);
     maker = maker_holds;
     reader = reader_holds;
@@ -192,6 +193,6 @@ module _ (setting : Setting) (sound : IsSound setting) (w : World) (stamps : Sta
     contents = contents_hold;
     stored = λ call from to sent. said.packets sent.0 (record { from = from; to = to; message = Message.Reply call Reply.Stored }) sent.1;
     full = λ call from to live sent. said.packets sent.0 (record { from = from; to = to; message = Message.Reply call (Reply.Full live) }) sent.1;
-    bases_found = bases_found setting sound w stamps books said;
-    words = words_fit setting w stamps books said;
+    bases_found = bases_found setting views sound w stamps books said;
+    words = words_fit setting views w stamps books said;
   }

@@ -15,6 +15,7 @@ use Rattle.quorum.specs.Quorums.{count, both, IsWithinLimits}
 use Rattle.quorum.proofs.Counts.{count_full, count_both, count_empty}
 use Rattle.fab_base.specs.Layouts.{Group, group_of}
 use Rattle.quorum.specs.Quorums.{quorum_of}
+use Rattle.protocol.specs.Views.{Views}
 use Rattle.protocol.specs.Settings.{Setting, IsSound}
 use Rattle.protocol.specs.Replicas.{is_wanted}
 use Rattle.protocol.specs.declared.phases.Counted.{Counted}
@@ -50,18 +51,18 @@ none_greater (Some a) None is = is
 none_greater (Some a) (Some b) is =
     cond_both (stamp_below a b) (Some b) (Some a) (λ (z : Option Stamp). z ≡ None → Some a ≡ None) (λ less e. cc) (λ above e. cc) is
 
-module _ (setting : Setting) (sound : IsSound setting) (w : World) (stamps : Stamping) (me : BrickId) (c : Coordinator)
-    (books : Books setting w) (said : Said setting w stamps) (is : IsCall w me.0 c.call.seq c)
-    (counted : List Counted) (each : EachCounted (CountedSays setting w me.0 c) counted) (once : AreOnce counted)
+module _ (setting : Setting) (views : Views) (sound : IsSound setting) (w : World) (stamps : Stamping) (me : BrickId) (c : Coordinator)
+    (books : Books setting w) (said : Said setting views w stamps) (is : IsCall w me.0 c.call.seq c)
+    (counted : List Counted) (each : EachCounted (CountedSays setting views w me.0 c) counted) (once : AreOnce counted)
     (many : quorum_of c.group ≤ length counted) (look : Look)
-    (all : EachCounted (ReadsAt setting sound w stamps me c books said is counted each once many look) counted)
+    (all : EachCounted (ReadsAt setting views sound w stamps me c books said is counted each once many look) counted)
     (v : Stamp) (made : IsMadeOrFirst w (books.calls me.0 c.call.seq c is).operation.ask.group.0
     (books.calls me.0 c.call.seq c is).operation.ask.stripe.0 v) (all_wanted : want_of c.phase ≡ All) where
   abbrev its_ask : Ask
   its_ask = (books.calls me.0 c.call.seq c is).operation.ask
 
   -- a reply that finds a version tells its seat's block
-  piece_at : (x : Counted) → ReadsAt setting sound w stamps me c books said is counted each once many look x → finds v x ≡ true
+  piece_at : (x : Counted) → ReadsAt setting views sound w stamps me c books said is counted each once many look x → finds v x ≡ true
       → IsPieceOf setting.code c.group.m (length c.group.members) (w.contents its_ask.group.0 its_ask.stripe.0 v) x
   piece_at x reads is_found =
       let told = told_version_is x reads.found v reads.found_is (finds_told v x.seat x.brick x.reply is_found) in (
@@ -79,24 +80,24 @@ module _ (setting : Setting) (sound : IsSound setting) (w : World) (stamps : Sta
       let limits : IsWithinLimits c.group.m (length c.group.members)
       = sound.limits its_ask.group.0 c.group (ap (λ a. group_of setting.layout a.group.0) (sym its.ask) ∙ its.group_is) in
       let formed : IsContent c.group.m setting.layout.block (w.contents its_ask.group.0 its_ask.stripe.0 v)
-      = content_formed setting sound w stamps me c books said is counted each once many v made in
+      = content_formed setting views sound w stamps me c books said is counted each once many v made in
       sound.decodes c.group.m (length c.group.members) limits (w.contents its_ask.group.0 its_ask.stripe.0 v) (pieces_at v counted) formed.0 formed.1
       (are_pieces setting.code c.group.m (length c.group.members) (w.contents its_ask.group.0 its_ask.stripe.0 v) (filter (finds v) counted)
-      (each_then (λ x. ReadsAt setting sound w stamps me c books said is counted each once many look x × (finds v x ≡ true))
+      (each_then (λ x. ReadsAt setting views sound w stamps me c books said is counted each once many look x × (finds v x ≡ true))
       (IsPieceOf setting.code c.group.m (length c.group.members) (w.contents its_ask.group.0 its_ask.stripe.0 v)) (filter (finds v) counted)
       (λ x h. piece_at x h.0 h.1)
-      (each_filter (ReadsAt setting sound w stamps me c books said is counted each once many look) (finds v) counted all))
+      (each_filter (ReadsAt setting views sound w stamps me c books said is counted each once many look) (finds v) counted all))
       (once_filter (finds v) counted once))
       enough
 
-module _ (setting : Setting) (sound : IsSound setting) (w : World) (stamps : Stamping) (me : BrickId) (c : Coordinator)
-    (books : Books setting w) (said : Said setting w stamps) (is : IsCall w me.0 c.call.seq c)
-    (counted : List Counted) (each : EachCounted (CountedSays setting w me.0 c) counted) (once : AreOnce counted)
+module _ (setting : Setting) (views : Views) (sound : IsSound setting) (w : World) (stamps : Stamping) (me : BrickId) (c : Coordinator)
+    (books : Books setting w) (said : Said setting views w stamps) (is : IsCall w me.0 c.call.seq c)
+    (counted : List Counted) (each : EachCounted (CountedSays setting views w me.0 c) counted) (once : AreOnce counted)
     (many : quorum_of c.group ≤ length counted) (bound : Stamp) (looks : look_of c.phase c.stamp ≡ Some (Below bound))
-    (all : EachCounted (ReadsAt setting sound w stamps me c books said is counted each once many (Below bound)) counted) where
+    (all : EachCounted (ReadsAt setting views sound w stamps me c books said is counted each once many (Below bound)) counted) where
   -- what a reply reads
   abbrev Reading : Counted → Type 0
-  Reading x = ReadsAt setting sound w stamps me c books said is counted each once many (Below bound) x
+  Reading x = ReadsAt setting views sound w stamps me c books said is counted each once many (Below bound) x
 
   -- the bound is above the first stamp
   first_under : stamp_below first_stamp bound ≡ true
@@ -130,11 +131,11 @@ module _ (setting : Setting) (sound : IsSound setting) (w : World) (stamps : Sta
       let enough : c.group.m ≤ quorum_of c.group = quorum_enough c.group.m (length c.group.members) limits.enough_seats in
       each_some counted all nothing (omega (arith, limits.some_block, enough, many))
 
-module _ (setting : Setting) (sound : IsSound setting) (w : World) (stamps : Stamping) (me : BrickId) (c : Coordinator)
-    (books : Books setting w) (said : Said setting w stamps) (is : IsCall w me.0 c.call.seq c)
-    (counted : List Counted) (each : EachCounted (CountedSays setting w me.0 c) counted) (once : AreOnce counted)
+module _ (setting : Setting) (views : Views) (sound : IsSound setting) (w : World) (stamps : Stamping) (me : BrickId) (c : Coordinator)
+    (books : Books setting w) (said : Said setting views w stamps) (is : IsCall w me.0 c.call.seq c)
+    (counted : List Counted) (each : EachCounted (CountedSays setting views w me.0 c) counted) (once : AreOnce counted)
     (many : quorum_of c.group ≤ length counted) (bound : Stamp) (looks : look_of c.phase c.stamp ≡ Some (Below bound))
-    (all : EachCounted (ReadsAt setting sound w stamps me c books said is counted each once many (Below bound)) counted)
+    (all : EachCounted (ReadsAt setting views sound w stamps me c books said is counted each once many (Below bound)) counted)
     (v : Stamp) (greatest : greatest_found counted ≡ Some v) where
   -- its group, and its members
   abbrev group : Group
@@ -149,7 +150,7 @@ module _ (setting : Setting) (sound : IsSound setting) (w : World) (stamps : Sta
   abbrev o : Operation
   o = (books.calls me.0 c.call.seq c is).operation
 
-  says : CallSays setting w stamps me.0 c.call.seq c
+  says : CallSays setting views w stamps me.0 c.call.seq c
   says = said.calls me.0 c.call.seq c is
 
   its_group : group_of setting.layout o.ask.group.0 ≡ Some group
@@ -160,7 +161,7 @@ module _ (setting : Setting) (sound : IsSound setting) (w : World) (stamps : Sta
 
   -- what a reply reads
   abbrev Reads : Counted → Type 0
-  Reads x = ReadsAt setting sound w stamps me c books said is counted each once many (Below bound) x
+  Reads x = ReadsAt setting views sound w stamps me c books said is counted each once many (Below bound) x
 
   -- the part of the stripe at a seat
   abbrev come_to : ℕ → Stamp
@@ -295,11 +296,11 @@ module _ (setting : Setting) (sound : IsSound setting) (w : World) (stamps : Sta
       omega (arith, full)))
 
 -- A quorum of replies to a phase that looks for a version which stands finds enough blocks of it.
-module _ (setting : Setting) (sound : IsSound setting) (w : World) (stamps : Stamping) (me : BrickId) (c : Coordinator)
-    (books : Books setting w) (said : Said setting w stamps) (is : IsCall w me.0 c.call.seq c)
-    (counted : List Counted) (each : EachCounted (CountedSays setting w me.0 c) counted) (once : AreOnce counted)
+module _ (setting : Setting) (views : Views) (sound : IsSound setting) (w : World) (stamps : Stamping) (me : BrickId) (c : Coordinator)
+    (books : Books setting w) (said : Said setting views w stamps) (is : IsCall w me.0 c.call.seq c)
+    (counted : List Counted) (each : EachCounted (CountedSays setting views w me.0 c) counted) (once : AreOnce counted)
     (many : quorum_of c.group ≤ length counted) (base : Stamp)
-    (all : EachCounted (ReadsAt setting sound w stamps me c books said is counted each once many (At base)) counted)
+    (all : EachCounted (ReadsAt setting views sound w stamps me c books said is counted each once many (At base)) counted)
     (stands : AtQuorum c.group (λ seat. w.held (brick_at c.group seat) (books.calls me.0 c.call.seq c is).operation.ask.group.0
     (books.calls me.0 c.call.seq c is).operation.ask.stripe.0 base)) where
   abbrev asked : Ask
@@ -309,7 +310,7 @@ module _ (setting : Setting) (sound : IsSound setting) (w : World) (stamps : Sta
   held_base seat = w.held (brick_at c.group seat) asked.group.0 asked.stripe.0 base
 
   -- a reply that does not find the base is of a member that has not held it
-  unheld : (x : Counted) → ReadsAt setting sound w stamps me c books said is counted each once many (At base) x → not (finds base x) ≡ true
+  unheld : (x : Counted) → ReadsAt setting views sound w stamps me c books said is counted each once many (At base) x → not (finds base x) ≡ true
       → held_base x.seat ≡ false
   unheld x reads isnt = ⊎_elim
       (λ (held : held_base x.seat ≡ true). absurd (by reads.found reads.found_is reads.looked (reads.newest base held (stamp_same_refl base))))
@@ -333,10 +334,10 @@ module _ (setting : Setting) (sound : IsSound setting) (w : World) (stamps : Sta
       let others : List Counted = filter test counted in
       let seats : length others ≤ count (length c.group.members) (λ seat. not (held_base seat))
       = at_seats (length c.group.members) others (λ seat. not (held_base seat))
-      (each_then (λ x. ReadsAt setting sound w stamps me c books said is counted each once many (At base) x × (test x ≡ true))
+      (each_then (λ x. ReadsAt setting views sound w stamps me c books said is counted each once many (At base) x × (test x ≡ true))
       (λ x. (x.seat < length c.group.members) × (not (held_base x.seat) ≡ true)) others
       (λ x h. (h.0.promises.within, not_from_false (held_base x.seat) (unheld x h.0 h.1)))
-      (each_filter (ReadsAt setting sound w stamps me c books said is counted each once many (At base)) test counted all))
+      (each_filter (ReadsAt setting views sound w stamps me c books said is counted each once many (At base)) test counted all))
       (once_filter test counted once) in
       let sum = count_both (length c.group.members) (λ seat. not (held_base seat)) held_base in
       let none = count_empty (length c.group.members) (both (λ seat. not (held_base seat)) held_base) (λ k below. never_both (held_base k)) in
@@ -350,24 +351,24 @@ module _ (setting : Setting) (sound : IsSound setting) (w : World) (stamps : Sta
       never_both false = refl
 
 -- A write of a block that reads its base back: a quorum of its replies that refuse nothing finds enough blocks of it.
-module _ (setting : Setting) (sound : IsSound setting) (w : World) (stamps : Stamping) (me : BrickId) (c : Coordinator)
-    (books : Books setting w) (said : Said setting w stamps) (is : IsCall w me.0 c.call.seq c)
-    (counted : List Counted) (each : EachCounted (CountedSays setting w me.0 c) counted) (once : AreOnce counted)
+module _ (setting : Setting) (views : Views) (sound : IsSound setting) (w : World) (stamps : Stamping) (me : BrickId) (c : Coordinator)
+    (books : Books setting w) (said : Said setting views w stamps) (is : IsCall w me.0 c.call.seq c)
+    (counted : List Counted) (each : EachCounted (CountedSays setting views w me.0 c) counted) (once : AreOnce counted)
     (many : quorum_of c.group ≤ length counted) (base : Stamp) (reads : c.phase ≡ Bases base)
     (none : greatest_refuser counted ≡ None) (roomy : lowest_full counted ≡ None) where
   abbrev its_books : CallBooks setting w me.0 c.call.seq c
   its_books = books.calls me.0 c.call.seq c is
 
-  based : MadeOn setting w c base
+  based : MadeOn setting views w c base
   based = (said.calls me.0 c.call.seq c is).based base (ap base_in reads)
 
-  all_reads : EachCounted (ReadsAt setting sound w stamps me c books said is counted each once many (At base)) counted
+  all_reads : EachCounted (ReadsAt setting views sound w stamps me c books said is counted each once many (At base)) counted
   all_reads =
-      all_read setting sound w stamps me c books said is counted each once many (At base) (ap (λ (p : Phase). look_of p c.stamp) reads) none roomy
+      all_read setting views sound w stamps me c books said is counted each once many (At base) (ap (λ (p : Phase). look_of p c.stamp) reads) none roomy
 
   pub base_enough : c.group.m ≤ length (pieces_at base counted)
   base_enough =
-      base_found setting sound w stamps me c books said is counted each once many base all_reads
+      base_found setting views sound w stamps me c books said is counted each once many base all_reads
       (subst (λ (a : Ask). AtQuorum c.group (λ seat. w.held (brick_at c.group seat) a.group.0 a.stripe.0 base)) its_books.ask
       (based.stands c.group its_books.group_is))
 
@@ -375,5 +376,5 @@ module _ (setting : Setting) (sound : IsSound setting) (w : World) (stamps : Sta
   pub base_decodes : setting.code.decode c.group.m (pieces_at base counted)
       ≡ w.contents its_books.operation.ask.group.0 its_books.operation.ask.stripe.0 base
   base_decodes =
-      pieces_decode setting sound w stamps me c books said is counted each once many (At base) all_reads base
+      pieces_decode setting views sound w stamps me c books said is counted each once many (At base) all_reads base
       (subst (λ (a : Ask). IsMadeOrFirst w a.group.0 a.stripe.0 base) its_books.ask based.base_made) (ap want_of reads) base_enough

@@ -21,6 +21,7 @@ use Rattle.messages.specs.declared.replies.Reply.{Reply}
 use Rattle.fab_base.specs.Layouts.{Group, group_of, seat_in}
 use Rattle.quorum.specs.Quorums.{quorum_of}
 use Rattle.reg_model.specs.Registers.{block_of, after_op, read_of}
+use Rattle.protocol.specs.Views.{Views}
 use Rattle.protocol.specs.Settings.{Setting, Code, IsSound, are_bytes}
 use Rattle.protocol.specs.declared.phases.Refuser.{Refuser}
 use Rattle.protocol.specs.declared.phases.FullMember.{FullMember}
@@ -48,13 +49,13 @@ use Rattle.protocol_laws.proofs.Sends.{IsCovered, MayBegin, said_sent}
 use Rattle.protocol_laws.proofs.Ends.{WillShow, said_ended}
 
 -- a brick that only learns a time keeps the invariant
-pub said_known : (setting : Setting) (w : World) (stamps : Stamping) (me : BrickId) (known : ℕ) → Books setting w → Said setting w stamps
-    → (w.nodes me.0).known ≤ known → Said setting (quiet w me (with_known (w.nodes me.0) known) []) stamps
-said_known setting w stamps me known books said more =
-    said_quiet setting w stamps stamps me (with_known (w.nodes me.0) known) [] books said (stamps_same stamps) (record {
+pub said_known : (setting : Setting) (views : Views) (w : World) (stamps : Stamping) (me : BrickId) (known : ℕ) → Books setting w → Said setting views w stamps
+    → (w.nodes me.0).known ≤ known → Said setting views (quiet w me (with_known (w.nodes me.0) known) []) stamps
+said_known setting views w stamps me known books said more =
+    said_quiet setting views w stamps stamps me (with_known (w.nodes me.0) known) [] books said (stamps_same stamps) (record {
       keeps = keeps_same (w.nodes me.0) (with_known (w.nodes me.0) known) (refl, refl, refl);
       boot = refl;
-      stamps_say = stamps_stay_by setting w (quiet w me (with_known (w.nodes me.0) known) []) stamps me.0 (with_known (w.nodes me.0) known) said refl
+      stamps_say = stamps_stay_by setting views w (quiet w me (with_known (w.nodes me.0) known) []) stamps me.0 (with_known (w.nodes me.0) known) said refl
           (ages_within (w.nodes me.0) (with_known (w.nodes me.0) known) refl more (omega arith));
       stamps_other = λ i b k other p. refl;
       tops = λ g e s. inl refl;
@@ -115,8 +116,8 @@ decided_stores : (block : ℕ) (code : Code) (fresh : Option Stamp) (c : Coordin
 unfolding decided
 decided_stores block code fresh c is = rw is
 
-module _ (setting : Setting) (sound : IsSound setting) (w : World) (stamps : Stamping) (me : BrickId) (c : Coordinator) (known : ℕ)
-    (books : Books setting w) (said : Said setting w stamps) (is : IsCall w me.0 c.call.seq c)
+module _ (setting : Setting) (views : Views) (sound : IsSound setting) (w : World) (stamps : Stamping) (me : BrickId) (c : Coordinator) (known : ℕ)
+    (books : Books setting w) (said : Said setting views w stamps) (is : IsCall w me.0 c.call.seq c)
     (more_known : (w.nodes me.0).known ≤ known) (fresh : Option Stamp)
     (fresh_is : (t : Stamp) → fresh ≡ Some t
     → IsStampOf (with_known (w.nodes me.0) t.time) me.0 (w.nodes me.0).boot t × ((w.nodes me.0).known < t.time)) where
@@ -133,7 +134,7 @@ module _ (setting : Setting) (sound : IsSound setting) (w : World) (stamps : Sta
   abbrev o : Operation
   o = (books.calls me.0 c.call.seq c is).operation
 
-  says : CallSays setting w stamps me.0 c.call.seq c
+  says : CallSays setting views w stamps me.0 c.call.seq c
   says = said.calls me.0 c.call.seq c is
 
   -- the world after what the coordinator decides
@@ -141,16 +142,16 @@ module _ (setting : Setting) (sound : IsSound setting) (w : World) (stamps : Sta
   after decision = world_stepped setting w me (carried_out setting me (w.nodes me.0) known c decision)
 
   -- the coordinator waits
-  said_waits : (d : Coordinator) → CallSays setting w stamps me.0 c.call.seq d → IsSaid setting (after (Waits d))
+  said_waits : (d : Coordinator) → CallSays setting views w stamps me.0 c.call.seq d → IsSaid setting views (after (Waits d))
   said_waits d d_says =
       let node : Node = with_call (w.nodes me.0) known (w.nodes me.0).busy c.call.seq (Some d) in
       let grows : Grows w (quiet w me node []) stamps stamps
       = quiet_grows w stamps stamps me node [] (stamps_same stamps) said.logged (keeps_same (w.nodes me.0) node (refl, refl, refl)) in (
         stamps,
-        said_quiet setting w stamps stamps me node [] books said (stamps_same stamps) (record {
+        said_quiet setting views w stamps stamps me node [] books said (stamps_same stamps) (record {
           keeps = keeps_same (w.nodes me.0) node (refl, refl, refl);
           boot = refl;
-          stamps_say = stamps_stay_by setting w (quiet w me node []) stamps me.0 node said refl
+          stamps_say = stamps_stay_by setting views w (quiet w me node []) stamps me.0 node said refl
               (ages_within (w.nodes me.0) node refl more_known (omega arith));
           stamps_other = λ i b k other p. refl;
           tops = λ g e s. inl refl;
@@ -159,11 +160,11 @@ module _ (setting : Setting) (sound : IsSound setting) (w : World) (stamps : Sta
           calls = λ k e.
               put_each (λ j x. x ≡ Some e
               → (((w.nodes me.0).calls j ≡ Some e) × KeepsStamps stamps stamps me.0 (w.nodes me.0).boot j)
-              ⊎ CallSays setting (quiet w me node []) stamps me.0 j e)
+              ⊎ CallSays setting views (quiet w me node []) stamps me.0 j e)
               (w.nodes me.0).calls c.call.seq (Some d)
               (λ at. let same : d ≡ e = cc in
-              inr (subst (λ (z : Coordinator). CallSays setting (quiet w me node []) stamps me.0 c.call.seq z) same
-              (stays_call setting w (quiet w me node []) stamps stamps books grows me.0 c.call.seq d
+              inr (subst (λ (z : Coordinator). CallSays setting views (quiet w me node []) stamps me.0 c.call.seq z) same
+              (stays_call setting views w (quiet w me node []) stamps stamps books grows me.0 c.call.seq d
               (ap (λ (x : Node). x.boot) (put_same w.nodes me.0 node)) (λ p. refl) d_says)))
               (λ j other at. inl (at, λ p. refl)) k;
           packets = λ k packet at. cc;
@@ -171,10 +172,10 @@ module _ (setting : Setting) (sound : IsSound setting) (w : World) (stamps : Sta
       )
 
   -- the operation is aborted
-  said_aborts : (cause : Cause) → IsSaid setting (after (Ends (Aborted cause) None None))
+  said_aborts : (cause : Cause) → IsSaid setting views (after (Ends (Aborted cause) None None))
   said_aborts cause = (
     stamps,
-    said_ended setting w stamps me c known books said is more_known (Aborted cause) None None
+    said_ended setting views w stamps me c known books said is more_known (Aborted cause) None None
         (λ v has. has)
         (λ v has. (said.operations (number_of w me.0 c.call.seq) o its.operation_is).version v has)
         (λ v has how. (said.operations (number_of w me.0 c.call.seq) o its.operation_is).stands v has (⊎_elim
@@ -197,7 +198,7 @@ module _ (setting : Setting) (sound : IsSound setting) (w : World) (stamps : Sta
     abbrev d : Coordinator
     d = with_reply c seat from reply
 
-    new_says : CountedSays setting w me.0 c (record { seat = seat; brick = from; reply = reply })
+    new_says : CountedSays setting views w me.0 c (record { seat = seat; brick = from; reply = reply })
     new_says = record {
       sent = sent;
       answers = answers;
@@ -206,14 +207,14 @@ module _ (setting : Setting) (sound : IsSound setting) (w : World) (stamps : Sta
           subst (λ (z : Group). seat_in z.members from.0 ≡ Some seat) same seat_is;
     }
 
-    each : EachCounted (CountedSays setting w me.0 c) d.counted
-    each = each_more (CountedSays setting w me.0 c) c.counted (record { seat = seat; brick = from; reply = reply }) says.counted new_says
+    each : EachCounted (CountedSays setting views w me.0 c) d.counted
+    each = each_more (CountedSays setting views w me.0 c) c.counted (record { seat = seat; brick = from; reply = reply }) says.counted new_says
 
     once : AreOnce d.counted
     once = once_more c.counted (record { seat = seat; brick = from; reply = reply }) says.once first
 
     -- the coordinator goes on with the reply
-    more_says : CallSays setting w stamps me.0 c.call.seq d
+    more_says : CallSays setting views w stamps me.0 c.call.seq d
     unfolding request_of
     more_says = record {
       begun = says.begun;
@@ -227,9 +228,9 @@ module _ (setting : Setting) (sound : IsSound setting) (w : World) (stamps : Sta
       covered = says.covered;
       stores = says.stores;
       based = λ base has.
-          let on : MadeOn setting w c base = says.based base has in
+          let on : MadeOn setting views w c base = says.based base has in
           record { base_is = on.base_is; below = on.below; base_made = on.base_made; stands = on.stands; made = on.made; content = on.content };
-      counted = each_then (CountedSays setting w me.0 c) (CountedSays setting w me.0 d) d.counted
+      counted = each_then (CountedSays setting views w me.0 c) (CountedSays setting views w me.0 d) d.counted
           (λ x h. record { sent = h.sent; answers = h.answers; seat = h.seat }) each;
       once = once;
     }
@@ -246,31 +247,31 @@ module _ (setting : Setting) (sound : IsSound setting) (w : World) (stamps : Sta
       -- a read that sees one version is answered what it reads of that
       said_answers : (v : Stamp) (bytes : List ℕ) → fast_version d.counted ≡ Some v → IsUnmade o → writes o.ask.op ≡ false
           → read_of setting.layout.block o.ask.op (w.contents o.ask.group.0 o.ask.stripe.0 v) ≡ Some bytes
-          → IsSaid setting (after (Ends (Data bytes) (Some v) None))
+          → IsSaid setting views (after (Ends (Data bytes) (Some v) None))
       said_answers v bytes fast unmade reads gives =
-          let has : HasVersion setting w o v = record {
-            made = fast_made setting sound w stamps me c books said is d.counted each once many v fast;
+          let has : HasVersion setting views w o v = record {
+            made = fast_made setting views sound w stamps me c books said is d.counted each once many v fast;
             reader = λ isnt. reads;
             guarded = λ other other_is.
                 let same : group ≡ other = (let e : Some group ≡ Some other = sym its_group ∙ other_is in cc) in
                 subst (λ (z : Group). IsGuarded w o.ask.group.0 o.ask.stripe.0 z v) same
-                (fast_guards setting sound w stamps me c books said is d.counted each once many v fast);
+                (fast_guards setting views sound w stamps me c books said is d.counted each once many v fast);
             floors = λ other other_is.
                 let same : group ≡ other = (let e : Some group ≡ Some other = sym its_group ∙ other_is in cc) in
                 subst (λ (z : Group). FloorsAtMost o z v) same
-                (fast_floors setting sound w stamps me c books said is d.counted each once many v fast);
+                (fast_floors setting views sound w stamps me c books said is d.counted each once many v fast);
           } in (
             stamps,
-            said_ended setting w stamps me c known books said is more_known (Data bytes)
+            said_ended setting views w stamps me c known books said is more_known (Data bytes)
                 (Some v) None
                 (λ u old. let e : Some u ≡ None = sym old ∙ unmade.0 in cc)
-                (λ u now. let same : v ≡ u = cc in subst (λ (t : Stamp). HasVersion setting w o t) same has)
+                (λ u now. let same : v ≡ u = cc in subst (λ (t : Stamp). HasVersion setting views w o t) same has)
                 (λ u now how other other_is.
                 let same : v ≡ u = cc in
                 let group_same : group ≡ other = same_Some group other (sym its_group ∙ other_is) in
                 subst (λ (z : Group). AtQuorum z (λ seat. w.held (brick_at z seat) o.ask.group.0 o.ask.stripe.0 u)) group_same
                 (subst (λ (t : Stamp). AtQuorum group (λ seat. w.held (brick_at group seat) o.ask.group.0 o.ask.stripe.0 t)) same
-                (fast_stands setting sound w stamps me c books said is d.counted each once many v fast)))
+                (fast_stands setting views sound w stamps me c books said is d.counted each once many v fast)))
                 (λ answered writing. absurd (false≢true (sym reads ∙ writing)))
                 (v, refl, gives)
                 (λ t bad. let never : None ≡ Some t = bad in cc),
@@ -288,10 +289,10 @@ module _ (setting : Setting) (sound : IsSound setting) (w : World) (stamps : Sta
 
       -- a phase of its own stamp begins
       begins : (base : Option Stamp) (content : List ℕ) (phase : Phase) → FitsPhase phase c.ask.op
-          → MayBegin setting w c o c.stamp base content phase → DescendsFrom phase c.ask.op c.stamp
-          → IsSaid setting (after (Sends (record (in_phase d phase) { base = base; content = content })))
+          → MayBegin setting views w c o c.stamp base content phase → DescendsFrom phase c.ask.op c.stamp
+          → IsSaid setting views (after (Sends (record (in_phase d phase) { base = base; content = content })))
       begins base content phase fits asks down =
-          said_sent setting sound w stamps me c known books said is more_known c.stamp c.round base content phase own_of own_from fits asks down
+          said_sent setting views sound w stamps me c known books said is more_known c.stamp c.round base content phase own_of own_from fits asks down
 
       -- a phase that does not look below a bound
       level : (phase : Phase) (op : Op) (t : Stamp) → ((bound : Stamp) → phase ≡ Descends bound → ⊥) → DescendsFrom phase op t
@@ -301,10 +302,10 @@ module _ (setting : Setting) (sound : IsSound setting) (w : World) (stamps : Sta
       }
 
       -- a read that saw no version told by all recovers
-      recovers_next : writes c.ask.op ≡ false → IsSaid setting (after (Sends (in_phase d Recovers)))
+      recovers_next : writes c.ask.op ≡ false → IsSaid setting views (after (Sends (in_phase d Recovers)))
       recovers_next reads = begins c.base c.content Recovers reads tt (level Recovers c.ask.op c.stamp (λ bound bad. cc))
 
-      looks_on : c.phase ≡ Looks → (z : Option Stamp) → fast_version d.counted ≡ z → IsSaid setting (after (answered_fast setting.code d z))
+      looks_on : c.phase ≡ Looks → (z : Option Stamp) → fast_version d.counted ≡ z → IsSaid setting views (after (answered_fast setting.code d z))
       looks_on looks None fast =
           recovers_next (ap writes (subst (λ (p : Phase). FitsPhase p c.ask.op) looks says.fits))
       looks_on looks (Some v) fast =
@@ -312,7 +313,7 @@ module _ (setting : Setting) (sound : IsSound setting) (w : World) (stamps : Sta
           said_answers v (setting.code.decode group.m (pieces_of d.counted)) fast (subst (λ (p : Phase). MadeInPhase c o p) looks its.made) (ap writes reads)
           (ap (λ (op : Op). read_of setting.layout.block op (w.contents o.ask.group.0 o.ask.stripe.0 v)) reads
           ∙ ap (λ (l : List ℕ). Some l)
-          (sym (fast_decodes setting sound w stamps me c books said is d.counted each once many v fast (ap want_of looks))))
+          (sym (fast_decodes setting views sound w stamps me c books said is d.counted each once many v fast (ap want_of looks))))
 
       -- the data block of an operation is one of m
       block_below : (j : ℕ) → has_block group.m o.ask.op ≡ true → (o.ask.op ≡ ReadBlock j) ⊎ ((bytes : List ℕ) × (o.ask.op ≡ WriteBlock j bytes)) → j < group.m
@@ -333,7 +334,7 @@ module _ (setting : Setting) (sound : IsSound setting) (w : World) (stamps : Sta
       has_its_length = subst (λ (z : Group). has_length z.m setting.layout.block o.ask.op ≡ true) o_group o_books.length_fits
 
       looks_at_on : (j : ℕ) → c.phase ≡ LooksAt j → (z : Option Stamp) → fast_version_at j d.counted ≡ z
-          → IsSaid setting (after (answered_fast_at d j z))
+          → IsSaid setting views (after (answered_fast_at d j z))
       looks_at_on j looks None fast =
           recovers_next (ap writes (subst (λ (p : Phase). FitsPhase p c.ask.op) looks says.fits))
       looks_at_on j looks (Some v) fast_at_j =
@@ -342,19 +343,19 @@ module _ (setting : Setting) (sound : IsSound setting) (w : World) (stamps : Sta
           said_answers v (bytes_at j d.counted) fast.1 (subst (λ (p : Phase). MadeInPhase c o p) looks its.made) (ap writes reads)
           (ap (λ (op : Op). read_of setting.layout.block op (w.contents o.ask.group.0 o.ask.stripe.0 v)) reads
           ∙ ap (λ (l : List ℕ). Some l)
-          (sym (fast_block setting sound w stamps me c books said is d.counted each once many v j (block_below j has_its_block (inl reads)) fast.1 fast.0
+          (sym (fast_block setting views sound w stamps me c books said is d.counted each once many v j (block_below j has_its_block (inl reads)) fast.1 fast.0
           (ap want_of looks))))
 
       -- an order that was refused is tried again, or aborts
-      again : (phase : Phase) → c.phase ≡ phase → ((t : Stamp) → MayBegin setting w c o t c.base c.content phase)
+      again : (phase : Phase) → c.phase ≡ phase → ((t : Stamp) → MayBegin setting views w c o t c.base c.content phase)
           → ((bound : Stamp) → phase ≡ Descends bound → ⊥) → (r : Refuser) (z : Option Stamp) → fresh ≡ z
-          → IsSaid setting (after (ordered_again z d r))
+          → IsSaid setting views (after (ordered_again z d r))
       again phase same asks never r None none = said_aborts (Cause.Later r.brick r.stamp)
       again phase same asks never r (Some t) new =
           let own = fresh_is t new in
-          cond_both (nat_lt c.round most_rounds) (Sends (reordering d t)) (aborted_by r) (λ (z : Next). IsSaid setting (after z))
+          cond_both (nat_lt c.round most_rounds) (Sends (reordering d t)) (aborted_by r) (λ (z : Next). IsSaid setting views (after z))
           (λ few.
-          said_sent setting sound w stamps me c known books said is more_known t (c.round + 1) c.base c.content c.phase
+          said_sent setting views sound w stamps me c known books said is more_known t (c.round + 1) c.base c.content c.phase
           (record {
             view = own.0.view;
             boot = own.0.boot;
@@ -364,14 +365,14 @@ module _ (setting : Setting) (sound : IsSound setting) (w : World) (stamps : Sta
             bounded = λ now. omega arith;
           })
           (inr (later_unknown w stamps said.stamps_say (with_known (w.nodes me.0) t.time) me.0 t own.0 own.1, own.0.positive))
-          says.fits (subst (λ (p : Phase). MayBegin setting w c o t c.base c.content p) (sym same) (asks t))
+          says.fits (subst (λ (p : Phase). MayBegin setting views w c o t c.base c.content p) (sym same) (asks t))
           (level c.phase c.ask.op t (λ bound is. never bound (sym same ∙ is))))
           (λ all. said_aborts (Cause.Later r.brick r.stamp))
 
       orders_on : c.phase ≡ Orders → lowest_full d.counted ≡ None → (z : Option Refuser) → greatest_refuser d.counted ≡ z
-          → IsSaid setting (after (once_ordered fresh d z (Makes (in_phase d Stores))))
+          → IsSaid setting views (after (once_ordered fresh d z (Makes (in_phase d Stores))))
       orders_on orders roomy None none =
-          let all = all_ordered setting sound w stamps me c books said is d.counted each once many orders none roomy in
+          let all = all_ordered setting views sound w stamps me c books said is d.counted each once many orders none roomy in
           let unmade : IsUnmade o = subst (λ (p : Phase). MadeInPhase c o p) orders its.made in
           let writing : (bytes : List ℕ) × (c.ask.op ≡ WriteStripe bytes) = subst (λ (p : Phase). FitsPhase p c.ask.op) orders says.fits in
           let content : List ℕ = made_content setting w c c.base in
@@ -381,10 +382,10 @@ module _ (setting : Setting) (sound : IsSound setting) (w : World) (stamps : Sta
           let formed : IsContent group.m setting.layout.block writing.0
           = whole_formed writing.0
           (ap (λ (op : Op). has_length group.m setting.layout.block op) (sym (its_op ∙ writing.1)) ∙ has_its_length) in
-          said_made setting sound w stamps me c known books said is more_known c.base Stores c.content (unmade.0, unmade.1)
+          said_made setting views sound w stamps me c known books said is more_known c.base Stores c.content (unmade.0, unmade.1)
           (of_ask (λ a. IsGuarded w a.group.0 a.stripe.0 group c.stamp)
-          (promises_guard setting sound w stamps me c books said is d.counted each once many all))
-          (promises_floors setting sound w stamps me c books said is d.counted each once many all)
+          (promises_guard setting views sound w stamps me c books said is d.counted each once many all))
+          (promises_floors setting views sound w stamps me c books said is d.counted each once many all)
           (inl (says.unbased orders, writing))
           (subst (λ (l : List ℕ). IsContent group.m setting.layout.block l) (sym given) formed)
           (inl (refl, says.given orders ∙ ap given_content writing.1 ∙ sym given))
@@ -399,29 +400,29 @@ module _ (setting : Setting) (sound : IsSound setting) (w : World) (stamps : Sta
       -- a phase that looks below a bound, which no reply refused
       module _ (bound : Stamp) (looks : look_of c.phase c.stamp ≡ Some (Below bound)) (none : greatest_refuser d.counted ≡ None)
           (roomy : lowest_full d.counted ≡ None) (not_whole : (bytes : List ℕ) → c.ask.op ≡ WriteStripe bytes → ⊥) (unmade : IsUnmade o) where
-        all : EachCounted (ReadsAt setting sound w stamps me c books said is d.counted each once many (Below bound)) d.counted
-        all = all_read setting sound w stamps me c books said is d.counted each once many (Below bound) looks none roomy
+        all : EachCounted (ReadsAt setting views sound w stamps me c books said is d.counted each once many (Below bound)) d.counted
+        all = all_read setting views sound w stamps me c books said is d.counted each once many (Below bound) looks none roomy
 
-        promised : EachCounted (PromisesAt setting sound w stamps me c books said is d.counted each once many) d.counted
+        promised : EachCounted (PromisesAt setting views sound w stamps me c books said is d.counted each once many) d.counted
         promised =
-            each_then (ReadsAt setting sound w stamps me c books said is d.counted each once many (Below bound))
-            (PromisesAt setting sound w stamps me c books said is d.counted each once many) d.counted (λ x h. h.promises) all
+            each_then (ReadsAt setting views sound w stamps me c books said is d.counted each once many (Below bound))
+            (PromisesAt setting views sound w stamps me c books said is d.counted each once many) d.counted (λ x h. h.promises) all
 
         module _ (v : Stamp) (greatest : greatest_found d.counted ≡ Some v) where
           lower : stamp_below v c.stamp ≡ true
-          lower = version_lower setting sound w stamps me c books said is d.counted each once many bound looks all v greatest
+          lower = version_lower setting views sound w stamps me c books said is d.counted each once many bound looks all v greatest
 
           made_version : IsMadeOrFirst w o.ask.group.0 o.ask.stripe.0 v
-          made_version = version_made setting sound w stamps me c books said is d.counted each once many bound looks all v greatest
+          made_version = version_made setting views sound w stamps me c books said is d.counted each once many bound looks all v greatest
 
-          blocked : AreBlocked setting w o.ask.group.0 o.ask.stripe.0 (λ e. (stamp_below v e ≡ true) × (stamp_below e c.stamp ≡ true))
+          blocked : AreBlocked setting views w o.ask.group.0 o.ask.stripe.0 (λ e. (stamp_below v e ≡ true) × (stamp_below e c.stamp ≡ true))
           blocked other other_is e h =
               let same : group ≡ other = same_Some group other (sym its_group ∙ other_is) in
               subst (λ (z : Group). IsBlocked w o.ask.group.0 o.ask.stripe.0 z e) same
-              (between_blocked setting sound w stamps me c books said is d.counted each once many bound looks all v greatest e h.0 h.1)
+              (between_blocked setting views sound w stamps me c books said is d.counted each once many bound looks all v greatest e h.0 h.1)
 
           -- with too few blocks nothing from v up to the stamp is held by a quorum
-          covered : length (pieces_at v d.counted) < group.m → AreBlocked setting w o.ask.group.0 o.ask.stripe.0 (IsCovered v c.stamp)
+          covered : length (pieces_at v d.counted) < group.m → AreBlocked setting views w o.ask.group.0 o.ask.stripe.0 (IsCovered v c.stamp)
           covered few other other_is e h = ⊎_elim
               (λ (above : stamp_below v e ≡ true). blocked other other_is e (above, h.1))
               (λ (not_above : stamp_below v e ≡ false).
@@ -429,14 +430,14 @@ module _ (setting : Setting) (sound : IsSound setting) (w : World) (stamps : Sta
               let group_same : group ≡ other = same_Some group other (sym its_group ∙ other_is) in
               subst (λ (z : Group). IsBlocked w o.ask.group.0 o.ask.stripe.0 z e) group_same
               (subst (λ (t : Stamp). IsBlocked w o.ask.group.0 o.ask.stripe.0 group t) same
-              (too_few_blocked setting sound w stamps me c books said is d.counted each once many bound looks all v greatest few)))
+              (too_few_blocked setting views sound w stamps me c books said is d.counted each once many bound looks all v greatest few)))
               (cases_Bool (stamp_below v e))
 
-          descends_on : length (pieces_at v d.counted) < group.m → IsSaid setting (after (Sends (in_phase d (Descends v))))
+          descends_on : length (pieces_at v d.counted) < group.m → IsSaid setting views (after (Sends (in_phase d (Descends v))))
           descends_on few =
               begins c.base c.content (Descends v) not_whole (
-                version_above setting sound w stamps me c books said is d.counted each once many bound looks all v greatest few,
-                of_ask (λ a. AreBlocked setting w a.group.0 a.stripe.0 (IsCovered v c.stamp)) (covered few),
+                version_above setting views sound w stamps me c books said is d.counted each once many bound looks all v greatest few,
+                of_ask (λ a. AreBlocked setting views w a.group.0 a.stripe.0 (IsCovered v c.stamp)) (covered few),
               )
               (record {
                 most = λ b same. subst (λ (t : Stamp). stamp_below c.stamp t ≡ false) (let e : v ≡ b = cc in e) (stamp_below_asym v c.stamp lower);
@@ -448,39 +449,39 @@ module _ (setting : Setting) (sound : IsSound setting) (w : World) (stamps : Sta
           found = w.contents c.ask.group.0 c.ask.stripe.0 v
 
           found_formed : IsContent group.m setting.layout.block (w.contents o.ask.group.0 o.ask.stripe.0 v)
-          found_formed = content_formed setting sound w stamps me c books said is d.counted each once many v made_version
+          found_formed = content_formed setting views sound w stamps me c books said is d.counted each once many v made_version
 
           made_formed : IsContent group.m setting.layout.block (made_content setting w c (Some v))
           made_formed =
               of_ask (λ a. IsContent group.m setting.layout.block (after_op setting.layout.block a.op (w.contents a.group.0 a.stripe.0 v)))
               (formed_after group.m setting.layout.block o.ask.op (w.contents o.ask.group.0 o.ask.stripe.0 v) has_its_block has_its_length found_formed)
 
-          makes_on : MakesOn setting w c (Some v)
+          makes_on : MakesOn setting views w c (Some v)
           makes_on = record {
             version = v;
             base_is = refl;
             op = not_whole;
             below = lower;
             made = of_ask (λ a. IsMadeOrFirst w a.group.0 a.stripe.0 v) made_version;
-            blocked = of_ask (λ a. AreBlocked setting w a.group.0 a.stripe.0
+            blocked = of_ask (λ a. AreBlocked setting views w a.group.0 a.stripe.0
                 (λ e. (stamp_below v e ≡ true) × (stamp_below e c.stamp ≡ true))) blocked;
           }
 
           -- it makes its version on that
-          makes_next : (phase : Phase) (content : List ℕ) → SendsVersion setting w c (Some v) phase content
-              → IsSaid setting (after (Makes (record (in_phase d phase) { base = Some v; content = content })))
+          makes_next : (phase : Phase) (content : List ℕ) → SendsVersion setting views w c (Some v) phase content
+              → IsSaid setting views (after (Makes (record (in_phase d phase) { base = Some v; content = content })))
           makes_next phase content sends =
-              said_made setting sound w stamps me c known books said is more_known (Some v) phase content (unmade.0, unmade.1)
+              said_made setting views sound w stamps me c known books said is more_known (Some v) phase content (unmade.0, unmade.1)
               (of_ask (λ a. IsGuarded w a.group.0 a.stripe.0 group c.stamp)
-              (promises_guard setting sound w stamps me c books said is d.counted each once many promised))
-              (promises_floors setting sound w stamps me c books said is d.counted each once many promised)
+              (promises_guard setting views sound w stamps me c books said is d.counted each once many promised))
+              (promises_floors setting views sound w stamps me c books said is d.counted each once many promised)
               (inr makes_on) made_formed sends
 
           restores_on : want_of c.phase ≡ All → group.m ≤ length (pieces_at v d.counted)
-              → IsSaid setting (after (Makes (restoring setting.layout.block d v (setting.code.decode group.m (pieces_at v d.counted)))))
+              → IsSaid setting views (after (Makes (restoring setting.layout.block d v (setting.code.decode group.m (pieces_at v d.counted)))))
           restores_on wanted enough =
               let content : setting.code.decode group.m (pieces_at v d.counted) ≡ w.contents o.ask.group.0 o.ask.stripe.0 v
-              = pieces_decode setting sound w stamps me c books said is d.counted each once many (Below bound) all v made_version wanted enough in
+              = pieces_decode setting views sound w stamps me c books said is d.counted each once many (Below bound) all v made_version wanted enough in
               makes_next Stores (after_op setting.layout.block c.ask.op (setting.code.decode group.m (pieces_at v d.counted)))
               (inl (
                 refl,
@@ -489,12 +490,12 @@ module _ (setting : Setting) (sound : IsSound setting) (w : World) (stamps : Sta
               ))
 
         reads_on : want_of c.phase ≡ All → (z : Option Stamp) → greatest_found d.counted ≡ z
-            → IsSaid setting (after (read_back setting.layout.block setting.code d z))
+            → IsSaid setting views (after (read_back setting.layout.block setting.code d z))
         reads_on wanted None nothing =
-            absurd (something_found setting sound w stamps me c books said is d.counted each once many bound looks all nothing)
+            absurd (something_found setting views sound w stamps me c books said is d.counted each once many bound looks all nothing)
         reads_on wanted (Some v) greatest =
             cond_both (nat_lt (length (pieces_at v d.counted)) group.m) (Sends (in_phase d (Descends v)))
-            (Makes (restoring setting.layout.block d v (setting.code.decode group.m (pieces_at v d.counted)))) (λ (z : Next). IsSaid setting (after z))
+            (Makes (restoring setting.layout.block d v (setting.code.decode group.m (pieces_at v d.counted)))) (λ (z : Next). IsSaid setting views (after z))
             (λ few. descends_on v greatest (ltb-true (length (pieces_at v d.counted)) group.m few))
             (λ enough. restores_on v greatest wanted (ltb-false (length (pieces_at v d.counted)) group.m enough))
 
@@ -503,7 +504,7 @@ module _ (setting : Setting) (sound : IsSound setting) (w : World) (stamps : Sta
       reads_whole op reads bytes is = false≢true (sym reads ∙ ap writes is)
 
       recovers_on : c.phase ≡ Recovers → lowest_full d.counted ≡ None → (z : Option Refuser) → greatest_refuser d.counted ≡ z
-          → IsSaid setting (after (once_ordered fresh d z (read_back setting.layout.block setting.code d (greatest_found d.counted))))
+          → IsSaid setting views (after (once_ordered fresh d z (read_back setting.layout.block setting.code d (greatest_found d.counted))))
       recovers_on recovers roomy None none =
           reads_on c.stamp (ap (λ (p : Phase). look_of p c.stamp) recovers) none roomy
           (reads_whole c.ask.op (subst (λ (p : Phase). FitsPhase p c.ask.op) recovers says.fits))
@@ -512,7 +513,7 @@ module _ (setting : Setting) (sound : IsSound setting) (w : World) (stamps : Sta
 
       lowers_on : (bound : Stamp) → c.phase ≡ Descends bound → lowest_full d.counted ≡ None → (z : Option Refuser)
           → greatest_refuser d.counted ≡ z
-          → IsSaid setting (after (unless_refused z (read_back setting.layout.block setting.code d (greatest_found d.counted))))
+          → IsSaid setting views (after (unless_refused z (read_back setting.layout.block setting.code d (greatest_found d.counted))))
       lowers_on bound descends roomy None none =
           reads_on bound (ap (λ (p : Phase). look_of p c.stamp) descends) none roomy (subst (λ (p : Phase). FitsPhase p c.ask.op) descends says.fits)
           (subst (λ (p : Phase). MadeInPhase c o p) descends its.made) (ap want_of descends) (greatest_found d.counted) refl
@@ -520,7 +521,7 @@ module _ (setting : Setting) (sound : IsSound setting) (w : World) (stamps : Sta
 
       -- the write of a block modifies the version that all found, or looks for the greatest below its own stamp
       orders_at_on : (j : ℕ) → c.phase ≡ OrdersAt j → lowest_full d.counted ≡ None → (z : Option Refuser) → greatest_refuser d.counted ≡ z
-          → IsSaid setting (after (once_ordered fresh d z (modified_if setting.code d j (common_version_at j d.counted))))
+          → IsSaid setting views (after (once_ordered fresh d z (modified_if setting.code d j (common_version_at j d.counted))))
       orders_at_on j orders roomy (Some r) refused = again (OrdersAt j) orders (λ t. tt) (λ bound bad. cc) r fresh refl
       orders_at_on j orders roomy None none = goes (common_version_at j d.counted) refl
         where
@@ -537,7 +538,7 @@ module _ (setting : Setting) (sound : IsSound setting) (w : World) (stamps : Sta
           unmade = subst (λ (p : Phase). MadeInPhase c o p) orders its.made
 
           -- nothing lies from its stamp up to its stamp
-          none_covered : AreBlocked setting w c.ask.group.0 c.ask.stripe.0 (IsCovered c.stamp c.stamp)
+          none_covered : AreBlocked setting views w c.ask.group.0 c.ask.stripe.0 (IsCovered c.stamp c.stamp)
           none_covered other other_is e h = absurd (false≢true (sym h.0 ∙ h.1))
 
           own_above : stamp_below first_stamp c.stamp ≡ true
@@ -546,7 +547,7 @@ module _ (setting : Setting) (sound : IsSound setting) (w : World) (stamps : Sta
               (said.stamps_say.are me.0 (w.nodes me.0).boot c.call.seq c.call.phase c.stamp (c.phase, says.begun)))
 
           modifies_next : (v : Stamp) → has_seat j d.counted ≡ true → common_version d.counted ≡ Some v
-              → IsSaid setting (after (Makes (modifying setting.code d v j)))
+              → IsSaid setting views (after (Makes (modifying setting.code d v j)))
           modifies_next v has common =
               let greatest : greatest_found d.counted ≡ Some v = common_greatest d.counted v common in
               let told = common_each d.counted v common in
@@ -554,9 +555,9 @@ module _ (setting : Setting) (sound : IsSound setting) (w : World) (stamps : Sta
               let made : IsMadeOrFirst w o.ask.group.0 o.ask.stripe.0 v = made_version c.stamp looks none roomy not_whole unmade v greatest in
               let below : j < group.m = block_below j has_its_block (inr (writing.0, its_op ∙ writing.1)) in
               let old : bytes_at j d.counted ≡ block_of setting.layout.block j (w.contents o.ask.group.0 o.ask.stripe.0 v)
-              = common_block setting sound w stamps me c books said is d.counted each once many (Below c.stamp) reads v j below made told has (ap want_of orders) in
+              = common_block setting views sound w stamps me c books said is d.counted each once many (Below c.stamp) reads v j below made told has (ap want_of orders) in
               let stands : AtQuorum group (λ seat. w.held (brick_at group seat) o.ask.group.0 o.ask.stripe.0 v)
-              = common_stands setting sound w stamps me c books said is d.counted each once many (Below c.stamp) reads v told in
+              = common_stands setting views sound w stamps me c books said is d.counted each once many (Below c.stamp) reads v told in
               let formed : IsContent group.m setting.layout.block (w.contents o.ask.group.0 o.ask.stripe.0 v)
               = found_formed c.stamp looks none roomy not_whole unmade v greatest in
               makes_next c.stamp looks none roomy not_whole unmade v greatest (Modifies v j)
@@ -583,7 +584,7 @@ module _ (setting : Setting) (sound : IsSound setting) (w : World) (stamps : Sta
                     ∙ ap (λ (op : Op). setting.code.delta (block_of setting.layout.block j (w.contents c.ask.group.0 c.ask.stripe.0 v)) (block_written op)) writing.1;
               }))
 
-          goes : (y : Option Stamp) → common_version_at j d.counted ≡ y → IsSaid setting (after (modified_if setting.code d j y))
+          goes : (y : Option Stamp) → common_version_at j d.counted ≡ y → IsSaid setting views (after (modified_if setting.code d j y))
           goes None isnt =
               begins c.base c.content (Descends c.stamp) not_whole (own_above, none_covered)
               (record {
@@ -616,10 +617,10 @@ module _ (setting : Setting) (sound : IsSound setting) (w : World) (stamps : Sta
 
       -- an operation whose version stands is answered
       answers_on : (answer : Answer) → is_answer answer ≡ true → IsMade c o → AtQuorum group (λ seat. w.held (brick_at group seat) o.ask.group.0 o.ask.stripe.0 c.stamp)
-          → WillShow setting w o None answer → IsSaid setting (after (Ends answer None (Some c.stamp)))
+          → WillShow setting w o None answer → IsSaid setting views (after (Ends answer None (Some c.stamp)))
       answers_on answer is_one made stands shows = (
         stamps,
-        said_ended setting w stamps me c known books said is more_known answer None (Some c.stamp)
+        said_ended setting views w stamps me c known books said is more_known answer None (Some c.stamp)
             (λ v has. has)
             (λ v has. (said.operations (number_of w me.0 c.call.seq) o its.operation_is).version v has)
             (λ v has how other other_is.
@@ -633,43 +634,43 @@ module _ (setting : Setting) (sound : IsSound setting) (w : World) (stamps : Sta
       )
 
       stores_on : c.phase ≡ Stores → lowest_full d.counted ≡ None → (z : Option Refuser) → greatest_refuser d.counted ≡ z
-          → IsSaid setting (after (unless_refused z (Ends (answer_with (read_of setting.layout.block c.ask.op c.content)) None (Some c.stamp))))
+          → IsSaid setting views (after (unless_refused z (Ends (answer_with (read_of setting.layout.block c.ask.op c.content)) None (Some c.stamp))))
       stores_on stores roomy None none =
           let made : IsMade c o = subst (λ (p : Phase). MadeInPhase c o p) stores its.made in
           answers_on (answer_with (read_of setting.layout.block c.ask.op c.content)) (answer_is (read_of setting.layout.block c.ask.op c.content)) made
-          (stored_stands setting sound w stamps me c books said is d.counted each once many stores none roomy)
+          (stored_stands setting views sound w stamps me c books said is d.counted each once many stores none roomy)
           (stored_shows c.ask.op c.stamp c.content its_op made.0
           ((says.stores stores).1 ∙ ap (λ (a : Ask). w.contents a.group.0 a.stripe.0 c.stamp) its.ask))
       stores_on stores roomy (Some r) refused = said_aborts (Cause.Later r.brick r.stamp)
 
       -- a change that a quorum made is done; where a member was behind, the base is read back
       modifies_on : (base : Stamp) (j : ℕ) → c.phase ≡ Modifies base j → lowest_full d.counted ≡ None → (z : Option Refuser)
-          → greatest_refuser d.counted ≡ z → IsSaid setting (after (unless_refused z (once_modified d base)))
+          → greatest_refuser d.counted ≡ z → IsSaid setting views (after (unless_refused z (once_modified d base)))
       modifies_on base j modifies roomy (Some r) refused = said_aborts (Cause.Later r.brick r.stamp)
       modifies_on base j modifies roomy None none =
           let writing : (bytes : List ℕ) × (c.ask.op ≡ WriteBlock j bytes) = subst (λ (p : Phase). FitsPhase p c.ask.op) modifies says.fits in
           let made : IsMade c o × (c.base ≡ Some base) = subst (λ (p : Phase). MadeInPhase c o p) modifies its.made in
-          cond_both (some_behind d.counted) (Sends (in_phase d (Bases base))) (Ends Done None (Some c.stamp)) (λ (z : Next). IsSaid setting (after z))
+          cond_both (some_behind d.counted) (Sends (in_phase d (Bases base))) (Ends Done None (Some c.stamp)) (λ (z : Next). IsSaid setting views (after z))
           (λ behind.
           begins c.base c.content (Bases base) (j, writing.0, writing.1) (refl, refl, says.based base (ap base_in modifies))
           (level (Bases base) c.ask.op c.stamp (λ bound bad. cc)))
           (λ level_all.
-          answers_on Done refl made.0 (modified_stands setting sound w stamps me c books said is d.counted each once many base j modifies none roomy level_all)
+          answers_on Done refl made.0 (modified_stands setting views sound w stamps me c books said is d.counted each once many base j modifies none roomy level_all)
           (ap writes (its_op ∙ writing.1)))
 
       -- a base that was read back is stored, with what the operation makes of it
       bases_on : (base : Stamp) → c.phase ≡ Bases base → lowest_full d.counted ≡ None → (z : Option Refuser) → greatest_refuser d.counted ≡ z
-          → IsSaid setting (after (unless_refused z (rebuilt setting.layout.block setting.code d base)))
+          → IsSaid setting views (after (unless_refused z (rebuilt setting.layout.block setting.code d base)))
       bases_on base reads roomy (Some r) refused = said_aborts (Cause.Later r.brick r.stamp)
       bases_on base reads roomy None none =
-          let on : MadeOn setting w c base = says.based base (ap base_in reads) in
+          let on : MadeOn setting views w c base = says.based base (ap base_in reads) in
           let made : IsMade c o × (c.base ≡ Some base) = subst (λ (p : Phase). MadeInPhase c o p) reads its.made in
           let enough : group.m ≤ length (pieces_at base d.counted)
-          = base_enough setting sound w stamps me c books said is d.counted each once many base reads none roomy in
+          = base_enough setting views sound w stamps me c books said is d.counted each once many base reads none roomy in
           let content : setting.code.decode group.m (pieces_at base d.counted) ≡ w.contents o.ask.group.0 o.ask.stripe.0 base
-          = base_decodes setting sound w stamps me c books said is d.counted each once many base reads none roomy in
+          = base_decodes setting views sound w stamps me c books said is d.counted each once many base reads none roomy in
           cond_both (nat_lt (length (pieces_at base d.counted)) group.m) (Waits (forgetting d))
-          (Sends (restoring setting.layout.block d base (setting.code.decode group.m (pieces_at base d.counted)))) (λ (z : Next). IsSaid setting (after z))
+          (Sends (restoring setting.layout.block d base (setting.code.decode group.m (pieces_at base d.counted)))) (λ (z : Next). IsSaid setting views (after z))
           (λ few. absurd (let less : length (pieces_at base d.counted) < group.m = ltb-true (length (pieces_at base d.counted)) group.m few in omega (arith, less, enough)))
           (λ most.
           begins (Some base) (after_op setting.layout.block c.ask.op (setting.code.decode group.m (pieces_at base d.counted))) Stores tt
@@ -685,57 +686,57 @@ module _ (setting : Setting) (sound : IsSound setting) (w : World) (stamps : Sta
           (level Stores c.ask.op c.stamp (λ bound bad. cc)))
 
       -- a member whose store is full aborts it, and else no reply tells so
-      unless_told : (next : Next) → (lowest_full d.counted ≡ None → IsSaid setting (after next)) → (z : Option FullMember) → lowest_full d.counted ≡ z
-          → IsSaid setting (after (unless_told_full z next))
+      unless_told : (next : Next) → (lowest_full d.counted ≡ None → IsSaid setting views (after next)) → (z : Option FullMember) → lowest_full d.counted ≡ z
+          → IsSaid setting views (after (unless_told_full z next))
       unless_told next goes None none = goes none
       unless_told next goes (Some f) told = said_aborts (Cause.Full f.brick f.live)
 
       -- what a quorum of replies decides keeps the invariant
-      decides : IsSaid setting (after (decided setting.layout.block setting.code fresh d))
+      decides : IsSaid setting views (after (decided setting.layout.block setting.code fresh d))
       decides = by_phase c.phase refl
         where
-          by_phase : (p : Phase) → c.phase ≡ p → IsSaid setting (after (decided setting.layout.block setting.code fresh d))
+          by_phase : (p : Phase) → c.phase ≡ p → IsSaid setting views (after (decided setting.layout.block setting.code fresh d))
           by_phase Looks at =
-              subst (λ (z : Next). IsSaid setting (after z)) (sym (decided_looks setting.layout.block setting.code fresh d at))
+              subst (λ (z : Next). IsSaid setting views (after z)) (sym (decided_looks setting.layout.block setting.code fresh d at))
               (unless_told _ (λ roomy. looks_on at (fast_version d.counted) refl) (lowest_full d.counted) refl)
           by_phase Orders at =
-              subst (λ (z : Next). IsSaid setting (after z)) (sym (decided_orders setting.layout.block setting.code fresh d at))
+              subst (λ (z : Next). IsSaid setting views (after z)) (sym (decided_orders setting.layout.block setting.code fresh d at))
               (unless_told _ (λ roomy. orders_on at roomy (greatest_refuser d.counted) refl) (lowest_full d.counted) refl)
           by_phase (LooksAt j) at =
-              subst (λ (z : Next). IsSaid setting (after z)) (sym (decided_looks_at setting.layout.block setting.code fresh j d at))
+              subst (λ (z : Next). IsSaid setting views (after z)) (sym (decided_looks_at setting.layout.block setting.code fresh j d at))
               (unless_told _ (λ roomy. looks_at_on j at (fast_version_at j d.counted) refl) (lowest_full d.counted) refl)
           by_phase (OrdersAt j) at =
-              subst (λ (z : Next). IsSaid setting (after z)) (sym (decided_orders_at setting.layout.block setting.code fresh j d at))
+              subst (λ (z : Next). IsSaid setting views (after z)) (sym (decided_orders_at setting.layout.block setting.code fresh j d at))
               (unless_told _ (λ roomy. orders_at_on j at roomy (greatest_refuser d.counted) refl) (lowest_full d.counted) refl)
           by_phase (Modifies base j) at =
-              subst (λ (z : Next). IsSaid setting (after z)) (sym (decided_modifies setting.layout.block setting.code fresh base j d at))
+              subst (λ (z : Next). IsSaid setting views (after z)) (sym (decided_modifies setting.layout.block setting.code fresh base j d at))
               (unless_told _ (λ roomy. modifies_on base j at roomy (greatest_refuser d.counted) refl) (lowest_full d.counted) refl)
           by_phase (Bases base) at =
-              subst (λ (z : Next). IsSaid setting (after z)) (sym (decided_bases setting.layout.block setting.code fresh base d at))
+              subst (λ (z : Next). IsSaid setting views (after z)) (sym (decided_bases setting.layout.block setting.code fresh base d at))
               (unless_told _ (λ roomy. bases_on base at roomy (greatest_refuser d.counted) refl) (lowest_full d.counted) refl)
           by_phase Recovers at =
-              subst (λ (z : Next). IsSaid setting (after z)) (sym (decided_recovers setting.layout.block setting.code fresh d at))
+              subst (λ (z : Next). IsSaid setting views (after z)) (sym (decided_recovers setting.layout.block setting.code fresh d at))
               (unless_told _ (λ roomy. recovers_on at roomy (greatest_refuser d.counted) refl) (lowest_full d.counted) refl)
           by_phase (Descends bound) at =
-              subst (λ (z : Next). IsSaid setting (after z)) (sym (decided_descends setting.layout.block setting.code fresh bound d at))
+              subst (λ (z : Next). IsSaid setting views (after z)) (sym (decided_descends setting.layout.block setting.code fresh bound d at))
               (unless_told _ (λ roomy. lowers_on bound at roomy (greatest_refuser d.counted) refl) (lowest_full d.counted) refl)
           by_phase Stores at =
-              subst (λ (z : Next). IsSaid setting (after z)) (sym (decided_stores setting.layout.block setting.code fresh d at))
+              subst (λ (z : Next). IsSaid setting views (after z)) (sym (decided_stores setting.layout.block setting.code fresh d at))
               (unless_told _ (λ roomy. stores_on at roomy (greatest_refuser d.counted) refl) (lowest_full d.counted) refl)
 
     -- a reply that counts keeps the invariant
-    counts : IsSaid setting (after (once_full setting.layout.block setting.code fresh d))
+    counts : IsSaid setting views (after (once_full setting.layout.block setting.code fresh d))
     counts =
         cond_both (nat_lt (length d.counted) (quorum_of group)) (Waits d) (decided setting.layout.block setting.code fresh d)
-        (λ (z : Next). IsSaid setting (after z))
+        (λ (z : Next). IsSaid setting views (after z))
         (λ fewer. said_waits d more_says)
         (λ enough. decides (ltb-false (length d.counted) (quorum_of group) enough))
 
   -- whether or not it counts
   counted_or_not : (from : BrickId) (call : Call) (reply : Reply) → WasSent w (record { from = from; to = me; message = Message.Reply call reply })
       → (z : Option ℕ) → counts_at setting.layout.block c from.0 call reply ≡ z
-      → IsSaid setting (after (counted_at setting.layout.block setting.code fresh c from reply z))
-  counted_or_not from call reply sent None isnt = (stamps, said_known setting w stamps me known books said more_known)
+      → IsSaid setting views (after (counted_at setting.layout.block setting.code fresh c from reply z))
+  counted_or_not from call reply sent None isnt = (stamps, said_known setting views w stamps me known books said more_known)
   counted_or_not from call reply sent (Some seat) at =
       let facts : CountsAt setting.layout.block c from.0 call reply seat = counts_facts setting.layout.block c from.0 call reply seat at in
       counts from reply seat
@@ -745,7 +746,7 @@ module _ (setting : Setting) (sound : IsSound setting) (w : World) (stamps : Sta
   -- a coordinator's step on a reply keeps the invariant
   pub said_after_reply : (from : BrickId) (call : Call) (reply : Reply)
       → WasSent w (record { from = from; to = me; message = Message.Reply call reply })
-      → IsSaid setting (after (on_reply setting.layout.block setting.code fresh c from call reply))
+      → IsSaid setting views (after (on_reply setting.layout.block setting.code fresh c from call reply))
   unfolding on_reply
   said_after_reply from call reply sent =
       counted_or_not from call reply sent (counts_at setting.layout.block c from.0 call reply) refl

@@ -38,7 +38,7 @@ use Rattle.protocol_laws.proofs.Growth.{Grows, Continues, stays_version, stays_t
 use Rattle.protocol_laws.proofs.Steps.{KeepsParts, quiet, quiet_grows, said_quiet, stamps_stay_by}
 use Rattle.protocol_laws.proofs.Tops.{top_rises, top_most, top_above, view_above, time_rises}
 use Rattle.protocol_laws.proofs.StampViews.{StampViews, NodeViews, RequestIsOf, asks_above}
-use Rattle.protocol.specs.Views.{view_of}
+use Rattle.protocol.specs.Views.{Views, view_of}
 
 -- A request to the part in the view that a brick has learnt, which asks for nothing below that, lowers no brick, adds nothing below what it had come
 -- to, and drops only what is below all that is left.
@@ -103,9 +103,9 @@ abbrev pub in_first : Call → Call
 in_first call =
     record { boot = call.boot; seq = call.seq; phase = call.phase; group = call.group; view = record { 0 = 1 }; stripe = call.stripe }
 
-module _ (setting : Setting) (w : World) (stamps : Stamping) (me from : BrickId) (given : Call) (request : Request) (books : Books setting w)
-    (views : StampViews setting.layout w) (group : Group) (seat : ℕ) (group_is : group_of setting.layout given.group.0 ≡ Some group) (seat_is : seat_in group.members me.0 ≡ Some seat)
-    (said : Said setting w stamps) (sent : WasSent w (record { from = from; to = me; message = Message.Request (in_first given) request })) where
+module _ (setting : Setting) (views : Views) (w : World) (stamps : Stamping) (me from : BrickId) (given : Call) (request : Request) (books : Books setting w)
+    (stamped : StampViews setting.layout w) (group : Group) (seat : ℕ) (group_is : group_of setting.layout given.group.0 ≡ Some group) (seat_is : seat_in group.members me.0 ≡ Some seat)
+    (said : Said setting views w stamps) (sent : WasSent w (record { from = from; to = me; message = Message.Request (in_first given) request })) where
   -- the call
   abbrev call : Call
   call = in_first given
@@ -141,15 +141,15 @@ module _ (setting : Setting) (w : World) (stamps : Stamping) (me from : BrickId)
       subst (λ (e : ℕ). stamp_below (top_at node call.group.0 call.stripe.0) (top_of (node.replicas call.group.0 e call.stripe.0)) ≡ false) view
       (top_above node call.group.0 call.stripe.0)
 
-  asks : RequestSays setting w stamps from.0 me.0 call request
+  asks : RequestSays setting views w stamps from.0 me.0 call request
   asks = said.packets sent.0 (record { from = from; to = me; message = Message.Request call request }) sent.1
 
   -- the request, where it is known which
-  asks_as : (r : Request) → request ≡ r → RequestSays setting w stamps from.0 me.0 call r
-  asks_as r is = subst (λ (z : Request). RequestSays setting w stamps from.0 me.0 call z) is asks
+  asks_as : (r : Request) → request ≡ r → RequestSays setting views w stamps from.0 me.0 call r
+  asks_as r is = subst (λ (z : Request). RequestSays setting views w stamps from.0 me.0 call z) is asks
 
   -- the phase in which a stamp is asked for
-  asked_phase : (r : Request) (t : Stamp) → stamp_asked r ≡ Some t → RequestSays setting w stamps from.0 me.0 call r
+  asked_phase : (r : Request) (t : Stamp) → stamp_asked r ≡ Some t → RequestSays setting views w stamps from.0 me.0 call r
       → IsStamped stamps from.0 call.boot call.seq call.phase t
   asked_phase (Request.Order z) t is says = let same : z ≡ t = cc in subst (λ (u : Stamp). IsStamped stamps from.0 call.boot call.seq call.phase u) same (Orders, says.begun)
   asked_phase (Request.OrderRead z look want) t is says =
@@ -194,8 +194,8 @@ module _ (setting : Setting) (w : World) (stamps : Stamping) (me from : BrickId)
 
     keeps : KeepsParts (w.nodes me.0) (with_replica (w.nodes me.0) call reaction)
     keeps =
-        parts_keep setting.layout setting.code group.m seat (w.nodes me.0) call request reaction rises after (views.nodes me.0)
-        (views.packets sent.0 (record { from = from; to = me; message = Message.Request call request }) sent.1)
+        parts_keep setting.layout setting.code group.m seat (w.nodes me.0) call request reaction rises after (stamped.nodes me.0)
+        (stamped.packets sent.0 (record { from = from; to = me; message = Message.Request call request }) sent.1)
         (sym in_view) free
 
     grows : Grows w next stamps stamps
@@ -211,7 +211,7 @@ module _ (setting : Setting) (w : World) (stamps : Stamping) (me from : BrickId)
         (λ h e r. inl refl)
 
     -- a version that is stored says what it should
-    made_by : (phase : Phase) (t : Stamp) → MakerSays setting w stamps from.0 me.0 call phase t → IsMadeOrFirst w call.group.0 call.stripe.0 t
+    made_by : (phase : Phase) (t : Stamp) → MakerSays setting views w stamps from.0 me.0 call phase t → IsMadeOrFirst w call.group.0 call.stripe.0 t
     made_by phase t says =
         inr (w.numbers from.0 call.boot call.seq, says.operation, says.called.is, says.called.group, says.called.stripe, says.made, says.version)
 
@@ -224,15 +224,15 @@ module _ (setting : Setting) (w : World) (stamps : Stamping) (me from : BrickId)
         subst (λ (z : Group). P z k) same (subst (λ (i : ℕ). P group i) place h)
 
     stored_version : (version : Version) → StoresBlock setting.code group.m seat before request version.stamp version.block
-        → VersionSays setting w call.group.0 call.stripe.0 me.0 version
+        → VersionSays setting views w call.group.0 call.stripe.0 me.0 version
     stored_version version (inl is) =
-        let says : WriteSays setting w stamps from.0 me.0 call version.stamp version.block = asks_as (Request.Write version.stamp version.block) is in
+        let says : WriteSays setting views w stamps from.0 me.0 call version.stamp version.block = asks_as (Request.Write version.stamp version.block) is in
         record { made = made_by Stores version.stamp says.maker; block = says.is_block }
     stored_version version (inr (old, j, delta, is, newest, block_is)) =
-        let says : ModifySays setting w stamps from.0 me.0 call version.stamp old.stamp j delta
+        let says : ModifySays setting views w stamps from.0 me.0 call version.stamp old.stamp j delta
         = asks_as (Request.Modify version.stamp old.stamp j delta) is in
         let stands = newest_stands before.log old newest in
-        let kept : VersionSays setting w call.group.0 call.stripe.0 me.0 old
+        let kept : VersionSays setting views w call.group.0 call.stripe.0 me.0 old
         = said.logs call.group.0 1 call.stripe.0 me.0 stands.0 old stands.1 in
         let change : ChangesBlock setting w call.group.0 call.stripe.0 version.stamp old.stamp j delta group seat = says.changes group seat group_is seat_is in
         let block : version.block ≡ setting.code.encode group.m (w.contents call.group.0 call.stripe.0 version.stamp) seat
@@ -243,15 +243,15 @@ module _ (setting : Setting) (w : World) (stamps : Stamping) (me from : BrickId)
         }
 
     logs : (g e s k : ℕ) (version : Version) → slice_get ((with_replica (w.nodes me.0) call reaction).replicas g e s).log k ≡ Some version
-        → ((j : ℕ) × (slice_get ((w.nodes me.0).replicas g e s).log j ≡ Some version)) ⊎ VersionSays setting next g s me.0 version
+        → ((j : ℕ) × (slice_get ((w.nodes me.0).replicas g e s).log j ≡ Some version)) ⊎ VersionSays setting views next g s me.0 version
     logs g e s k version = parts_each
         (λ h e r x. slice_get x.log k ≡ Some version
-        → ((j : ℕ) × (slice_get ((w.nodes me.0).replicas h e r).log j ≡ Some version)) ⊎ VersionSays setting next h r me.0 version)
+        → ((j : ℕ) × (slice_get ((w.nodes me.0).replicas h e r).log j ≡ Some version)) ⊎ VersionSays setting views next h r me.0 version)
         (w.nodes me.0) call reaction
         (λ is. ⊎_elim
         (λ (old : (j : ℕ) × (slice_get before.log j ≡ Some version)). inl old)
         (λ (new : StoresBlock setting.code group.m seat before request version.stamp version.block).
-        inr (stays_version setting w next stamps stamps books grows call.group.0 call.stripe.0 me.0 version (stored_version version new)))
+        inr (stays_version setting views w next stamps stamps books grows call.group.0 call.stripe.0 me.0 version (stored_version version new)))
         (after_log setting.code group.m seat before request part k version after is))
         (λ h v r is. inl (k, is)) g e s
 
@@ -305,11 +305,11 @@ module _ (setting : Setting) (w : World) (stamps : Stamping) (me from : BrickId)
     -- a version that is told as it is kept, or without its bytes, says what it should
     told_says : (version : Version) (kept : Option Version) → IsTold (Some version) kept
         → ((old : Version) → kept ≡ Some old → (k : ℕ) × (slice_get before.log k ≡ Some old))
-        → ToldSays setting w call.group.0 call.stripe.0 me.0 version
+        → ToldSays setting views w call.group.0 call.stripe.0 me.0 version
     told_says version kept told place =
         let old : Version = told.0 in
         let at = place old told.1 in
-        let says : VersionSays setting w call.group.0 call.stripe.0 me.0 old = said.logs call.group.0 1 call.stripe.0 me.0 at.0 old at.1 in
+        let says : VersionSays setting views w call.group.0 call.stripe.0 me.0 old = said.logs call.group.0 1 call.stripe.0 me.0 at.0 old at.1 in
         record {
           made = subst (λ (t : Stamp). IsMadeOrFirst w call.group.0 call.stripe.0 t) (sym told.2) says.made;
           block = ⊎_elim
@@ -322,7 +322,7 @@ module _ (setting : Setting) (w : World) (stamps : Stamping) (me from : BrickId)
         }
 
     found_says : (order : Stamp) (version : Version) → ReactionSays full before request part (Reply.Found order (Some version))
-        → FoundSays setting w me.0 from.0 call order version
+        → FoundSays setting views w me.0 from.0 call order version
     found_says order version told =
         let says : (o : Operation) × IsCalled w from.0 call o = asks_as (Request.Read told.0) told.1 in
         let old : Version = told.2.0 in
@@ -338,11 +338,11 @@ module _ (setting : Setting) (w : World) (stamps : Stamping) (me from : BrickId)
           floor = subst (λ (t : Stamp). stamp_below t (says.0.floor me.0) ≡ false) top
               (floor_below says.0 says.1 (top_of before)
               (stamp_not_below_trans (view_floor (w.nodes me.0) call.group.0) old.stamp (top_of before)
-              (over old.stamp (((views.nodes me.0).parts call.group.0 1 call.stripe.0).log stands.0 old stands.1))
+              (over old.stamp (((stamped.nodes me.0).parts call.group.0 1 call.stripe.0).log stands.0 old stands.1))
               (held_top before old.stamp rises (newest_held before.log old newest)))
               (stamp_below_irrefl (top_of before)));
           held = subst (λ (t : Stamp). w.held me.0 call.group.0 call.stripe.0 t ≡ true) (sym stamp)
-              (held_in w said.logged call.group.0 call.stripe.0 me.0 old.stamp (made_view setting w stamps books said
+              (held_in w said.logged call.group.0 call.stripe.0 me.0 old.stamp (made_view setting views w stamps books said
               call.group.0 call.stripe.0 old.stamp (said.logs call.group.0 1 call.stripe.0 me.0 stands.0 old stands.1).made)
               (newest_held before.log old newest));
           says = told_says version (newest_of before.log) told.2 (λ kept is. newest_stands before.log kept is);
@@ -357,7 +357,7 @@ module _ (setting : Setting) (w : World) (stamps : Stamping) (me from : BrickId)
     ordered_says : ReactionSays full before request part Reply.Ordered → OrderedSays next stamps me.0 from.0 call
     ordered_says told =
         let says : OrderSays w stamps from.0 call told.0 = asks_as (Request.Order told.0) told.1 in
-        let goes = stays_called setting w next stamps stamps books grows from.0 call says.operation says.called in
+        let goes = stays_called setting views w next stamps stamps books grows from.0 call says.operation says.called in
         record {
           operation = goes.0;
           called = goes.1;
@@ -413,11 +413,11 @@ module _ (setting : Setting) (w : World) (stamps : Stamping) (me from : BrickId)
 
     -- what was found when a stamp was promised
     read_says : (found : Option Version) → ReactionSays full before request part (Reply.OrderedRead found)
-        → OrderedReadSays setting next stamps me.0 from.0 call found
+        → OrderedReadSays setting views next stamps me.0 from.0 call found
     read_says found told =
         let look : Look = told.1.0 in
         let says : OrderReadSays w stamps from.0 call told.0 look told.1.1 = asks_as (Request.OrderRead told.0 look told.1.1) told.1.2 in
-        let goes = stays_called setting w next stamps stamps books grows from.0 call says.operation says.called in
+        let goes = stays_called setting views w next stamps stamps books grows from.0 call says.operation says.called in
         let kept : looked_up look before.log ≡ newest_of (among (is_looked look) before.log) = looked_is look before.log in
         let view : told.0.view.0 ≡ 1 = (said.stamps_say.are from.0 call.boot call.seq call.phase told.0 (says.phase, says.begun)).view in
         let promise : part_of next call.group.0 call.stripe.0 me.0 ≡ with_order before told.0 = now ∙ told.1.4 in
@@ -447,11 +447,11 @@ module _ (setting : Setting) (w : World) (stamps : Stamping) (me from : BrickId)
               let at = newest_stands_among (is_looked look) before.log tells.0 (sym kept ∙ tells.1) in
               grows.parts.held call.group.0 call.stripe.0 me.0 version.stamp
               (subst (λ (t : Stamp). w.held me.0 call.group.0 call.stripe.0 t ≡ true) (sym tells.2)
-              (held_in w said.logged call.group.0 call.stripe.0 me.0 tells.0.stamp (made_view setting w stamps books said
+              (held_in w said.logged call.group.0 call.stripe.0 me.0 tells.0.stamp (made_view setting views w stamps books said
               call.group.0 call.stripe.0 tells.0.stamp (said.logs call.group.0 1 call.stripe.0 me.0 at.0 tells.0 at.1).made)
               (place_held before.log at.0 tells.0 at.1)));
           says = λ version is.
-              stays_told setting w next stamps stamps books grows call.group.0 call.stripe.0 me.0 version
+              stays_told setting views w next stamps stamps books grows call.group.0 call.stripe.0 me.0 version
               (told_says version (looked_up look before.log) (found_told found (looked_up look before.log) version told.1.5 is)
               (λ old old_is. newest_stands_among (is_looked look) before.log old (sym kept ∙ old_is)));
         }
@@ -468,9 +468,9 @@ module _ (setting : Setting) (w : World) (stamps : Stamping) (me from : BrickId)
         (λ fewer told. cc)
         is
 
-    reply_says : (r : Reply) → ReactionSays full before request part r → ReplySays setting next stamps me from call r
+    reply_says : (r : Reply) → ReactionSays full before request part r → ReplySays setting views next stamps me from call r
     reply_says (Reply.Found order (Some version)) told =
-        stays_found setting w next stamps stamps books grows me.0 from.0 call order version (found_says order version told)
+        stays_found setting views w next stamps stamps books grows me.0 from.0 call order version (found_says order version told)
     reply_says Reply.Ordered told = ordered_says told
     reply_says (Reply.OrderedRead found) told = read_says found told
     reply_says Reply.Stored told = (
@@ -488,21 +488,21 @@ module _ (setting : Setting) (w : World) (stamps : Stamping) (me from : BrickId)
 
     -- its reply says what it should
     pub reply_packets_say : (o : Option Reply) → SaysIf full before request part o → (k : ℕ) (packet : Packet)
-        → slice_get (reply_packets me from call o) k ≡ Some packet → PacketSays setting next stamps packet
+        → slice_get (reply_packets me from call o) k ≡ Some packet → PacketSays setting views next stamps packet
     reply_packets_say None says k packet is = cc
     reply_packets_say (Some r) says k packet is =
-        subst (λ (p : Packet). PacketSays setting next stamps p)
+        subst (λ (p : Packet). PacketSays setting views next stamps p)
         (get_one (record { from = me; to = from; message = Message.Reply call r }) packet k is)
         (reply_says r says)
 
     -- a member's step on a request keeps the invariant, where what it sends says what it should
-    pub said_after_request : ((k : ℕ) (packet : Packet) → slice_get more k ≡ Some packet → PacketSays setting next stamps packet)
-        → Said setting next stamps
+    pub said_after_request : ((k : ℕ) (packet : Packet) → slice_get more k ≡ Some packet → PacketSays setting views next stamps packet)
+        → Said setting views next stamps
     said_after_request packets_say =
-        said_quiet setting w stamps stamps me (with_replica (w.nodes me.0) call reaction) more books said (stamps_same stamps) (record {
+        said_quiet setting views w stamps stamps me (with_replica (w.nodes me.0) call reaction) more books said (stamps_same stamps) (record {
           keeps = keeps;
           boot = refl;
-          stamps_say = stamps_stay_by setting w next stamps me.0 (with_replica (w.nodes me.0) call reaction) said refl
+          stamps_say = stamps_stay_by setting views w next stamps me.0 (with_replica (w.nodes me.0) call reaction) said refl
               (ages_within (w.nodes me.0) (with_replica (w.nodes me.0) call reaction) refl (omega arith) (omega arith));
           stamps_other = λ i b k other p. refl;
           tops = tops;

@@ -24,6 +24,7 @@ use Rattle.reg_model.specs.Marks.{life_of}
 use Rattle.reg_model.specs.Walk.{last_of}
 use Rattle.reg_model.specs.Registers.{after_op, read_of}
 use Rattle.fab_base.specs.Layouts.{Group, group_of, seat_in}
+use Rattle.protocol.specs.Views.{Views}
 use Rattle.protocol.specs.Settings.{Setting}
 use Rattle.protocol.specs.Replicas.{top_of, stamp_max, modified_block}
 use Rattle.protocol.specs.declared.phases.Phase.{Phase}
@@ -77,13 +78,13 @@ is_looked (Below bound) d = stamp_below d bound
 is_looked (At base) d = stamp_same d base
 
 -- a quorum of the stripe's seats holds the version
-abbrev pub Stands : Setting → World → ℕ → ℕ → Stamp → Type 0
-Stands setting w g s v =
+abbrev pub Stands : Setting → Views → World → ℕ → ℕ → Stamp → Type 0
+Stands setting views w g s v =
     (group : Group) → group_of setting.layout g ≡ Some group → AtQuorum group (λ seat. w.held (brick_at group seat) g s v)
 
 -- no quorum holds a stamp of these, or ever will
-abbrev pub AreBlocked : Setting → World → ℕ → ℕ → (Stamp → Type 0) → Type 0
-AreBlocked setting w g s Q = (group : Group) → group_of setting.layout g ≡ Some group → (d : Stamp) → Q d → IsBlocked w g s group d
+abbrev pub AreBlocked : Setting → Views → World → ℕ → ℕ → (Stamp → Type 0) → Type 0
+AreBlocked setting views w g s Q = (group : Group) → group_of setting.layout g ≡ Some group → (d : Stamp) → Q d → IsBlocked w g s group d
 
 -- the version is the first one, or an operation of this stripe made it
 abbrev pub IsMadeOrFirst : World → ℕ → ℕ → Stamp → Type 0
@@ -129,8 +130,8 @@ pub record IsCalled (w : World) (i : ℕ) (call : Call) (o : Operation) : Type 0
   pub view : call.view.0 ≡ 1
 
 -- a block is the block of version t of a stripe at the seat of brick i
-abbrev pub IsBlockOf : Setting → World → ℕ → ℕ → ℕ → Stamp → List ℕ → Type 0
-IsBlockOf setting w g s i t block =
+abbrev pub IsBlockOf : Setting → Views → World → ℕ → ℕ → ℕ → Stamp → List ℕ → Type 0
+IsBlockOf setting views w g s i t block =
     (group : Group) (seat : ℕ) → group_of setting.layout g ≡ Some group → seat_in group.members i ≡ Some seat
     → block ≡ setting.code.encode group.m (w.contents g s t) seat
 
@@ -152,17 +153,17 @@ pub record DescendsFrom (phase : Phase) (op : Op) (t : Stamp) : Type 0 where
   pub lower : (bound : Stamp) → phase ≡ Descends bound → writes op ≡ false → stamp_below bound t ≡ true
 
 -- a version that brick i keeps
-pub record VersionSays (setting : Setting) (w : World) (g s i : ℕ) (version : Version) : Type 0 where
+pub record VersionSays (setting : Setting) (views : Views) (w : World) (g s i : ℕ) (version : Version) : Type 0 where
   pub made : IsMadeOrFirst w g s version.stamp
-  pub block : IsBlockOf setting w g s i version.stamp version.block
+  pub block : IsBlockOf setting views w g s i version.stamp version.block
 
 -- a version that brick i told: its block, unless that was not wanted
-pub record ToldSays (setting : Setting) (w : World) (g s i : ℕ) (version : Version) : Type 0 where
+pub record ToldSays (setting : Setting) (views : Views) (w : World) (g s i : ℕ) (version : Version) : Type 0 where
   pub made : IsMadeOrFirst w g s version.stamp
-  pub block : (version.block ≡ []) ⊎ IsBlockOf setting w g s i version.stamp version.block
+  pub block : (version.block ≡ []) ⊎ IsBlockOf setting views w g s i version.stamp version.block
 
 -- a request, of this phase of its call, to store version t, which its operation made
-pub record MakerSays (setting : Setting) (w : World) (stamps : Stamping) (from to : ℕ) (call : Call) (phase : Phase) (t : Stamp) : Type 0 where
+pub record MakerSays (setting : Setting) (views : Views) (w : World) (stamps : Stamping) (from to : ℕ) (call : Call) (phase : Phase) (t : Stamp) : Type 0 where
   pub operation : Operation
   pub called : IsCalled w from call operation
   pub begun : IsBegun stamps from call.boot call.seq call.phase phase t
@@ -172,9 +173,9 @@ pub record MakerSays (setting : Setting) (w : World) (stamps : Stamping) (from t
   pub guarded : (group : Group) → group_of setting.layout call.group.0 ≡ Some group → IsGuarded w call.group.0 call.stripe.0 group t
 
 -- a write of a version
-pub record WriteSays (setting : Setting) (w : World) (stamps : Stamping) (from to : ℕ) (call : Call) (t : Stamp) (block : List ℕ) : Type 0 where
-  pub maker : MakerSays setting w stamps from to call Stores t
-  pub is_block : IsBlockOf setting w call.group.0 call.stripe.0 to t block
+pub record WriteSays (setting : Setting) (views : Views) (w : World) (stamps : Stamping) (from to : ℕ) (call : Call) (t : Stamp) (block : List ℕ) : Type 0 where
+  pub maker : MakerSays setting views w stamps from to call Stores t
+  pub is_block : IsBlockOf setting views w call.group.0 call.stripe.0 to t block
 
 -- what the member at a seat is sent of a change makes of its block of the base its block of version t
 pub record ChangesBlock (setting : Setting) (w : World) (g s : ℕ) (t base : Stamp) (j : ℕ) (sent : List ℕ) (group : Group) (seat : ℕ) : Type 0 where
@@ -185,8 +186,8 @@ pub record ChangesBlock (setting : Setting) (w : World) (g s : ℕ) (t base : St
       ≡ setting.code.encode group.m (w.contents g s t) seat
 
 -- a request to modify a version's base
-pub record ModifySays (setting : Setting) (w : World) (stamps : Stamping) (from to : ℕ) (call : Call) (t base : Stamp) (j : ℕ) (sent : List ℕ) : Type 0 where
-  pub maker : MakerSays setting w stamps from to call (Modifies base j) t
+pub record ModifySays (setting : Setting) (views : Views) (w : World) (stamps : Stamping) (from to : ℕ) (call : Call) (t base : Stamp) (j : ℕ) (sent : List ℕ) : Type 0 where
+  pub maker : MakerSays setting views w stamps from to call (Modifies base j) t
   pub base_made : IsMadeOrFirst w call.group.0 call.stripe.0 base
   pub changes : (group : Group) (seat : ℕ) → group_of setting.layout call.group.0 ≡ Some group → seat_in group.members to ≡ Some seat
       → ChangesBlock setting w call.group.0 call.stripe.0 t base j sent group seat
@@ -236,14 +237,14 @@ pub record IsPassedOver (w : World) (g s : ℕ) (look : Look) (t d : Stamp) : Ty
   pub collected : WasCollected w g s at
 
 -- what a request of brick i to brick j says
-abbrev pub RequestSays : Setting → World → Stamping → ℕ → ℕ → Call → Request → Type 0
-RequestSays setting w stamps i j call (Request.Read want) = (o : Operation) × IsCalled w i call o
-RequestSays setting w stamps i j call (Request.Order t) = OrderSays w stamps i call t
-RequestSays setting w stamps i j call (Request.OrderRead t look want) = OrderReadSays w stamps i call t look want
-RequestSays setting w stamps i j call (Request.Write t block) = WriteSays setting w stamps i j call t block
-RequestSays setting w stamps i j call (Request.Modify t base d delta) = ModifySays setting w stamps i j call t base d delta
-RequestSays setting w stamps i j call (Request.Collect c) = CollectSays w i call c
-RequestSays setting w stamps i j call request = Unit {0}
+abbrev pub RequestSays : Setting → Views → World → Stamping → ℕ → ℕ → Call → Request → Type 0
+RequestSays setting views w stamps i j call (Request.Read want) = (o : Operation) × IsCalled w i call o
+RequestSays setting views w stamps i j call (Request.Order t) = OrderSays w stamps i call t
+RequestSays setting views w stamps i j call (Request.OrderRead t look want) = OrderReadSays w stamps i call t look want
+RequestSays setting views w stamps i j call (Request.Write t block) = WriteSays setting views w stamps i j call t block
+RequestSays setting views w stamps i j call (Request.Modify t base d delta) = ModifySays setting views w stamps i j call t base d delta
+RequestSays setting views w stamps i j call (Request.Collect c) = CollectSays w i call c
+RequestSays setting views w stamps i j call request = Unit {0}
 
 -- an order that brick j answered
 pub record OrderedSays (w : World) (stamps : Stamping) (j i : ℕ) (call : Call) : Type 0 where
@@ -256,7 +257,7 @@ pub record OrderedSays (w : World) (stamps : Stamping) (j i : ℕ) (call : Call)
 
 -- what brick j found, when it promised the stamp of a phase that looks for a version: each version looked for that it has held is at most that, or is
 -- passed over
-pub record OrderedReadSays (setting : Setting) (w : World) (stamps : Stamping) (j i : ℕ) (call : Call) (found : Option Version) : Type 0 where
+pub record OrderedReadSays (setting : Setting) (views : Views) (w : World) (stamps : Stamping) (j i : ℕ) (call : Call) (found : Option Version) : Type 0 where
   pub operation : Operation
   pub called : IsCalled w i call operation
   pub stamp : Stamp
@@ -271,74 +272,74 @@ pub record OrderedReadSays (setting : Setting) (w : World) (stamps : Stamping) (
   pub newest : (d : Stamp) → w.held j call.group.0 call.stripe.0 d ≡ true → is_looked look d ≡ true
       → IsWithin found d ⊎ IsPassedOver w call.group.0 call.stripe.0 look stamp d
   pub held : (version : Version) → found ≡ Some version → w.held j call.group.0 call.stripe.0 version.stamp ≡ true
-  pub says : (version : Version) → found ≡ Some version → ToldSays setting w call.group.0 call.stripe.0 j version
+  pub says : (version : Version) → found ≡ Some version → ToldSays setting views w call.group.0 call.stripe.0 j version
 
 -- what brick j found
-pub record FoundSays (setting : Setting) (w : World) (j i : ℕ) (call : Call) (order : Stamp) (version : Version) : Type 0 where
+pub record FoundSays (setting : Setting) (views : Views) (w : World) (j i : ℕ) (call : Call) (order : Stamp) (version : Version) : Type 0 where
   pub operation : Operation
   pub called : IsCalled w i call operation
   pub top : stamp_below (top_in w call.group.0 call.stripe.0 j) (stamp_max order version.stamp) ≡ false
   pub floor : stamp_below (stamp_max order version.stamp) (operation.floor j) ≡ false
   pub held : w.held j call.group.0 call.stripe.0 version.stamp ≡ true
-  pub says : ToldSays setting w call.group.0 call.stripe.0 j version
+  pub says : ToldSays setting views w call.group.0 call.stripe.0 j version
 
 -- what a reply of brick `from` to brick `to` says
-abbrev pub ReplySays : Setting → World → Stamping → BrickId → BrickId → Call → Reply → Type 0
-ReplySays setting w stamps from to call (Reply.Found order (Some version)) = FoundSays setting w from.0 to.0 call order version
-ReplySays setting w stamps from to call Reply.Ordered = OrderedSays w stamps from.0 to.0 call
-ReplySays setting w stamps from to call (Reply.OrderedRead found) = OrderedReadSays setting w stamps from.0 to.0 call found
-ReplySays setting w stamps from to call Reply.Stored =
+abbrev pub ReplySays : Setting → Views → World → Stamping → BrickId → BrickId → Call → Reply → Type 0
+ReplySays setting views w stamps from to call (Reply.Found order (Some version)) = FoundSays setting views w from.0 to.0 call order version
+ReplySays setting views w stamps from to call Reply.Ordered = OrderedSays w stamps from.0 to.0 call
+ReplySays setting views w stamps from to call (Reply.OrderedRead found) = OrderedReadSays setting views w stamps from.0 to.0 call found
+ReplySays setting views w stamps from to call Reply.Stored =
     (t : Stamp) × (request : Request) × RequestSent w call to from request × (stamp_stored request ≡ Some t)
     × (w.held from.0 call.group.0 call.stripe.0 t ≡ true)
-ReplySays setting w stamps from to call (Reply.Later x) = (t : Stamp) × AskedAt w call to from t × (stamp_below t x ≡ true)
-ReplySays setting w stamps from to call (Reply.Full live) = live ≡ setting.layout.records
-ReplySays setting w stamps from to call reply = Unit {0}
+ReplySays setting views w stamps from to call (Reply.Later x) = (t : Stamp) × AskedAt w call to from t × (stamp_below t x ≡ true)
+ReplySays setting views w stamps from to call (Reply.Full live) = live ≡ setting.layout.records
+ReplySays setting views w stamps from to call reply = Unit {0}
 
-abbrev pub MessageSays : Setting → World → Stamping → BrickId → BrickId → Message → Type 0
-MessageSays setting w stamps from to (Message.Request call request) = RequestSays setting w stamps from.0 to.0 call request
-MessageSays setting w stamps from to (Message.Reply call reply) = ReplySays setting w stamps from to call reply
-MessageSays setting w stamps from to message = Unit {0}
+abbrev pub MessageSays : Setting → Views → World → Stamping → BrickId → BrickId → Message → Type 0
+MessageSays setting views w stamps from to (Message.Request call request) = RequestSays setting views w stamps from.0 to.0 call request
+MessageSays setting views w stamps from to (Message.Reply call reply) = ReplySays setting views w stamps from to call reply
+MessageSays setting views w stamps from to message = Unit {0}
 
-abbrev pub PacketSays : Setting → World → Stamping → Packet → Type 0
-PacketSays setting w stamps packet = MessageSays setting w stamps packet.from packet.to packet.message
+abbrev pub PacketSays : Setting → Views → World → Stamping → Packet → Type 0
+PacketSays setting views w stamps packet = MessageSays setting views w stamps packet.from packet.to packet.message
 
 -- an operation's version
-pub record HasVersion (setting : Setting) (w : World) (o : Operation) (v : Stamp) : Type 0 where
+pub record HasVersion (setting : Setting) (views : Views) (w : World) (o : Operation) (v : Stamp) : Type 0 where
   pub made : IsMadeOrFirst w o.ask.group.0 o.ask.stripe.0 v
   pub reader : o.made ≡ false → writes o.ask.op ≡ false
   pub guarded : (group : Group) → group_of setting.layout o.ask.group.0 ≡ Some group → IsGuarded w o.ask.group.0 o.ask.stripe.0 group v
   pub floors : (group : Group) → group_of setting.layout o.ask.group.0 ≡ Some group → FloorsAtMost o group v
 
 -- the operation made version v on a base, which it read back or modified
-pub record ReadsBack (setting : Setting) (w : World) (o : Operation) (v : Stamp) : Type 0 where
+pub record ReadsBack (setting : Setting) (views : Views) (w : World) (o : Operation) (v : Stamp) : Type 0 where
   pub base : Stamp
   pub base_is : o.base ≡ Some base
   pub op : (bytes : List ℕ) → o.ask.op ≡ WriteStripe bytes → ⊥
   pub below : stamp_below base v ≡ true
   pub made : IsMadeOrFirst w o.ask.group.0 o.ask.stripe.0 base
   pub content : w.contents o.ask.group.0 o.ask.stripe.0 v ≡ after_op setting.layout.block o.ask.op (w.contents o.ask.group.0 o.ask.stripe.0 base)
-  pub blocked : AreBlocked setting w o.ask.group.0 o.ask.stripe.0 (λ d. (stamp_below base d ≡ true) × (stamp_below d v ≡ true))
+  pub blocked : AreBlocked setting views w o.ask.group.0 o.ask.stripe.0 (λ d. (stamp_below base d ≡ true) × (stamp_below d v ≡ true))
 
 -- the operation made version v by writing it whole
 abbrev pub WritesWhole : World → Operation → Stamp → Type 0
 WritesWhole w o v = (o.base ≡ None) × (o.ask.op ≡ WriteStripe (w.contents o.ask.group.0 o.ask.stripe.0 v))
 
 -- operation n
-pub record OperationSays (setting : Setting) (w : World) (stamps : Stamping) (n : ℕ) (o : Operation) : Type 0 where
+pub record OperationSays (setting : Setting) (views : Views) (w : World) (stamps : Stamping) (n : ℕ) (o : Operation) : Type 0 where
   pub begin : o.begin ≤ length w.marks
   pub floors : (i : ℕ) → stamp_below (top_in w o.ask.group.0 o.ask.stripe.0 i) (o.floor i) ≡ false
   pub floors_known : (i : ℕ) → IsKnown stamps (o.floor i) ⊎ ((o.floor i).time ≡ 0)
   pub fresh : (i p : ℕ) → IsStamped stamps o.brick.0 o.boot o.seq p (o.floor i) → ⊥
   pub made : o.made ≡ true → (v : Stamp) × (p : ℕ) × (o.version ≡ Some v) × IsStamped stamps o.brick.0 o.boot o.seq p v
-  pub maker : (v : Stamp) → o.made ≡ true → o.version ≡ Some v → WritesWhole w o v ⊎ ReadsBack setting w o v
+  pub maker : (v : Stamp) → o.made ≡ true → o.version ≡ Some v → WritesWhole w o v ⊎ ReadsBack setting views w o v
   pub content : (v : Stamp) → o.made ≡ true → o.version ≡ Some v → (group : Group) → group_of setting.layout o.ask.group.0 ≡ Some group
       → IsContent group.m setting.layout.block (w.contents o.ask.group.0 o.ask.stripe.0 v)
-  pub stands : (v : Stamp) → o.version ≡ Some v → (o.made ≡ false) ⊎ (o.answered ≡ true) → Stands setting w o.ask.group.0 o.ask.stripe.0 v
-  pub version : (v : Stamp) → o.version ≡ Some v → HasVersion setting w o v
+  pub stands : (v : Stamp) → o.version ≡ Some v → (o.made ≡ false) ⊎ (o.answered ≡ true) → Stands setting views w o.ask.group.0 o.ask.stripe.0 v
+  pub version : (v : Stamp) → o.version ≡ Some v → HasVersion setting views w o v
   pub answered : o.answered ≡ true → writes o.ask.op ≡ true → o.made ≡ true
 
 -- a reply that counts at a coordinator of brick i
-pub record CountedSays (setting : Setting) (w : World) (i : ℕ) (c : Coordinator) (x : Counted) : Type 0 where
+pub record CountedSays (setting : Setting) (views : Views) (w : World) (i : ℕ) (c : Coordinator) (x : Counted) : Type 0 where
   pub sent : WasSent w (record { from = x.brick; to = record { 0 = i }; message = Message.Reply c.call x.reply })
   pub answers : answers_phase setting.layout.block c.stamp x.seat c.phase x.reply ≡ true
   pub seat : (group : Group) → group_of setting.layout c.ask.group.0 ≡ Some group → seat_in group.members x.brick.0 ≡ Some x.seat
@@ -354,11 +355,11 @@ AreOnce [] = Unit {0}
 AreOnce (x ∷ counted) = (has_seat x.seat counted ≡ false) × AreOnce counted
 
 -- Where an operation has made its version on a base: a quorum has held the base, and the version's content is what it makes of the base's.
-pub record MadeOn (setting : Setting) (w : World) (c : Coordinator) (base : Stamp) : Type 0 where
+pub record MadeOn (setting : Setting) (views : Views) (w : World) (c : Coordinator) (base : Stamp) : Type 0 where
   pub base_is : c.base ≡ Some base
   pub below : stamp_below base c.stamp ≡ true
   pub base_made : IsMadeOrFirst w c.ask.group.0 c.ask.stripe.0 base
-  pub stands : Stands setting w c.ask.group.0 c.ask.stripe.0 base
+  pub stands : Stands setting views w c.ask.group.0 c.ask.stripe.0 base
   pub made : IsMadeOrFirst w c.ask.group.0 c.ask.stripe.0 c.stamp
   pub content : w.contents c.ask.group.0 c.ask.stripe.0 c.stamp
       ≡ after_op setting.layout.block c.ask.op (w.contents c.ask.group.0 c.ask.stripe.0 base)
@@ -372,7 +373,7 @@ base_in phase = None
 -- the open operation of brick i's call k. Its present phase is the last that was begun, and each member was sent its request; where it looks
 -- below a bound, which is above the first stamp, no quorum will ever hold a version from there up to its stamp; and where it stores, it stores
 -- the content of its version; and a stripe write orders with what it was given.
-pub record CallSays (setting : Setting) (w : World) (stamps : Stamping) (i k : ℕ) (c : Coordinator) : Type 0 where
+pub record CallSays (setting : Setting) (views : Views) (w : World) (stamps : Stamping) (i k : ℕ) (c : Coordinator) : Type 0 where
   pub begun : IsBegun stamps i (w.nodes i).boot k c.call.phase c.phase c.stamp
   pub last : (p : ℕ) → c.call.phase < p → stamps i (w.nodes i).boot k p ≡ None
   pub asked : (seat : ℕ) (member : BrickId) → slice_get c.group.members seat ≡ Some member
@@ -383,11 +384,11 @@ pub record CallSays (setting : Setting) (w : World) (stamps : Stamping) (i k : �
   pub above : (bound : Stamp) → c.phase ≡ Descends bound → stamp_below first_stamp bound ≡ true
   pub from : DescendsFrom c.phase c.ask.op c.stamp
   pub covered : (bound : Stamp) → c.phase ≡ Descends bound
-      → AreBlocked setting w c.ask.group.0 c.ask.stripe.0 (λ d. (stamp_below d bound ≡ false) × (stamp_below d c.stamp ≡ true))
+      → AreBlocked setting views w c.ask.group.0 c.ask.stripe.0 (λ d. (stamp_below d bound ≡ false) × (stamp_below d c.stamp ≡ true))
   pub stores : c.phase ≡ Stores
       → IsMadeOrFirst w c.ask.group.0 c.ask.stripe.0 c.stamp × (c.content ≡ w.contents c.ask.group.0 c.ask.stripe.0 c.stamp)
-  pub based : (base : Stamp) → base_in c.phase ≡ Some base → MadeOn setting w c base
-  pub counted : EachCounted (CountedSays setting w i c) c.counted
+  pub based : (base : Stamp) → base_in c.phase ≡ Some base → MadeOn setting views w c base
+  pub counted : EachCounted (CountedSays setting views w i c) c.counted
   pub once : AreOnce c.counted
 
 -- operation n reads, and the data that it was answered are what it reads of its version
@@ -405,29 +406,29 @@ EndShows setting w n Done = (o : Operation) × IsOperation w n o × (writes o.as
 EndShows setting w n (Aborted cause) = (o : Operation) × IsOperation w n o
 
 -- where one operation has a version, another of its stripe found that version below it at a quorum, or began no later than the first may end
-abbrev pub IsInOrder : Setting → World → Type 0
-IsInOrder setting w =
+abbrev pub IsInOrder : Setting → Views → World → Type 0
+IsInOrder setting views w =
     (a b : ℕ) (earlier later : Operation) (u : Stamp) → IsOperation w a earlier → IsOperation w b later
     → earlier.ask.group.0 ≡ later.ask.group.0 → earlier.ask.stripe.0 ≡ later.ask.stripe.0 → earlier.version ≡ Some u
     → ((group : Group) → group_of setting.layout later.ask.group.0 ≡ Some group → FloorsAtLeast later group u)
     ⊎ (later.begin ≤ last_of (life_of w.marks a))
 
 -- The invariant.
-pub record Said (setting : Setting) (w : World) (stamps : Stamping) : Type 0 where
+pub record Said (setting : Setting) (views : Views) (w : World) (stamps : Stamping) : Type 0 where
   pub stamps_say : StampsSay w stamps
   pub tops : (g e s i : ℕ) → IsKnown stamps (top_of (part_in w g e s i))
   pub first_held : (g s i : ℕ) → w.held i g s first_stamp ≡ true
-  pub logs : (g e s i k : ℕ) (version : Version) → slice_get (part_in w g e s i).log k ≡ Some version → VersionSays setting w g s i version
+  pub logs : (g e s i k : ℕ) (version : Version) → slice_get (part_in w g e s i).log k ≡ Some version → VersionSays setting views w g s i version
   pub lowest : (g e s i : ℕ) (x : Version) (log : List Version) → (part_in w g e s i).log ≡ x ∷ log → (x.stamp ≡ first_stamp) ⊎ WasCollected w g s x.stamp
   pub held_made : (g s i : ℕ) (t : Stamp) → w.held i g s t ≡ true → IsMadeOrFirst w g s t
-  pub packets : (k : ℕ) (packet : Packet) → slice_get w.packets k ≡ Some packet → PacketSays setting w stamps packet
-  pub operations : (n : ℕ) (o : Operation) → IsOperation w n o → OperationSays setting w stamps n o
-  pub calls : (i k : ℕ) (c : Coordinator) → IsCall w i k c → CallSays setting w stamps i k c
+  pub packets : (k : ℕ) (packet : Packet) → slice_get w.packets k ≡ Some packet → PacketSays setting views w stamps packet
+  pub operations : (n : ℕ) (o : Operation) → IsOperation w n o → OperationSays setting views w stamps n o
+  pub calls : (i k : ℕ) (c : Coordinator) → IsCall w i k c → CallSays setting views w stamps i k c
   pub ends : (k p n : ℕ) (answer : Answer) → slice_get w.marks k ≡ Some (End p n answer) → EndShows setting w n answer
-  pub order : IsInOrder setting w
+  pub order : IsInOrder setting views w
   pub logged : LogsFit w
   pub first : (g s : ℕ) → w.contents g s first_stamp ≡ zero_content setting.layout.block (group_of setting.layout g)
 
 -- what is said of a world, by some stamps of its phases
-abbrev pub IsSaid : Setting → World → Type 0
-IsSaid setting w = (stamps : Stamping) × Said setting w stamps
+abbrev pub IsSaid : Setting → Views → World → Type 0
+IsSaid setting views w = (stamps : Stamping) × Said setting views w stamps

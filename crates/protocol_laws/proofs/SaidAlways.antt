@@ -42,16 +42,16 @@ use Rattle.protocol_laws.proofs.Replies.{said_known, said_after_reply}
 use Rattle.protocol_laws.proofs.Begins.{said_began}
 use Rattle.protocol.proofs.Events.{EventCases, world_handled, world_counting, always_where}
 use Rattle.protocol_laws.proofs.StampViews.{StampViews, always_views}
-use Rattle.protocol.specs.Views.{view_of}
+use Rattle.protocol.specs.Views.{Views, view_of}
 
 -- the world after a brick's step
 abbrev stepped : Setting → World → BrickId → NodeStep → World
 stepped setting w me step = world_stepped setting w me step
 
 -- a step that does nothing
-nothing_said : (setting : Setting) (w : World) (stamps : Stamping) (me : BrickId) → Books setting w → Said setting w stamps
-    → Said setting (stepped setting w me (no_step (w.nodes me.0))) stamps
-nothing_said setting w stamps me books said = said_known setting w stamps me (w.nodes me.0).known books said (omega arith)
+nothing_said : (setting : Setting) (views : Views) (w : World) (stamps : Stamping) (me : BrickId) → Books setting w → Said setting views w stamps
+    → Said setting views (stepped setting w me (no_step (w.nodes me.0))) stamps
+nothing_said setting views w stamps me books said = said_known setting views w stamps me (w.nodes me.0).known books said (omega arith)
 
 -- a call in a view
 abbrev in_view : Call → ℕ → Call
@@ -59,8 +59,8 @@ in_view call v =
     record { boot = call.boot; seq = call.seq; phase = call.phase; group = call.group; view = record { 0 = v }; stripe = call.stripe }
 
 -- a brick handles a request at its seat
-module _ (setting : Setting) (w : World) (stamps : Stamping) (me from : BrickId) (call : Call) (request : Request) (books : Books setting w)
-    (views : StampViews setting.layout w) (said : Said setting w stamps)
+module _ (setting : Setting) (views : Views) (w : World) (stamps : Stamping) (me from : BrickId) (call : Call) (request : Request) (books : Books setting w)
+    (stamped : StampViews setting.layout w) (said : Said setting views w stamps)
     (sent : WasSent w (record { from = from; to = me; message = Message.Request call request })) (group : Group) (seat : ℕ) (here : group_at setting.layout (w.nodes me.0) call.group.0 ≡ Some group)
     (at : seat_served setting.layout me (w.nodes me.0) call request group ≡ Some seat)
     (view : call.view.0 ≡ view_at (w.nodes me.0) call.group.0) where
@@ -86,42 +86,42 @@ module _ (setting : Setting) (w : World) (stamps : Stamping) (me from : BrickId)
   first_is : (P : ℕ → Type 0) → P 1 → P call.view.0
   first_is P = subst P (sym (view ∙ view_first setting.layout (w.nodes me.0) call.group.0 (books.first me.0)))
 
-  handled_said : Said setting (stepped setting w me (reacted me from (w.nodes me.0) call (reaction call))) stamps
+  handled_said : Said setting views (stepped setting w me (reacted me from (w.nodes me.0) call (reaction call))) stamps
   handled_said =
-      first_is (λ v. sent_in v → Said setting (stepped setting w me (reacted me from (w.nodes me.0) (in_view call v) (reaction (in_view call v)))) stamps)
+      first_is (λ v. sent_in v → Said setting views (stepped setting w me (reacted me from (w.nodes me.0) (in_view call v) (reaction (in_view call v)))) stamps)
       (λ sent.
       let after = handle_after setting.code group.m seat full (replica_at (w.nodes me.0) (in_first call)) request in
-      said_after_request setting w stamps me from call request books views group seat group_is seat_is said sent (reaction (in_first call)) replies after
-      (reply_packets_say setting w stamps me from call request books views group seat group_is seat_is said sent (reaction (in_first call)) replies after
+      said_after_request setting views w stamps me from call request books stamped group seat group_is seat_is said sent (reaction (in_first call)) replies after
+      (reply_packets_say setting views w stamps me from call request books stamped group seat group_is seat_is said sent (reaction (in_first call)) replies after
       (reaction (in_first call)).reply
       (handle_says setting.code group.m full seat (replica_at (w.nodes me.0) (in_first call)) request)))
       sent
 
-  kept_said : Said setting (quiet w me (with_replica (w.nodes me.0) call (reaction call)) []) stamps
+  kept_said : Said setting views (quiet w me (with_replica (w.nodes me.0) call (reaction call)) []) stamps
   kept_said =
-      first_is (λ v. sent_in v → Said setting (quiet w me (with_replica (w.nodes me.0) (in_view call v) (reaction (in_view call v))) []) stamps)
+      first_is (λ v. sent_in v → Said setting views (quiet w me (with_replica (w.nodes me.0) (in_view call v) (reaction (in_view call v))) []) stamps)
       (λ sent.
-      said_after_request setting w stamps me from call request books views group seat group_is seat_is said sent (reaction (in_first call)) []
+      said_after_request setting views w stamps me from call request books stamped group seat group_is seat_is said sent (reaction (in_first call)) []
       (handle_after setting.code group.m seat full (replica_at (w.nodes me.0) (in_first call)) request) (λ k packet at. cc))
       sent
 
 -- a request is delivered
-request_said : (setting : Setting) (w : World) (stamps : Stamping) (me from : BrickId) (call : Call) (request : Request) → Books setting w → StampViews setting.layout w
-    → Said setting w stamps → WasSent w (record { from = from; to = me; message = Message.Request call request })
-    → Said setting (stepped setting w me (requested setting me from (w.nodes me.0) call request)) stamps
-request_said setting w stamps me from call request books views said sent =
-    request_each (λ step. Said setting (stepped setting w me step) stamps) setting me from (w.nodes me.0) call request
-    (nothing_said setting w stamps me books said)
-    (handled_said setting w stamps me from call request books views said sent)
+request_said : (setting : Setting) (views : Views) (w : World) (stamps : Stamping) (me from : BrickId) (call : Call) (request : Request) → Books setting w → StampViews setting.layout w
+    → Said setting views w stamps → WasSent w (record { from = from; to = me; message = Message.Request call request })
+    → Said setting views (stepped setting w me (requested setting me from (w.nodes me.0) call request)) stamps
+request_said setting views w stamps me from call request books stamped said sent =
+    request_each (λ step. Said setting views (stepped setting w me step) stamps) setting me from (w.nodes me.0) call request
+    (nothing_said setting views w stamps me books said)
+    (handled_said setting views w stamps me from call request books stamped said sent)
 
 -- a request is handled, and its reply is lost
-request_kept : (setting : Setting) (w : World) (stamps : Stamping) (me from : BrickId) (call : Call) (request : Request) → Books setting w → StampViews setting.layout w
-    → Said setting w stamps → WasSent w (record { from = from; to = me; message = Message.Request call request })
-    → Said setting (quiet w me (requested setting me from (w.nodes me.0) call request).node []) stamps
-request_kept setting w stamps me from call request books views said sent =
-    request_each (λ step. Said setting (quiet w me step.node []) stamps) setting me from (w.nodes me.0) call request
-    (nothing_said setting w stamps me books said)
-    (kept_said setting w stamps me from call request books views said sent)
+request_kept : (setting : Setting) (views : Views) (w : World) (stamps : Stamping) (me from : BrickId) (call : Call) (request : Request) → Books setting w → StampViews setting.layout w
+    → Said setting views w stamps → WasSent w (record { from = from; to = me; message = Message.Request call request })
+    → Said setting views (quiet w me (requested setting me from (w.nodes me.0) call request).node []) stamps
+request_kept setting views w stamps me from call request books stamped said sent =
+    request_each (λ step. Said setting views (quiet w me step.node []) stamps) setting me from (w.nodes me.0) call request
+    (nothing_said setting views w stamps me books said)
+    (kept_said setting views w stamps me from call request books stamped said sent)
 
 -- a fresh stamp is its brick's, and above all that it knows
 fresh_says : (setting : Setting) (w : World) (me : BrickId) (view : ViewNo) (now known : ℕ) (t : Stamp) → view.0 ≡ 1 → Books setting w
@@ -134,26 +134,26 @@ fresh_says setting w me view now known t of books more is =
     (record { view = of; boot = refl; booted = omega arith; brick = refl; positive = omega arith; bounded = λ now. omega arith }, omega arith)
 
 -- a reply is delivered
-reply_said : (setting : Setting) (w : World) (stamps : Stamping) (me from : BrickId) (now : ℕ) (call : Call) (reply : Reply) → IsSound setting
-    → Books setting w → Said setting w stamps → WasSent w (record { from = from; to = me; message = Message.Reply call reply })
-    → IsSaid setting (stepped setting w me (replied setting me now from (w.nodes me.0) call reply))
+reply_said : (setting : Setting) (views : Views) (w : World) (stamps : Stamping) (me from : BrickId) (now : ℕ) (call : Call) (reply : Reply) → IsSound setting
+    → Books setting w → Said setting views w stamps → WasSent w (record { from = from; to = me; message = Message.Reply call reply })
+    → IsSaid setting views (stepped setting w me (replied setting me now from (w.nodes me.0) call reply))
 unfolding replied
-reply_said setting w stamps me from now call reply sound books said sent = at_call ((w.nodes me.0).calls call.seq) refl
+reply_said setting views w stamps me from now call reply sound books said sent = at_call ((w.nodes me.0).calls call.seq) refl
   where
     in_call : (c : Coordinator) → IsCall w me.0 c.call.seq c
-        → IsSaid setting (stepped setting w me (replied_at setting me now from (w.nodes me.0) call reply (Some c)))
+        → IsSaid setting views (stepped setting w me (replied_at setting me now from (w.nodes me.0) call reply (Some c)))
     in_call c is =
-        said_after_reply setting sound w stamps me c (known_after (w.nodes me.0).known reply) books said is
+        said_after_reply setting views sound w stamps me c (known_after (w.nodes me.0).known reply) books said is
         (known_grows (w.nodes me.0).known reply)
         (fresh_stamp me c.call.view now (w.nodes me.0).boot (known_after (w.nodes me.0).known reply))
         (λ t new. fresh_says setting w me c.call.view now (known_after (w.nodes me.0).known reply) t (books.calls me.0 c.call.seq c is).call_view books
         (known_grows (w.nodes me.0).known reply) new) from call reply sent
 
     at_call : (z : Option Coordinator) → (w.nodes me.0).calls call.seq ≡ z
-        → IsSaid setting (stepped setting w me (replied_at setting me now from (w.nodes me.0) call reply z))
+        → IsSaid setting views (stepped setting w me (replied_at setting me now from (w.nodes me.0) call reply z))
     at_call None none = (
       stamps,
-      said_known setting w stamps me (known_after (w.nodes me.0).known reply) books said
+      said_known setting views w stamps me (known_after (w.nodes me.0).known reply) books said
           (known_grows (w.nodes me.0).known reply),
     )
     at_call (Some c) is =
@@ -161,80 +161,80 @@ reply_said setting w stamps me from now call reply sound books said sent = at_ca
         in_call c (subst (λ (k : ℕ). IsCall w me.0 k c) (sym seq) is)
 
 -- a message is delivered
-message_said : (setting : Setting) (w : World) (stamps : Stamping) (me from : BrickId) (now : ℕ) (message : Message) → IsSound setting
+message_said : (setting : Setting) (views : Views) (w : World) (stamps : Stamping) (me from : BrickId) (now : ℕ) (message : Message) → IsSound setting
     → Books setting w → StampViews setting.layout w
-    → Said setting w stamps → WasSent w (record { from = from; to = me; message = message })
-    → IsSaid setting (stepped setting w me (received setting me now (w.nodes me.0) (record { from = from; to = me; message = message })))
+    → Said setting views w stamps → WasSent w (record { from = from; to = me; message = message })
+    → IsSaid setting views (stepped setting w me (received setting me now (w.nodes me.0) (record { from = from; to = me; message = message })))
 unfolding received
-message_said setting w stamps me from now (Message.Request call request) sound books views said sent =
-    (stamps, request_said setting w stamps me from call request books views said sent)
-message_said setting w stamps me from now (Message.Reply call reply) sound books views said sent =
-    reply_said setting w stamps me from now call reply sound books said sent
-message_said setting w stamps me from now message sound books views said sent = (stamps, nothing_said setting w stamps me books said)
+message_said setting views w stamps me from now (Message.Request call request) sound books stamped said sent =
+    (stamps, request_said setting views w stamps me from call request books stamped said sent)
+message_said setting views w stamps me from now (Message.Reply call reply) sound books stamped said sent =
+    reply_said setting views w stamps me from now call reply sound books said sent
+message_said setting views w stamps me from now message sound books stamped said sent = (stamps, nothing_said setting views w stamps me books said)
 
 -- a message is handled, and no reply is sent
-absorbed_said : (setting : Setting) (w : World) (stamps : Stamping) (me from to : BrickId) (message : Message) → Books setting w → StampViews setting.layout w
-    → Said setting w stamps → WasSent w (record { from = from; to = me; message = message })
-    → Said setting (quiet w me (absorbed setting me (w.nodes me.0) (record { from = from; to = to; message = message })) []) stamps
+absorbed_said : (setting : Setting) (views : Views) (w : World) (stamps : Stamping) (me from to : BrickId) (message : Message) → Books setting w → StampViews setting.layout w
+    → Said setting views w stamps → WasSent w (record { from = from; to = me; message = message })
+    → Said setting views (quiet w me (absorbed setting me (w.nodes me.0) (record { from = from; to = to; message = message })) []) stamps
 unfolding absorbed
-absorbed_said setting w stamps me from to (Message.Request call request) books views said sent =
-    request_kept setting w stamps me from call request books views said sent
-absorbed_said setting w stamps me from to message books views said sent = nothing_said setting w stamps me books said
+absorbed_said setting views w stamps me from to (Message.Request call request) books stamped said sent =
+    request_kept setting views w stamps me from call request books stamped said sent
+absorbed_said setting views w stamps me from to message books stamped said sent = nothing_said setting views w stamps me books said
 
-delivery_said : (setting : Setting) (w : World) (stamps : Stamping) (number : ℕ) (packet : Packet) → IsSound setting → Books setting w → StampViews setting.layout w
-    → Said setting w stamps → WasSent w packet → IsSaid setting (world_handled setting w number packet)
-delivery_said setting w stamps number packet sound books views said sent =
-    message_said setting (world_counting setting w number packet) stamps packet.to packet.from (w.clocks packet.to.0) packet.message sound
+delivery_said : (setting : Setting) (views : Views) (w : World) (stamps : Stamping) (number : ℕ) (packet : Packet) → IsSound setting → Books setting w → StampViews setting.layout w
+    → Said setting views w stamps → WasSent w packet → IsSaid setting views (world_handled setting w number packet)
+delivery_said setting views w stamps number packet sound books stamped said sent =
+    message_said setting views (world_counting setting w number packet) stamps packet.to packet.from (w.clocks packet.to.0) packet.message sound
     (books_beside setting w (replies_with setting w packet) (put w.reached number true) books)
-    (record { nodes = views.nodes; after = views.after; packets = views.packets })
-    (said_beside setting w stamps w.clocks (replies_with setting w packet) (put w.reached number true) books said)
+    (record { nodes = stamped.nodes; after = stamped.after; packets = stamped.packets })
+    (said_beside setting views w stamps w.clocks (replies_with setting w packet) (put w.reached number true) books said)
     sent
 
 -- what the store of a stopped brick may hold says what it should
-left_said : (setting : Setting) (w : World) (stamps : Stamping) (me : BrickId) (node : Node) → IsLeft setting w me.0 node → Books setting w → StampViews setting.layout w
-    → Said setting w stamps → Said setting (quiet w me node []) stamps
-left_said setting w stamps me node left books views said = ⊎_elim
+left_said : (setting : Setting) (views : Views) (w : World) (stamps : Stamping) (me : BrickId) (node : Node) → IsLeft setting w me.0 node → Books setting w → StampViews setting.layout w
+    → Said setting views w stamps → Said setting views (quiet w me node []) stamps
+left_said setting views w stamps me node left books stamped said = ⊎_elim
     (λ (same : node ≡ w.nodes me.0).
-    subst (λ (z : Node). Said setting (quiet w me z []) stamps) (sym same) (nothing_said setting w stamps me books said))
+    subst (λ (z : Node). Said setting views (quiet w me z []) stamps) (sym same) (nothing_said setting views w stamps me books said))
     (λ (handled : (packet : Packet) × (packet.to ≡ me) × WasSent w packet × (node ≡ absorbed setting me (w.nodes me.0) packet)).
     let packet : Packet = handled.0 in
-    subst (λ (z : Node). Said setting (quiet w me z []) stamps) (sym handled.3)
-    (absorbed_said setting w stamps me packet.from packet.to packet.message books views said
+    subst (λ (z : Node). Said setting views (quiet w me z []) stamps) (sym handled.3)
+    (absorbed_said setting views w stamps me packet.from packet.to packet.message books stamped said
     (subst (λ (to : BrickId). WasSent w (record { from = packet.from; to = to; message = packet.message })) handled.1 handled.2)))
     left
 
 -- so does the brick that starts with it
-found_said : (setting : Setting) (w : World) (stamps : Stamping) (me : BrickId) (found : Found) → w.up me.0 ≡ false → Leaves setting w → Books setting w → StampViews setting.layout w
-    → Said setting w stamps → Said setting (world_found w me found) stamps
-found_said setting w stamps me Before down leaves books views said = said
-found_said setting w stamps me After down leaves books views said =
-    subst (λ (l : List Packet). Said setting (record w {
+found_said : (setting : Setting) (views : Views) (w : World) (stamps : Stamping) (me : BrickId) (found : Found) → w.up me.0 ≡ false → Leaves setting w → Books setting w → StampViews setting.layout w
+    → Said setting views w stamps → Said setting views (world_found w me found) stamps
+found_said setting views w stamps me Before down leaves books stamped said = said
+found_said setting views w stamps me After down leaves books stamped said =
+    subst (λ (l : List Packet). Said setting views (record w {
       nodes = put w.nodes me.0 (w.after me.0);
       held = with_held w.held me.0 (w.after me.0);
       packets = l;
     }) stamps) (append-nil w.packets)
-    (left_said setting w stamps me (w.after me.0) (leaves me.0 down) books views said)
+    (left_said setting views w stamps me (w.after me.0) (leaves me.0 down) books stamped said)
 
 -- a brick's clock ticks
-ticked_said : (setting : Setting) (w : World) (stamps : Stamping) (me : BrickId) → Books setting w → Said setting w stamps
-    → Said setting (world_ticked setting w me) stamps
-ticked_said setting w stamps me books said =
+ticked_said : (setting : Setting) (views : Views) (w : World) (stamps : Stamping) (me : BrickId) → Books setting w → Said setting views w stamps
+    → Said setting views (world_ticked setting w me) stamps
+ticked_said setting views w stamps me books said =
     let more : List Packet = ticked setting me (w.nodes me.0) in
-    said_added setting w stamps w.clocks w.replies w.reached (w.packets ++ more) books said
+    said_added setting views w stamps w.clocks w.replies w.reached (w.packets ++ more) books said
     (λ packet sent. (sent.0, get_kept w.packets more sent.0 packet sent.1))
     (λ packet sent. ⊎_elim
     (λ (old : slice_get w.packets sent.0 ≡ Some packet). (sent.0, old))
-    (λ (new : (j : ℕ) × (slice_get more j ≡ Some packet)). ticked_was_sent setting w stamps me said new.0 packet new.1)
+    (λ (new : (j : ℕ) × (slice_get more j ≡ Some packet)). ticked_was_sent setting views w stamps me said new.0 packet new.1)
     (get_grown w.packets more sent.0 packet sent.1))
 
 -- a brick stops
-stopped_said : (setting : Setting) (w : World) (stamps : Stamping) (me : BrickId) (during : Option ℕ) → Books setting w → Said setting w stamps
-    → Said setting (world_stopped setting w me during) stamps
+stopped_said : (setting : Setting) (views : Views) (w : World) (stamps : Stamping) (me : BrickId) (during : Option ℕ) → Books setting w → Said setting views w stamps
+    → Said setting views (world_stopped setting w me during) stamps
 unfolding stopped
-stopped_said setting w stamps me during books said =
+stopped_said setting views w stamps me during books said =
     let crash : Mark = Crash (length w.marks) me in
     let longer : length (w.marks ++ (crash ∷ [])) ≡ length w.marks + 1 = length-append w.marks (crash ∷ []) in
-    said_idle setting w stamps me.0 (stopped (w.nodes me.0))
+    said_idle setting views w stamps me.0 (stopped (w.nodes me.0))
     (put w.after me.0 (left_after setting me (w.nodes me.0) (packet_during w.packets during))) (put w.up me.0 false) w.past (w.marks ++ (crash ∷ []))
     (reached_during w me during) books said (refl, refl, refl) (λ k. refl)
     (ages_within (w.nodes me.0) (stopped (w.nodes me.0)) refl (omega arith) (omega arith)) (omega arith)
@@ -246,41 +246,41 @@ stopped_said setting w stamps me during books said =
     (get_grown w.marks (crash ∷ []) k (End p n answer) at))
 
 -- a stopped brick is started again: no stamp of its new boot is known
-started_said : (setting : Setting) (w : World) (stamps : Stamping) (me : BrickId) (openings : ℕ) → Books setting w → Said setting w stamps
-    → 1 ≤ openings → Said setting (world_started w me openings) stamps
+started_said : (setting : Setting) (views : Views) (w : World) (stamps : Stamping) (me : BrickId) (openings : ℕ) → Books setting w → Said setting views w stamps
+    → 1 ≤ openings → Said setting views (world_started w me openings) stamps
 unfolding restarted
-started_said setting w stamps me openings books said some =
-    said_idle setting w stamps me.0 (restarted openings (w.nodes me.0)) w.after (put w.up me.0 true)
+started_said setting views w stamps me openings books said some =
+    said_idle setting views w stamps me.0 (restarted openings (w.nodes me.0)) w.after (put w.up me.0 true)
     (put w.past me.0 (put (w.past me.0) (w.nodes me.0).boot (w.nodes me.0).known)) w.marks w.reached books said (refl, refl, refl) (λ k. refl)
     (record { boot = omega arith; known = λ same. absurd (omega arith); seq = λ same. absurd (omega arith) }) (omega arith) (λ a. omega arith)
     (λ k p n answer at. at)
 
 -- an operation is invoked
-invoked_said : (setting : Setting) (w : World) (stamps : Stamping) (me : BrickId) (ask : Ask) → Books setting w → Said setting w stamps
-    → may_begin setting w me ask ≡ true → IsSaid setting (world_began w me ask (invoked setting me (w.clocks me.0) (w.nodes me.0) ask))
+invoked_said : (setting : Setting) (views : Views) (w : World) (stamps : Stamping) (me : BrickId) (ask : Ask) → Books setting w → Said setting views w stamps
+    → may_begin setting w me ask ≡ true → IsSaid setting views (world_began w me ask (invoked setting me (w.clocks me.0) (w.nodes me.0) ask))
 unfolding invoked
-invoked_said setting w stamps me ask books said may =
+invoked_said setting views w stamps me ask books said may =
     let fits : BeginFits setting ask = begin_fits setting w me ask may in
-    subst (λ (z : Option Group). IsSaid setting (world_began w me ask (began setting me (w.clocks me.0) (w.nodes me.0) ask z)))
+    subst (λ (z : Option Group). IsSaid setting views (world_began w me ask (began setting me (w.clocks me.0) (w.nodes me.0) ask z)))
     (sym (group_first setting.layout (w.nodes me.0) ask.group.0 (books.first me.0) ∙ fits.group_is))
-    (said_began setting w stamps me ask fits.group books said fits.group_is)
+    (said_began setting views w stamps me ask fits.group books said fits.group_is)
 
 -- every event keeps the invariant
-said_cases : (setting : Setting) → IsSound setting → (w : World) → Leaves setting w × Books setting w × StampViews setting.layout w → IsSaid setting w
-    → EventCases setting w (IsSaid setting)
-said_cases setting sound w known said =
+said_cases : (setting : Setting) (views : Views) → IsSound setting → (w : World) → Leaves setting w × Books setting w × StampViews setting.layout w → IsSaid setting views w
+    → EventCases setting w (IsSaid setting views)
+said_cases setting views sound w known said =
     let books : Books setting w = known.1 in
     record {
-      begins = λ brick ask may. invoked_said setting w said.0 brick ask books said.1 may;
-      handles = λ number packet at up. delivery_said setting w said.0 number packet sound books known.2 said.1 (packet_was_sent w number packet at);
-      sets = λ brick time is. (said.0, said_beside setting w said.0 (put w.clocks brick.0 time) w.replies w.reached books said.1);
-      ticks = λ brick up. (said.0, ticked_said setting w said.0 brick books said.1);
-      stops = λ brick during up. (said.0, stopped_said setting w said.0 brick during books said.1);
+      begins = λ brick ask may. invoked_said setting views w said.0 brick ask books said.1 may;
+      handles = λ number packet at up. delivery_said setting views w said.0 number packet sound books known.2 said.1 (packet_was_sent w number packet at);
+      sets = λ brick time is. (said.0, said_beside setting views w said.0 (put w.clocks brick.0 time) w.replies w.reached books said.1);
+      ticks = λ brick up. (said.0, ticked_said setting views w said.0 brick books said.1);
+      stops = λ brick during up. (said.0, stopped_said setting views w said.0 brick during books said.1);
       starts = λ brick openings found may.
           (let fits = start_fits setting w brick openings may in (
             said.0,
-            started_said setting (world_found w brick found) said.0 brick openings (books_found setting w brick found fits.0 known.0 books)
-                (found_said setting w said.0 brick found fits.0 known.0 books known.2 said.1) fits.1,
+            started_said setting views (world_found w brick found) said.0 brick openings (books_found setting w brick found fits.0 known.0 books)
+                (found_said setting views w said.0 brick found fits.0 known.0 books known.2 said.1) fits.1,
           ));
     }
 
@@ -290,8 +290,8 @@ first_top block =
     top_is (first_replica block) (record { stamp = first_stamp; block = replicate block 0 }) refl
     ∙ cond-false (stamp_below first_stamp first_stamp) first_stamp first_stamp (stamp_below_irrefl first_stamp)
 
-said_first : (setting : Setting) → IsSound setting → IsSaid setting (first_world setting.layout)
-said_first setting sound = (
+said_first : (setting : Setting) (views : Views) → IsSound setting → IsSaid setting views (first_world setting.layout)
+said_first setting views sound = (
   (λ i b k p. None),
   record {
     stamps_say = record { are = λ i b k p t is. cc; begun = λ i b k p t is. cc; apart = λ i b k l p q t is its. cc };
@@ -300,11 +300,11 @@ said_first setting sound = (
     first_held = λ g s i. or_left (stamp_same first_stamp first_stamp) false (stamp_same_refl first_stamp);
     logs = λ g e s i k version.
         cond_both (nat_eq e 1) (first_replica setting.layout.block) _
-        (λ (r : Replica). slice_get r.log k ≡ Some version → VersionSays setting (first_world setting.layout) g s i version)
+        (λ (r : Replica). slice_get r.log k ≡ Some version → VersionSays setting views (first_world setting.layout) g s i version)
         (λ one is.
         let same : record { stamp = first_stamp; block = replicate setting.layout.block 0 } ≡ version
         = get_one (record { stamp = first_stamp; block = replicate setting.layout.block 0 }) version k is in
-        subst (λ (z : Version). VersionSays setting (first_world setting.layout) g s i z) same (record {
+        subst (λ (z : Version). VersionSays setting views (first_world setting.layout) g s i z) same (record {
           made = inl refl;
           block = λ group seat group_is at.
               sym (sound.zero_blocks group.m (length group.members) seat (sound.limits g group group_is))
@@ -336,8 +336,8 @@ said_first setting sound = (
 )
 
 -- the invariant holds in every world that a run reaches
-pub always_said : (setting : Setting) (events : List Event) → IsSound setting → IsSaid setting (run setting events (first_world setting.layout))
-always_said setting events sound =
-    always_where (IsSaid setting) (λ w. Leaves setting w × Books setting w × StampViews setting.layout w) setting
+pub always_said : (setting : Setting) (views : Views) (events : List Event) → IsSound setting → IsSaid setting views (run setting events (first_world setting.layout))
+always_said setting views events sound =
+    always_where (IsSaid setting views) (λ w. Leaves setting w × Books setting w × StampViews setting.layout w) setting
     (λ more. (always_leaves setting more, books setting more, always_views setting more))
-    (said_first setting sound) (said_cases setting sound) events
+    (said_first setting views sound) (said_cases setting views sound) events

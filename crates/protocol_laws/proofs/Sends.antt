@@ -16,6 +16,7 @@ use Rattle.fab_base.specs.Layouts.{Group, group_of, seat_in}
 use Rattle.fab_base.proofs.Seats.{seat_of_member}
 use Rattle.fab_base.proofs.StampOrder.{stamp_same_true}
 use Rattle.std.proofs.lemmas.Option.{same_Some}
+use Rattle.protocol.specs.Views.{Views}
 use Rattle.protocol.specs.Settings.{Setting, IsSound}
 use Rattle.protocol.specs.declared.phases.Counted.{Counted}
 use Rattle.protocol.specs.declared.phases.Phase.{Phase}
@@ -46,22 +47,22 @@ pub record StoresAgain (setting : Setting) (w : World) (c : Coordinator) (o : Op
 
 -- What a phase of stamp t needs that makes no version: one that looks below a bound above the first stamp, that no quorum holds anything from there up
 -- to t; one that reads its base back, that the version was made on it; and one that stores, that the version was made.
-abbrev pub MayBegin : Setting → World → Coordinator → Operation → Stamp → Option Stamp → List ℕ → Phase → Type 0
-MayBegin setting w c o t base content Orders = (base ≡ None) × (content ≡ given_content c.ask.op)
-MayBegin setting w c o t base content (OrdersAt j) = Unit {0}
-MayBegin setting w c o t base content Recovers = Unit {0}
-MayBegin setting w c o t base content (Descends bound) =
-    (stamp_below first_stamp bound ≡ true) × AreBlocked setting w c.ask.group.0 c.ask.stripe.0 (IsCovered bound t)
-MayBegin setting w c o t base content (Bases u) = (t ≡ c.stamp) × (base ≡ c.base) × MadeOn setting w c u
-MayBegin setting w c o t base content Stores = StoresAgain setting w c o t content
-MayBegin setting w c o t base content phase = ⊥
+abbrev pub MayBegin : Setting → Views → World → Coordinator → Operation → Stamp → Option Stamp → List ℕ → Phase → Type 0
+MayBegin setting views w c o t base content Orders = (base ≡ None) × (content ≡ given_content c.ask.op)
+MayBegin setting views w c o t base content (OrdersAt j) = Unit {0}
+MayBegin setting views w c o t base content Recovers = Unit {0}
+MayBegin setting views w c o t base content (Descends bound) =
+    (stamp_below first_stamp bound ≡ true) × AreBlocked setting views w c.ask.group.0 c.ask.stripe.0 (IsCovered bound t)
+MayBegin setting views w c o t base content (Bases u) = (t ≡ c.stamp) × (base ≡ c.base) × MadeOn setting views w c u
+MayBegin setting views w c o t base content Stores = StoresAgain setting w c o t content
+MayBegin setting views w c o t base content phase = ⊥
 
-module _ (setting : Setting) (sound : IsSound setting) (w : World) (stamps : Stamping) (me : BrickId) (c : Coordinator) (known : ℕ) (books : Books setting w)
-    (said : Said setting w stamps) (is : IsCall w me.0 c.call.seq c)
+module _ (setting : Setting) (views : Views) (sound : IsSound setting) (w : World) (stamps : Stamping) (me : BrickId) (c : Coordinator) (known : ℕ) (books : Books setting w)
+    (said : Said setting views w stamps) (is : IsCall w me.0 c.call.seq c)
     (more_known : (w.nodes me.0).known ≤ known) (t : Stamp) (round : ℕ) (base : Option Stamp) (content : List ℕ) (phase : Phase)
     (of : IsStampOf (with_known (w.nodes me.0) (max known t.time)) me.0 (w.nodes me.0).boot t)
     (from : ComesFrom stamps me.0 (w.nodes me.0).boot c.call.seq t) (fits : FitsPhase phase c.ask.op)
-    (asks : MayBegin setting w c (books.calls me.0 c.call.seq c is).operation t base content phase)
+    (asks : MayBegin setting views w c (books.calls me.0 c.call.seq c is).operation t base content phase)
     (down : DescendsFrom phase c.ask.op t) where
   abbrev its : CallBooks setting w me.0 c.call.seq c
   its = books.calls me.0 c.call.seq c is
@@ -69,7 +70,7 @@ module _ (setting : Setting) (sound : IsSound setting) (w : World) (stamps : Sta
   abbrev o : Operation
   o = (books.calls me.0 c.call.seq c is).operation
 
-  says : CallSays setting w stamps me.0 c.call.seq c
+  says : CallSays setting views w stamps me.0 c.call.seq c
   says = said.calls me.0 c.call.seq c is
 
   -- the brick's boot
@@ -160,7 +161,7 @@ module _ (setting : Setting) (sound : IsSound setting) (w : World) (stamps : Sta
 
   -- a write of a version that was made
   write_says : (again : StoresAgain setting w c o t content) (k : ℕ) (member : BrickId) → slice_get c.group.members k ≡ Some member → phase ≡ Stores
-      → WriteSays setting next later me.0 member.0 (next_phase c.call) t (setting.code.encode c.group.m content (0 + k))
+      → WriteSays setting views next later me.0 member.0 (next_phase c.call) t (setting.code.encode c.group.m content (0 + k))
   write_says again k member at same = record {
     maker = record {
       operation = o;
@@ -171,7 +172,7 @@ module _ (setting : Setting) (sound : IsSound setting) (w : World) (stamps : Sta
       member = λ other other_is. (k, subst (λ (z : Group). seat_in z.members member.0 ≡ Some k) (group_same other other_is) (seat_of k member at));
       guarded = λ other other_is.
           of_call (λ g s. IsGuarded next g s other t)
-          (stays_guarded setting w next stamps later books grows c.ask.group.0 c.ask.stripe.0 other t
+          (stays_guarded setting views w next stamps later books grows c.ask.group.0 c.ask.stripe.0 other t
           (subst (λ a. IsGuarded w a.group.0 a.stripe.0 other t) (sym its.ask)
           (((said.operations (number_of w me.0 c.call.seq) o its.operation_is).version t again.version).guarded other
           (ap (λ a. group_of setting.layout a.group.0) (sym its.ask) ∙ ap (λ g. group_of setting.layout g.0) (sym its.call_group) ∙ other_is))));
@@ -185,9 +186,9 @@ module _ (setting : Setting) (sound : IsSound setting) (w : World) (stamps : Sta
         ∙ ap (setting.code.encode other.m (w.contents c.call.group.0 c.call.stripe.0 t)) zero;
   }
 
-  request_says : (p : Phase) → phase ≡ p → MayBegin setting w c o t base content p → (k : ℕ) (member : BrickId)
+  request_says : (p : Phase) → phase ≡ p → MayBegin setting views w c o t base content p → (k : ℕ) (member : BrickId)
       → slice_get c.group.members k ≡ Some member
-      → RequestSays setting next later me.0 member.0 (next_phase c.call) (request_of setting.code (d_in p) (0 + k))
+      → RequestSays setting views next later me.0 member.0 (next_phase c.call) (request_of setting.code (d_in p) (0 + k))
   unfolding request_of
   request_says Orders same ok k member at = record {
     operation = o;
@@ -209,21 +210,21 @@ module _ (setting : Setting) (sound : IsSound setting) (w : World) (stamps : Sta
   request_says (LooksAt e) same bad k member at = absurd bad
   request_says (Modifies u e) same bad k member at = absurd bad
 
-  packets : (k : ℕ) (packet : Packet) → slice_get more k ≡ Some packet → PacketSays setting next later packet
+  packets : (k : ℕ) (packet : Packet) → slice_get more k ≡ Some packet → PacketSays setting views next later packet
   packets k packet at =
       let sent = sent_to_member me d.call (request_of setting.code d) 0 c.group.members k packet at in
-      subst (λ (z : Packet). PacketSays setting next later z) (sym sent.2) (request_says phase refl asks k sent.0 sent.1)
+      subst (λ (z : Packet). PacketSays setting views next later z) (sym sent.2) (request_says phase refl asks k sent.0 sent.1)
 
-  asks_as : (p : Phase) → phase ≡ p → MayBegin setting w c o t base content p
-  asks_as p same = subst (λ (z : Phase). MayBegin setting w c o t base content z) same asks
+  asks_as : (p : Phase) → phase ≡ p → MayBegin setting views w c o t base content p
+  asks_as p same = subst (λ (z : Phase). MayBegin setting views w c o t base content z) same asks
 
   -- what the version of a phase was made on stays so
-  made_on : (p : Phase) (u : Stamp) → phase ≡ p → base_in p ≡ Some u → MadeOn setting next d u
+  made_on : (p : Phase) (u : Stamp) → phase ≡ p → base_in p ≡ Some u → MadeOn setting views next d u
   made_on (Bases b) u same has =
       let at : b ≡ u = cc in
       let ok = asks_as (Bases b) same in
-      let on : MadeOn setting next c b = stays_made_on setting w next stamps later books grows c b ok.2 in
-      subst (λ (z : Stamp). MadeOn setting next d z) at (record {
+      let on : MadeOn setting views next c b = stays_made_on setting views w next stamps later books grows c b ok.2 in
+      subst (λ (z : Stamp). MadeOn setting views next d z) at (record {
         base_is = ok.1 ∙ on.base_is;
         below = subst (λ (z : Stamp). stamp_below b z ≡ true) (sym ok.0) on.below;
         base_made = on.base_made;
@@ -234,7 +235,7 @@ module _ (setting : Setting) (sound : IsSound setting) (w : World) (stamps : Sta
   made_on (Modifies b e) u same has = absurd (asks_as (Modifies b e) same)
   made_on p u same has = cc
 
-  d_says : CallSays setting next later me.0 c.call.seq d
+  d_says : CallSays setting views next later me.0 c.call.seq d
   d_says = record {
     begun = subst (λ (b : ℕ). IsBegun later me.0 b c.call.seq (c.call.phase + 1) phase t) (sym boot_now) begun_now;
     last = λ p less.
@@ -247,33 +248,33 @@ module _ (setting : Setting) (sound : IsSound setting) (w : World) (stamps : Sta
     above = λ bound descends. (asks_as (Descends bound) descends).0;
     from = down;
     covered = λ bound descends.
-        stay_blocked setting w next stamps later books grows c.ask.group.0 c.ask.stripe.0 (IsCovered bound t) (asks_as (Descends bound) descends).1;
+        stay_blocked setting views w next stamps later books grows c.ask.group.0 c.ask.stripe.0 (IsCovered bound t) (asks_as (Descends bound) descends).1;
     stores = λ stores.
         let again : StoresAgain setting w c o t content = asks_as Stores stores in
-        (stays_made setting w next stamps later books grows c.ask.group.0 c.ask.stripe.0 t again.is_made, again.content_is);
+        (stays_made setting views w next stamps later books grows c.ask.group.0 c.ask.stripe.0 t again.is_made, again.content_is);
     based = λ u has. made_on phase u refl has;
     counted = tt;
     once = tt;
   }
 
   calls : (k : ℕ) (e : Coordinator) → node.calls k ≡ Some e
-      → (((w.nodes me.0).calls k ≡ Some e) × KeepsStamps stamps later me.0 boot k) ⊎ CallSays setting next later me.0 k e
+      → (((w.nodes me.0).calls k ≡ Some e) × KeepsStamps stamps later me.0 boot k) ⊎ CallSays setting views next later me.0 k e
   calls k e =
       put_each (λ j x. x ≡ Some e
-      → (((w.nodes me.0).calls j ≡ Some e) × KeepsStamps stamps later me.0 boot j) ⊎ CallSays setting next later me.0 j e)
+      → (((w.nodes me.0).calls j ≡ Some e) × KeepsStamps stamps later me.0 boot j) ⊎ CallSays setting views next later me.0 j e)
       (w.nodes me.0).calls c.call.seq (Some d)
-      (λ at. let same : d ≡ e = cc in inr (subst (λ (z : Coordinator). CallSays setting next later me.0 c.call.seq z) same d_says))
+      (λ at. let same : d ≡ e = cc in inr (subst (λ (z : Coordinator). CallSays setting views next later me.0 c.call.seq z) same d_says))
       (λ j other at. inl (at, stamps_other stamps me.0 boot c.call.seq (c.call.phase + 1) begun me.0 boot j (λ brick same. other same))) k
 
   -- the invariant holds when such a phase began
-  pub said_sent : IsSaid setting next
+  pub said_sent : IsSaid setting views next
   said_sent =
       let was = said.stamps_say.begun me.0 boot c.call.seq c.call.phase c.stamp (c.phase, says.begun) in
       let ages : Ages (w.nodes me.0) node = ages_within (w.nodes me.0) node refl (omega arith) (omega arith) in
       let stamp : IsStampOf node me.0 boot t
       = record { view = of.view; boot = of.boot; booted = of.booted; brick = of.brick; positive = of.positive; bounded = of.bounded } in (
         later,
-        said_quiet setting w stamps later me node more books said grow (record {
+        said_quiet setting views w stamps later me node more books said grow (record {
           keeps = keeps_same (w.nodes me.0) node (refl, refl, refl);
           boot = refl;
           stamps_say = stamps_say stamps me.0 boot c.call.seq (c.call.phase + 1) begun none from w next said.stamps_say
@@ -336,7 +337,7 @@ resent_to_member me call request counted seat (member ∷ members) k packet is =
     (λ j. resent_to_member me call request counted (seat + 1) members j packet) at)
     is
 
-module _ (setting : Setting) (w : World) (stamps : Stamping) (me : BrickId) (said : Said setting w stamps) where
+module _ (setting : Setting) (views : Views) (w : World) (stamps : Stamping) (me : BrickId) (said : Said setting views w stamps) where
   -- what an open operation sends again was sent
   call_resent : (k : ℕ) (z : Option Coordinator) → (w.nodes me.0).calls k ≡ z → (j : ℕ) (packet : Packet)
       → slice_get (resent setting me z) j ≡ Some packet → WasSent w packet

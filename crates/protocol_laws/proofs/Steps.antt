@@ -18,7 +18,7 @@ use Rattle.reg_model.specs.Walk.{last_of}
 use Rattle.fab_base.proofs.StampOrder.{stamp_below_irrefl}
 use Rattle.fab_base.specs.Layouts.{Group, group_of}
 use Rattle.protocol.specs.Settings.{Setting}
-use Rattle.protocol.specs.Views.{view_of}
+use Rattle.protocol.specs.Views.{Views, view_of}
 use Rattle.protocol.specs.Replicas.{Replica, top_of, is_held}
 use Rattle.protocol.specs.declared.phases.Counted.{Counted}
 use Rattle.protocol.specs.Coordinators.{Coordinator, request_of}
@@ -44,26 +44,26 @@ abbrev pub StaysOpen : World → Stamping → Stamping → ℕ → ℕ → Coord
 StaysOpen w stamps later i k c boot = IsCall w i k c × (boot ≡ (w.nodes i).boot) × KeepsStamps stamps later i (w.nodes i).boot k
 
 -- what is new in the next world says what it should
-pub record Owes (setting : Setting) (w next : World) (stamps later : Stamping) : Type 0 where
+pub record Owes (setting : Setting) (views : Views) (w next : World) (stamps later : Stamping) : Type 0 where
   pub stamps_say : StampsSay next later
   pub tops : (g e s i : ℕ) → (top_of (part_in next g e s i) ≡ top_of (part_in w g e s i)) ⊎ IsKnown later (top_of (part_in next g e s i))
   pub logs : (g e s i k : ℕ) (version : Version) → slice_get (part_in next g e s i).log k ≡ Some version
-      → ((j : ℕ) × (slice_get (part_in w g e s i).log j ≡ Some version)) ⊎ VersionSays setting next g s i version
+      → ((j : ℕ) × (slice_get (part_in w g e s i).log j ≡ Some version)) ⊎ VersionSays setting views next g s i version
   pub lowest : (g e s i : ℕ) (x : Version) (log : List Version) → (part_in next g e s i).log ≡ x ∷ log
       → ((more : List Version) × ((part_in w g e s i).log ≡ x ∷ more)) ⊎ WasCollected next g s x.stamp
   pub packets : (k : ℕ) (packet : Packet) → slice_get next.packets k ≡ Some packet
-      → (slice_get w.packets k ≡ Some packet) ⊎ PacketSays setting next later packet
-  pub operations : (n : ℕ) (o : Operation) → IsOperation next n o → IsOperation w n o ⊎ OperationSays setting next later n o
+      → (slice_get w.packets k ≡ Some packet) ⊎ PacketSays setting views next later packet
+  pub operations : (n : ℕ) (o : Operation) → IsOperation next n o → IsOperation w n o ⊎ OperationSays setting views next later n o
   pub calls : (i k : ℕ) (c : Coordinator) → IsCall next i k c
-      → StaysOpen w stamps later i k c (next.nodes i).boot ⊎ CallSays setting next later i k c
+      → StaysOpen w stamps later i k c (next.nodes i).boot ⊎ CallSays setting views next later i k c
   pub ends : (k p n : ℕ) (answer : Answer) → slice_get next.marks k ≡ Some (End p n answer)
       → (slice_get w.marks k ≡ Some (End p n answer)) ⊎ EndShows setting next n answer
-  pub order : IsInOrder setting next
+  pub order : IsInOrder setting views next
 
 -- the invariant holds after an event that pays what it owes
-pub said_after : (setting : Setting) (w next : World) (stamps later : Stamping) → Books setting w → Said setting w stamps
-    → Grows w next stamps later → Owes setting w next stamps later → Said setting next later
-said_after setting w next stamps later books said grows owes = record {
+pub said_after : (setting : Setting) (views : Views) (w next : World) (stamps later : Stamping) → Books setting w → Said setting views w stamps
+    → Grows w next stamps later → Owes setting views w next stamps later → Said setting views next later
+said_after setting views w next stamps later books said grows owes = record {
   stamps_say = owes.stamps_say;
   first_held = λ g s i. grows.parts.held g s i first_stamp (said.first_held g s i);
   tops = λ g e s i. ⊎_elim
@@ -80,27 +80,27 @@ said_after setting w next stamps later books said grows owes = record {
       (λ (new : WasCollected next g s x.stamp). inr new)
       (owes.lowest g e s i x log is);
   held_made = λ g s i t held. ⊎_elim
-      (λ (was : w.held i g s t ≡ true). stays_made setting w next stamps later books grows g s t (said.held_made g s i t was))
+      (λ (was : w.held i g s t ≡ true). stays_made setting views w next stamps later books grows g s t (said.held_made g s i t was))
       (λ (new : is_held t (part_in next g (view_of t) s i).log ≡ true).
       let at = held_stands t (part_in next g (view_of t) s i).log new in
       subst (λ (z : Stamp). IsMadeOrFirst next g s z) at.3 (logs g (view_of t) s i at.0 at.1 at.2).made)
       (grows.fresh i g s t held);
   packets = λ k packet is. ⊎_elim
-      (λ (old : slice_get w.packets k ≡ Some packet). stays_packet setting w next stamps later books grows packet (said.packets k packet old))
-      (λ (new : PacketSays setting next later packet). new)
+      (λ (old : slice_get w.packets k ≡ Some packet). stays_packet setting views w next stamps later books grows packet (said.packets k packet old))
+      (λ (new : PacketSays setting views next later packet). new)
       (owes.packets k packet is);
   operations = λ n o is. ⊎_elim
-      (λ (old : IsOperation w n o). stays_operation setting w next stamps later books grows n o old (said.operations n o old))
-      (λ (new : OperationSays setting next later n o). new)
+      (λ (old : IsOperation w n o). stays_operation setting views w next stamps later books grows n o old (said.operations n o old))
+      (λ (new : OperationSays setting views next later n o). new)
       (owes.operations n o is);
   calls = λ i k c is. ⊎_elim
       (λ (old : StaysOpen w stamps later i k c (next.nodes i).boot).
-      stays_call setting w next stamps later books grows i k c old.1 old.2 (said.calls i k c old.0))
-      (λ (new : CallSays setting next later i k c). new)
+      stays_call setting views w next stamps later books grows i k c old.1 old.2 (said.calls i k c old.0))
+      (λ (new : CallSays setting views next later i k c). new)
       (owes.calls i k c is);
   ends = λ k p n answer is. ⊎_elim
       (λ (old : slice_get w.marks k ≡ Some (End p n answer)).
-      stays_end setting w next stamps later books grows said.operations n answer (said.ends k p n answer old))
+      stays_end setting views w next stamps later books grows said.operations n answer (said.ends k p n answer old))
       (λ (new : EndShows setting next n answer). new)
       (owes.ends k p n answer is);
   order = owes.order;
@@ -108,11 +108,11 @@ said_after setting w next stamps later books said grows owes = record {
   logged = grows.parts.logged;
 }
   where
-    logs : (g e s i k : ℕ) (version : Version) → slice_get (part_in next g e s i).log k ≡ Some version → VersionSays setting next g s i version
+    logs : (g e s i k : ℕ) (version : Version) → slice_get (part_in next g e s i).log k ≡ Some version → VersionSays setting views next g s i version
     logs g e s i k version is = ⊎_elim
         (λ (old : (j : ℕ) × (slice_get (part_in w g e s i).log j ≡ Some version)).
-        stays_version setting w next stamps later books grows g s i version (said.logs g e s i old.0 version old.1))
-        (λ (new : VersionSays setting next g s i version). new)
+        stays_version setting views w next stamps later books grows g s i version (said.logs g e s i old.0 version old.1))
+        (λ (new : VersionSays setting views next g s i version). new)
         (owes.logs g e s i k version is)
 
 -- one brick comes no less far than before, keeps what it kept, takes nothing new below what it had come to, and its logs go on ascending
@@ -263,18 +263,18 @@ ages_by w next me node nodes ages i =
     (λ j other. ages_within (w.nodes j) (w.nodes j) refl (omega arith) (omega arith)) i)
 
 -- what is owed for call k, where one brick changes within its boot
-pub calls_by : (setting : Setting) (w next : World) (stamps later : Stamping) (me : ℕ) (node : Node) → next.nodes ≡ put w.nodes me node
+pub calls_by : (setting : Setting) (views : Views) (w next : World) (stamps later : Stamping) (me : ℕ) (node : Node) → next.nodes ≡ put w.nodes me node
     → node.boot ≡ (w.nodes me).boot → (k : ℕ) (c : Coordinator)
     → (node.calls k ≡ Some c
-    → (((w.nodes me).calls k ≡ Some c) × KeepsStamps stamps later me (w.nodes me).boot k) ⊎ CallSays setting next later me k c)
+    → (((w.nodes me).calls k ≡ Some c) × KeepsStamps stamps later me (w.nodes me).boot k) ⊎ CallSays setting views next later me k c)
     → ((j : ℕ) → j ≢ me → KeepsStamps stamps later j (w.nodes j).boot k) → (i : ℕ) → IsCall next i k c
-    → StaysOpen w stamps later i k c (next.nodes i).boot ⊎ CallSays setting next later i k c
-calls_by setting w next stamps later me node nodes boot k c own others i =
-    subst (λ (f : ℕ → Node). (f i).calls k ≡ Some c → StaysOpen w stamps later i k c (f i).boot ⊎ CallSays setting next later i k c) (sym nodes)
-    (put_each (λ j x. x.calls k ≡ Some c → StaysOpen w stamps later j k c x.boot ⊎ CallSays setting next later j k c) w.nodes me node
+    → StaysOpen w stamps later i k c (next.nodes i).boot ⊎ CallSays setting views next later i k c
+calls_by setting views w next stamps later me node nodes boot k c own others i =
+    subst (λ (f : ℕ → Node). (f i).calls k ≡ Some c → StaysOpen w stamps later i k c (f i).boot ⊎ CallSays setting views next later i k c) (sym nodes)
+    (put_each (λ j x. x.calls k ≡ Some c → StaysOpen w stamps later j k c x.boot ⊎ CallSays setting views next later j k c) w.nodes me node
     (λ is. ⊎_elim
     (λ (old : ((w.nodes me).calls k ≡ Some c) × KeepsStamps stamps later me (w.nodes me).boot k). inl (old.0, boot, old.1))
-    (λ (new : CallSays setting next later me k c). inr new)
+    (λ (new : CallSays setting views next later me k c). inr new)
     (own is))
     (λ j other is. inl (is, refl, others j other)) i)
 
@@ -297,33 +297,33 @@ quiet_grows w stamps later me node more grow logged keeps = record {
 }
 
 -- what a quiet step owes
-pub record QuietOwes (setting : Setting) (w : World) (stamps later : Stamping) (me : BrickId) (node : Node) (more : List Packet) : Type 0 where
+pub record QuietOwes (setting : Setting) (views : Views) (w : World) (stamps later : Stamping) (me : BrickId) (node : Node) (more : List Packet) : Type 0 where
   pub keeps : KeepsParts (w.nodes me.0) node
   pub boot : node.boot ≡ (w.nodes me.0).boot
   pub stamps_say : StampsSay (quiet w me node more) later
   pub stamps_other : (i b k : ℕ) → i ≢ me.0 → KeepsStamps stamps later i b k
   pub tops : (g e s : ℕ) → (top_of (node.replicas g e s) ≡ top_of ((w.nodes me.0).replicas g e s)) ⊎ IsKnown later (top_of (node.replicas g e s))
   pub logs : (g e s k : ℕ) (version : Version) → slice_get (node.replicas g e s).log k ≡ Some version
-      → ((j : ℕ) × (slice_get ((w.nodes me.0).replicas g e s).log j ≡ Some version)) ⊎ VersionSays setting (quiet w me node more) g s me.0 version
+      → ((j : ℕ) × (slice_get ((w.nodes me.0).replicas g e s).log j ≡ Some version)) ⊎ VersionSays setting views (quiet w me node more) g s me.0 version
   pub lowest : (g e s : ℕ) (x : Version) (log : List Version) → (node.replicas g e s).log ≡ x ∷ log
       → ((rest : List Version) × (((w.nodes me.0).replicas g e s).log ≡ x ∷ rest)) ⊎ WasCollected (quiet w me node more) g s x.stamp
   pub calls : (k : ℕ) (c : Coordinator) → node.calls k ≡ Some c
       → (((w.nodes me.0).calls k ≡ Some c) × KeepsStamps stamps later me.0 (w.nodes me.0).boot k)
-      ⊎ CallSays setting (quiet w me node more) later me.0 k c
-  pub packets : (k : ℕ) (packet : Packet) → slice_get more k ≡ Some packet → PacketSays setting (quiet w me node more) later packet
+      ⊎ CallSays setting views (quiet w me node more) later me.0 k c
+  pub packets : (k : ℕ) (packet : Packet) → slice_get more k ≡ Some packet → PacketSays setting views (quiet w me node more) later packet
 
-pub said_quiet : (setting : Setting) (w : World) (stamps later : Stamping) (me : BrickId) (node : Node) (more : List Packet) → Books setting w
-    → Said setting w stamps → StampsGrow stamps later → QuietOwes setting w stamps later me node more → Said setting (quiet w me node more) later
-said_quiet setting w stamps later me node more books said grow owes =
+pub said_quiet : (setting : Setting) (views : Views) (w : World) (stamps later : Stamping) (me : BrickId) (node : Node) (more : List Packet) → Books setting w
+    → Said setting views w stamps → StampsGrow stamps later → QuietOwes setting views w stamps later me node more → Said setting views (quiet w me node more) later
+said_quiet setting views w stamps later me node more books said grow owes =
     let next : World = quiet w me node more in
-    said_after setting w next stamps later books said (quiet_grows w stamps later me node more grow said.logged owes.keeps) (record {
+    said_after setting views w next stamps later books said (quiet_grows w stamps later me node more grow said.logged owes.keeps) (record {
       stamps_say = owes.stamps_say;
       tops = λ g e s i.
           put_each (λ j x. (top_of (x.replicas g e s) ≡ top_of ((w.nodes j).replicas g e s)) ⊎ IsKnown later (top_of (x.replicas g e s)))
           w.nodes me.0 node (owes.tops g e s) (λ j other. inl refl) i;
       logs = λ g e s i k version.
           put_each (λ j x. slice_get (x.replicas g e s).log k ≡ Some version
-          → ((l : ℕ) × (slice_get ((w.nodes j).replicas g e s).log l ≡ Some version)) ⊎ VersionSays setting (quiet w me node more) g s j version)
+          → ((l : ℕ) × (slice_get ((w.nodes j).replicas g e s).log l ≡ Some version)) ⊎ VersionSays setting views (quiet w me node more) g s j version)
           w.nodes me.0 node (owes.logs g e s k version) (λ j other is. inl (k, is)) i;
       lowest = λ g e s i x log.
           put_each (λ j y. (y.replicas g e s).log ≡ x ∷ log
@@ -335,17 +335,17 @@ said_quiet setting w stamps later me node more books said grow owes =
           (get_grown w.packets more k packet is);
       operations = λ n o is. inl is;
       calls = λ i k c.
-          calls_by setting w next stamps later me.0 node refl owes.boot k c (owes.calls k c)
+          calls_by setting views w next stamps later me.0 node refl owes.boot k c (owes.calls k c)
           (λ j other. owes.stamps_other j (w.nodes j).boot k other) i;
       ends = λ k p n answer is. inl is;
       order = said.order;
     })
 
 -- what the stamps say where they stay, and one brick ages
-pub stamps_stay_by : (setting : Setting) (w next : World) (stamps : Stamping) (me : ℕ) (node : Node) → Said setting w stamps
+pub stamps_stay_by : (setting : Setting) (views : Views) (w next : World) (stamps : Stamping) (me : ℕ) (node : Node) → Said setting views w stamps
     → next.nodes ≡ put w.nodes me node
     → Ages (w.nodes me) node → StampsSay next stamps
-stamps_stay_by setting w next stamps me node said nodes ages = stamps_stay w next stamps said.stamps_say (ages_by w next me node nodes ages)
+stamps_stay_by setting views w next stamps me node said nodes ages = stamps_stay w next stamps said.stamps_say (ages_by w next me node nodes ages)
 
 -- each member is sent its request
 pub member_sent : (me : BrickId) (call : Call) (request : ℕ → Request) (seat : ℕ) (members : List BrickId) (k : ℕ) (member : BrickId)
@@ -376,12 +376,12 @@ phase_asked setting w me c packets is seat member at =
     (sent.0, subst (λ (l : List Packet). slice_get l sent.0 ≡ Some packet) (sym is) sent.1)
 
 -- a world that sends again what was sent, and whose clocks and counted replies are other, says what was said
-pub said_added : (setting : Setting) (w : World) (stamps : Stamping) (clocks : ℕ → ℕ) (replies : ℕ → ℕ → List Counted) (reached : ℕ → Bool)
+pub said_added : (setting : Setting) (views : Views) (w : World) (stamps : Stamping) (clocks : ℕ → ℕ) (replies : ℕ → ℕ → List Counted) (reached : ℕ → Bool)
     (packets : List Packet)
-    → Books setting w → Said setting w stamps → ((packet : Packet) → WasSent w packet → WasSent (record w { packets = packets }) packet)
+    → Books setting w → Said setting views w stamps → ((packet : Packet) → WasSent w packet → WasSent (record w { packets = packets }) packet)
     → ((packet : Packet) → WasSent (record w { packets = packets }) packet → WasSent w packet)
-    → Said setting (record w { clocks = clocks; packets = packets; replies = replies; reached = reached }) stamps
-said_added setting w stamps clocks replies reached packets books said kept old =
+    → Said setting views (record w { clocks = clocks; packets = packets; replies = replies; reached = reached }) stamps
+said_added setting views w stamps clocks replies reached packets books said kept old =
     let next : World = record w { clocks = clocks; packets = packets; replies = replies; reached = reached } in
     let grows : Grows w next stamps stamps = record {
       parts = parts_same w next refl refl said.logged;
@@ -393,14 +393,14 @@ said_added setting w stamps clocks replies reached packets books said kept old =
       numbered = λ i b k within. refl;
       marks = omega arith;
     } in
-    said_after setting w next stamps stamps books said grows (record {
+    said_after setting views w next stamps stamps books said grows (record {
       stamps_say = stamps_stay w next stamps said.stamps_say (λ i. ages_within (w.nodes i) (w.nodes i) refl (omega arith) (omega arith));
       tops = λ g e s i. inl refl;
       logs = λ g e s i k version is. inl (k, is);
       lowest = λ g e s i x log is. inl (log, is);
       packets = λ k packet is.
           let was = old packet (k, is) in
-          inr (stays_packet setting w next stamps stamps books grows packet (said.packets was.0 packet was.1));
+          inr (stays_packet setting views w next stamps stamps books grows packet (said.packets was.0 packet was.1));
       operations = λ n o is. inl is;
       calls = λ i k c is. inl (is, refl, (λ p. refl));
       ends = λ k p n answer is. inl is;
@@ -408,22 +408,22 @@ said_added setting w stamps clocks replies reached packets books said kept old =
     })
 
 -- other clocks, other replies that count, and other messages that were delivered, change nothing of what is said
-pub said_beside : (setting : Setting) (w : World) (stamps : Stamping) (clocks : ℕ → ℕ) (replies : ℕ → ℕ → List Counted) (reached : ℕ → Bool)
-    → Books setting w → Said setting w stamps → Said setting (record w { clocks = clocks; replies = replies; reached = reached }) stamps
-said_beside setting w stamps clocks replies reached books said =
-    said_added setting w stamps clocks replies reached w.packets books said (λ packet sent. sent) (λ packet sent. sent)
+pub said_beside : (setting : Setting) (views : Views) (w : World) (stamps : Stamping) (clocks : ℕ → ℕ) (replies : ℕ → ℕ → List Counted) (reached : ℕ → Bool)
+    → Books setting w → Said setting views w stamps → Said setting views (record w { clocks = clocks; replies = replies; reached = reached }) stamps
+said_beside setting views w stamps clocks replies reached books said =
+    said_added setting views w stamps clocks replies reached w.packets books said (λ packet sent. sent) (λ packet sent. sent)
 
 -- a brick that has no operation open any more, as it stopped or was started again, changes nothing of what is said, where no operation's
 -- last position comes forward
-pub said_idle : (setting : Setting) (w : World) (stamps : Stamping) (me : ℕ) (node : Node) (after : ℕ → Node) (up : ℕ → Bool) (past : ℕ → ℕ → ℕ)
+pub said_idle : (setting : Setting) (views : Views) (w : World) (stamps : Stamping) (me : ℕ) (node : Node) (after : ℕ → Node) (up : ℕ → Bool) (past : ℕ → ℕ → ℕ)
     (marks : List Mark) (reached : ℕ → Bool)
-    → Books setting w → Said setting w stamps → KeepsPlaces (w.nodes me) node → ((k : ℕ) → node.calls k ≡ None) → Ages (w.nodes me) node
+    → Books setting w → Said setting views w stamps → KeepsPlaces (w.nodes me) node → ((k : ℕ) → node.calls k ≡ None) → Ages (w.nodes me) node
     → length w.marks ≤ length marks → ((a : ℕ) → last_of (life_of w.marks a) ≤ last_of (life_of marks a))
     → ((k p n : ℕ) (answer : Answer) → slice_get marks k ≡ Some (End p n answer) → slice_get w.marks k ≡ Some (End p n answer))
-    → Said setting (record w { nodes = put w.nodes me node; after = after; up = up; past = past; marks = marks; reached = reached }) stamps
-said_idle setting w stamps me node after up past marks reached books said same none ages longer lasts ends =
+    → Said setting views (record w { nodes = put w.nodes me node; after = after; up = up; past = past; marks = marks; reached = reached }) stamps
+said_idle setting views w stamps me node after up past marks reached books said same none ages longer lasts ends =
     let next : World = record w { nodes = put w.nodes me node; after = after; up = up; past = past; marks = marks; reached = reached } in
-    said_after setting w next stamps stamps books said
+    said_after setting views w next stamps stamps books said
     (record {
       parts = parts_kept w next me node refl refl said.logged same;
       fresh = new_none w next refl;
@@ -435,14 +435,14 @@ said_idle setting w stamps me node after up past marks reached books said same n
       marks = longer;
     })
     (record {
-      stamps_say = stamps_stay_by setting w next stamps me node said refl ages;
+      stamps_say = stamps_stay_by setting views w next stamps me node said refl ages;
       tops = λ g e s i. inl (ap (λ (r : Replica). top_of r) (part_same w next me node refl same.2 g e s i));
       logs = λ g e s i k version is. inl (k, ap (λ (r : Replica). slice_get r.log k) (sym (part_same w next me node refl same.2 g e s i)) ∙ is);
       lowest = λ g e s i x log is. inl (log, ap (λ (r : Replica). r.log) (sym (part_same w next me node refl same.2 g e s i)) ∙ is);
       packets = λ k packet is. inl is;
       operations = λ n o is. inl is;
       calls = λ i k c.
-          put_each (λ j x. x.calls k ≡ Some c → StaysOpen w stamps stamps j k c x.boot ⊎ CallSays setting next stamps j k c) w.nodes me node
+          put_each (λ j x. x.calls k ≡ Some c → StaysOpen w stamps stamps j k c x.boot ⊎ CallSays setting views next stamps j k c) w.nodes me node
           (λ is. absurd (let bad : Some c ≡ None = sym is ∙ none k in let never : ⊥ = cc in never))
           (λ j other is. inl (is, refl, (λ p. refl))) i;
       ends = λ k p n answer is. inl (ends k p n answer is);

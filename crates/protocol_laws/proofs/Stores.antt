@@ -14,6 +14,7 @@ use Rattle.messages.specs.declared.packets.Packet.{Packet}
 use Rattle.reg_model.specs.Marks.{life_of}
 use Rattle.reg_model.specs.Walk.{last_of}
 use Rattle.fab_base.specs.Layouts.{Group, group_of, seat_in}
+use Rattle.protocol.specs.Views.{Views}
 use Rattle.protocol.specs.Settings.{Setting, IsSound, are_bytes}
 use Rattle.quorum.specs.Quorums.{IsWithinLimits}
 use Rattle.reg_model.specs.Registers.{block_of, with_block, after_op}
@@ -49,24 +50,24 @@ open_until setting w i k c books is =
     omega arith
 
 -- An operation makes its version on another, of which no more is held by a quorum up to its own stamp.
-pub record MakesOn (setting : Setting) (w : World) (c : Coordinator) (base : Option Stamp) : Type 0 where
+pub record MakesOn (setting : Setting) (views : Views) (w : World) (c : Coordinator) (base : Option Stamp) : Type 0 where
   pub version : Stamp
   pub base_is : base ≡ Some version
   pub op : (bytes : List ℕ) → c.ask.op ≡ WriteStripe bytes → ⊥
   pub below : stamp_below version c.stamp ≡ true
   pub made : IsMadeOrFirst w c.ask.group.0 c.ask.stripe.0 version
-  pub blocked : AreBlocked setting w c.ask.group.0 c.ask.stripe.0 (λ d. (stamp_below version d ≡ true) × (stamp_below d c.stamp ≡ true))
+  pub blocked : AreBlocked setting views w c.ask.group.0 c.ask.stripe.0 (λ d. (stamp_below version d ≡ true) × (stamp_below d c.stamp ≡ true))
 
 -- a coordinator makes its version of a stripe's bytes, on no base, or on another version
-abbrev pub MakesVersion : Setting → World → Coordinator → Option Stamp → Type 0
-MakesVersion setting w c base = ((base ≡ None) × ((bytes : List ℕ) × (c.ask.op ≡ WriteStripe bytes))) ⊎ MakesOn setting w c base
+abbrev pub MakesVersion : Setting → Views → World → Coordinator → Option Stamp → Type 0
+MakesVersion setting views w c base = ((base ≡ None) × ((bytes : List ℕ) × (c.ask.op ≡ WriteStripe bytes))) ⊎ MakesOn setting views w c base
 
 -- what an operation makes of its base's content
 abbrev pub made_content : Setting → World → Coordinator → Option Stamp → List ℕ
 made_content setting w c base = content_on setting.layout.block (w.contents c.ask.group.0 c.ask.stripe.0) c.ask.op base
 
 -- the write of a block modifies a version that a quorum has held, by what that block of it changes by
-pub record SendsChange (setting : Setting) (w : World) (c : Coordinator) (base : Option Stamp) (phase : Phase) (content : List ℕ) : Type 0 where
+pub record SendsChange (setting : Setting) (views : Views) (w : World) (c : Coordinator) (base : Option Stamp) (phase : Phase) (content : List ℕ) : Type 0 where
   pub version : Stamp
   pub base_is : base ≡ Some version
   pub j : ℕ
@@ -75,19 +76,19 @@ pub record SendsChange (setting : Setting) (w : World) (c : Coordinator) (base :
   pub op_is : c.ask.op ≡ WriteBlock j bytes
   pub below : stamp_below version c.stamp ≡ true
   pub made : IsMadeOrFirst w c.ask.group.0 c.ask.stripe.0 version
-  pub stands : Stands setting w c.ask.group.0 c.ask.stripe.0 version
+  pub stands : Stands setting views w c.ask.group.0 c.ask.stripe.0 version
   pub formed : (group : Group) → group_of setting.layout c.ask.group.0 ≡ Some group
       → IsContent group.m setting.layout.block (w.contents c.ask.group.0 c.ask.stripe.0 version)
   pub delta_is : content
       ≡ setting.code.delta (block_of setting.layout.block j (w.contents c.ask.group.0 c.ask.stripe.0 version)) bytes
 
 -- it sends its version whole, or what it changes of its base
-abbrev pub SendsVersion : Setting → World → Coordinator → Option Stamp → Phase → List ℕ → Type 0
-SendsVersion setting w c base phase content =
-    ((phase ≡ Stores) × (content ≡ made_content setting w c base)) ⊎ SendsChange setting w c base phase content
+abbrev pub SendsVersion : Setting → Views → World → Coordinator → Option Stamp → Phase → List ℕ → Type 0
+SendsVersion setting views w c base phase content =
+    ((phase ≡ Stores) × (content ≡ made_content setting w c base)) ⊎ SendsChange setting views w c base phase content
 
-module _ (setting : Setting) (sound : IsSound setting) (w : World) (stamps : Stamping) (me : BrickId) (c : Coordinator) (known : ℕ)
-    (books : Books setting w) (said : Said setting w stamps) (is : IsCall w me.0 c.call.seq c)
+module _ (setting : Setting) (views : Views) (sound : IsSound setting) (w : World) (stamps : Stamping) (me : BrickId) (c : Coordinator) (known : ℕ)
+    (books : Books setting w) (said : Said setting views w stamps) (is : IsCall w me.0 c.call.seq c)
     (more_known : (w.nodes me.0).known ≤ known) (base : Option Stamp) (phase : Phase) (content : List ℕ) where
   -- its group, and its members
   abbrev group : Group
@@ -204,7 +205,7 @@ module _ (setting : Setting) (sound : IsSound setting) (w : World) (stamps : Sta
       })
       (sym its.ask)
 
-  says : CallSays setting w stamps me.0 c.call.seq c
+  says : CallSays setting views w stamps me.0 c.call.seq c
   says = said.calls me.0 c.call.seq c is
 
   its_stamp : IsStamped stamps me.0 boot c.call.seq c.call.phase c.stamp
@@ -248,7 +249,7 @@ module _ (setting : Setting) (sound : IsSound setting) (w : World) (stamps : Sta
     -- no version of its stamp was made
     not_yet : (g s : ℕ) (u : Stamp) → u ≡ c.stamp → IsMadeOrFirst w g s u → ⊥
     not_yet g s u same is_made =
-        not_made_yet setting w stamps books said n o c.call.phase c.stamp its.operation_is unmade.1 own g s
+        not_made_yet setting views w stamps books said n o c.call.phase c.stamp its.operation_is unmade.1 own g s
         (subst (λ (t : Stamp). IsMadeOrFirst w g s t) same is_made)
 
     -- the contents of versions stay
@@ -300,18 +301,18 @@ module _ (setting : Setting) (sound : IsSound setting) (w : World) (stamps : Sta
     }
 
     grows : Grows w next stamps later
-    grows = operated_grows setting w stamps later me node more w.marks n o made contents keeps said.logged grow
+    grows = operated_grows setting views w stamps later me node more w.marks n o made contents keeps said.logged grow
 
     -- the version was made
     made_now : IsMadeOrFirst next o.ask.group.0 o.ask.stripe.0 c.stamp
     made_now = inr (n, made, put_same w.operations n (Some made), refl, refl, refl, refl)
 
     module _ (guarded : IsGuarded w c.ask.group.0 c.ask.stripe.0 group c.stamp) (floors : FloorsAtMost o group c.stamp)
-        (makes : MakesVersion setting w c base) (formed : IsContent group.m setting.layout.block given)
-        (sends : SendsVersion setting w c base phase content) where
+        (makes : MakesVersion setting views w c base) (formed : IsContent group.m setting.layout.block given)
+        (sends : SendsVersion setting views w c base phase content) where
       guarded_by : (other : Group) → group_of setting.layout c.ask.group.0 ≡ Some other → IsGuarded next c.ask.group.0 c.ask.stripe.0 other c.stamp
       guarded_by other other_is =
-          stays_guarded setting w next stamps later books grows c.ask.group.0 c.ask.stripe.0 other c.stamp
+          stays_guarded setting views w next stamps later books grows c.ask.group.0 c.ask.stripe.0 other c.stamp
           (subst (λ (z : Group). IsGuarded w c.ask.group.0 c.ask.stripe.0 z c.stamp) (same_group other other_is) guarded)
 
       -- the content that an operation makes of its base's
@@ -326,8 +327,8 @@ module _ (setting : Setting) (sound : IsSound setting) (w : World) (stamps : Sta
           ∙ ap (λ (z : List ℕ). after_op setting.layout.block c.ask.op z) (sym (kept c.ask.group.0 c.ask.stripe.0 v v_made))
 
       -- how its version was made
-      maker_of : (a : Ask) → c.ask ≡ a → MakesVersion setting w c base
-          → WritesWhole next (record made { ask = a }) c.stamp ⊎ ReadsBack setting next (record made { ask = a }) c.stamp
+      maker_of : (a : Ask) → c.ask ≡ a → MakesVersion setting views w c base
+          → WritesWhole next (record made { ask = a }) c.stamp ⊎ ReadsBack setting views next (record made { ask = a }) c.stamp
       maker_of a same (inl whole) =
           let bytes_are : contents c.ask.group.0 c.ask.stripe.0 c.stamp ≡ whole.1.0
           = given_now
@@ -339,22 +340,22 @@ module _ (setting : Setting) (sound : IsSound setting) (w : World) (stamps : Sta
                 ∙ ap (λ (bytes : List ℕ). WriteStripe bytes) (sym bytes_are ∙ ap (λ (z : Ask). contents z.group.0 z.stripe.0 c.stamp) same),
           )
       maker_of a same (inr back) = inr (subst
-          (λ (z : Ask). ReadsBack setting next (record made { ask = z }) c.stamp) same
+          (λ (z : Ask). ReadsBack setting views next (record made { ask = z }) c.stamp) same
           (record {
             base = back.version;
             base_is = back.base_is;
             op = back.op;
             below = back.below;
-            made = stays_made setting w next stamps later books grows c.ask.group.0 c.ask.stripe.0 back.version back.made;
+            made = stays_made setting views w next stamps later books grows c.ask.group.0 c.ask.stripe.0 back.version back.made;
             content = made_on back.version back.base_is back.made;
-            blocked = stay_blocked setting w next stamps later books grows c.ask.group.0 c.ask.stripe.0
+            blocked = stay_blocked setting views w next stamps later books grows c.ask.group.0 c.ask.stripe.0
                 (λ e. (stamp_below back.version e ≡ true) × (stamp_below e c.stamp ≡ true)) back.blocked;
           }))
 
-      operation_says : OperationSays setting next later n made
+      operation_says : OperationSays setting views next later n made
       operation_says =
-          let old : OperationSays setting next later n o
-          = stays_operation setting w next stamps later books grows n o its.operation_is (said.operations n o its.operation_is) in
+          let old : OperationSays setting views next later n o
+          = stays_operation setting views w next stamps later books grows n o its.operation_is (said.operations n o its.operation_is) in
           record {
             begin = old.begin;
             floors = old.floors;
@@ -363,7 +364,7 @@ module _ (setting : Setting) (sound : IsSound setting) (w : World) (stamps : Sta
             made = λ is_made. (c.stamp, c.call.phase, refl, stays_stamped stamps later grow o.brick.0 o.boot o.seq c.call.phase c.stamp own);
             maker = λ v is_made has.
                 let same : c.stamp ≡ v = cc in
-                subst (λ (t : Stamp). WritesWhole next made t ⊎ ReadsBack setting next made t) same (maker_of o.ask its.ask makes);
+                subst (λ (t : Stamp). WritesWhole next made t ⊎ ReadsBack setting views next made t) same (maker_of o.ask its.ask makes);
             content = λ v is_made has other other_is.
                 let same : c.stamp ≡ v = cc in
                 subst (λ (t : Stamp). IsContent other.m setting.layout.block (contents o.ask.group.0 o.ask.stripe.0 t)) same
@@ -377,7 +378,7 @@ module _ (setting : Setting) (sound : IsSound setting) (w : World) (stamps : Sta
                 how;
             version = λ v has.
                 let same : c.stamp ≡ v = cc in
-                subst (λ (t : Stamp). HasVersion setting next made t) same (record {
+                subst (λ (t : Stamp). HasVersion setting views next made t) same (record {
                   made = made_now;
                   reader = λ isnt. absurd (true≢false isnt);
                   guarded = λ other other_is.
@@ -409,7 +410,7 @@ module _ (setting : Setting) (sound : IsSound setting) (w : World) (stamps : Sta
 
       -- a request to a member to store the version
       maker_says : (k : ℕ) (member : BrickId) → slice_get group.members k ≡ Some member
-          → MakerSays setting next later me.0 member.0 d.call phase c.stamp
+          → MakerSays setting views next later me.0 member.0 d.call phase c.stamp
       maker_says k member at = record {
         operation = made;
         called = record {
@@ -433,9 +434,9 @@ module _ (setting : Setting) (sound : IsSound setting) (w : World) (stamps : Sta
 
       -- a write to a member
       write_says : (k : ℕ) (member : BrickId) → slice_get group.members k ≡ Some member → phase ≡ Stores → content ≡ given
-          → WriteSays setting next later me.0 member.0 d.call c.stamp (setting.code.encode group.m content (0 + k))
+          → WriteSays setting views next later me.0 member.0 d.call c.stamp (setting.code.encode group.m content (0 + k))
       write_says k member at stores whole = record {
-        maker = subst (λ (p : Phase). MakerSays setting next later me.0 member.0 d.call p c.stamp) stores (maker_says k member at);
+        maker = subst (λ (p : Phase). MakerSays setting views next later me.0 member.0 d.call p c.stamp) stores (maker_says k member at);
         is_block = λ other j other_is at_j.
             let place : k ≡ j = seat_same k j member other at other_is at_j in
             let zero : 0 + k ≡ j = omega arith in
@@ -447,7 +448,7 @@ module _ (setting : Setting) (sound : IsSound setting) (w : World) (stamps : Sta
       }
 
       -- what the write of a block changes at a seat
-      module _ (change : SendsChange setting w c base phase content) where
+      module _ (change : SendsChange setting views w c base phase content) where
         abbrev size : ℕ
         size = setting.layout.block
 
@@ -547,11 +548,11 @@ module _ (setting : Setting) (sound : IsSound setting) (w : World) (stamps : Sta
 
         -- a modification that is sent to a member
         modify_says : (k : ℕ) (member : BrickId) → slice_get group.members k ≡ Some member
-            → ModifySays setting next later me.0 member.0 d.call c.stamp change.version change.j (delta_at group.m change.j (0 + k) content)
+            → ModifySays setting views next later me.0 member.0 d.call c.stamp change.version change.j (delta_at group.m change.j (0 + k) content)
         modify_says k member at = record {
-          maker = subst (λ (p : Phase). MakerSays setting next later me.0 member.0 d.call p c.stamp) change.phase_is (maker_says k member at);
+          maker = subst (λ (p : Phase). MakerSays setting views next later me.0 member.0 d.call p c.stamp) change.phase_is (maker_says k member at);
           base_made = of_call (λ g s. IsMadeOrFirst next g s change.version)
-              (stays_made setting w next stamps later books grows c.ask.group.0 c.ask.stripe.0 change.version change.made);
+              (stays_made setting views w next stamps later books grows c.ask.group.0 c.ask.stripe.0 change.version change.made);
           changes = λ other seat other_is at_seat.
               let place : k ≡ seat = seat_same k seat member other at other_is at_seat in
               let zero : seat ≡ 0 + k = omega arith in
@@ -566,12 +567,12 @@ module _ (setting : Setting) (sound : IsSound setting) (w : World) (stamps : Sta
         }
 
         -- what is known of its base then
-        made_on_base : MadeOn setting next d change.version
+        made_on_base : MadeOn setting views next d change.version
         made_on_base = record {
           base_is = change.base_is;
           below = change.below;
-          base_made = stays_made setting w next stamps later books grows c.ask.group.0 c.ask.stripe.0 change.version change.made;
-          stands = stays_standing setting w next stamps later books grows c.ask.group.0 c.ask.stripe.0 change.version change.stands;
+          base_made = stays_made setting views w next stamps later books grows c.ask.group.0 c.ask.stripe.0 change.version change.made;
+          stands = stays_standing setting views w next stamps later books grows c.ask.group.0 c.ask.stripe.0 change.version change.stands;
           made = subst (λ (a : Ask). IsMadeOrFirst next a.group.0 a.stripe.0 c.stamp) (sym its.ask) made_now;
           content = made_on change.version change.base_is change.made;
         }
@@ -581,20 +582,20 @@ module _ (setting : Setting) (sound : IsSound setting) (w : World) (stamps : Sta
       d_in p =
           record { group = c.group; ask = c.ask; stamp = c.stamp; round = c.round; base = base; content = content; call = next_phase c.call; phase = p; counted = [] }
 
-      request_says : (k : ℕ) (member : BrickId) → slice_get group.members k ≡ Some member → SendsVersion setting w c base phase content
-          → RequestSays setting next later me.0 member.0 d.call (request_of setting.code d (0 + k))
+      request_says : (k : ℕ) (member : BrickId) → slice_get group.members k ≡ Some member → SendsVersion setting views w c base phase content
+          → RequestSays setting views next later me.0 member.0 d.call (request_of setting.code d (0 + k))
       unfolding request_of
       request_says k member at (inl whole) =
-          subst (λ (p : Phase). RequestSays setting next later me.0 member.0 d.call (request_of setting.code (d_in p) (0 + k))) (sym whole.0)
+          subst (λ (p : Phase). RequestSays setting views next later me.0 member.0 d.call (request_of setting.code (d_in p) (0 + k))) (sym whole.0)
           (write_says k member at whole.0 whole.1)
       request_says k member at (inr change) =
-          subst (λ (p : Phase). RequestSays setting next later me.0 member.0 d.call (request_of setting.code (d_in p) (0 + k))) (sym change.phase_is)
+          subst (λ (p : Phase). RequestSays setting views next later me.0 member.0 d.call (request_of setting.code (d_in p) (0 + k))) (sym change.phase_is)
           (modify_says change k member at)
 
-      packets : (k : ℕ) (packet : Packet) → slice_get more k ≡ Some packet → PacketSays setting next later packet
+      packets : (k : ℕ) (packet : Packet) → slice_get more k ≡ Some packet → PacketSays setting views next later packet
       packets k packet at =
           let sent = sent_to_member me d.call (request_of setting.code d) 0 c.group.members k packet at in
-          subst (λ (z : Packet). PacketSays setting next later z) (sym sent.2) (request_says k sent.0 sent.1 sends)
+          subst (λ (z : Packet). PacketSays setting views next later z) (sym sent.2) (request_says k sent.0 sent.1 sends)
 
       -- a phase that sends a version
       abbrev IsSending : Phase → Type 0
@@ -602,28 +603,28 @@ module _ (setting : Setting) (sound : IsSound setting) (w : World) (stamps : Sta
       IsSending Stores = Unit {0}
       IsSending p = ⊥
 
-      is_sending : SendsVersion setting w c base phase content → IsSending phase
+      is_sending : SendsVersion setting views w c base phase content → IsSending phase
       is_sending (inl whole) = subst (λ (p : Phase). IsSending p) (sym whole.0) tt
       is_sending (inr change) = subst (λ (p : Phase). IsSending p) (sym change.phase_is) tt
 
       other_phase : (p : Phase) → phase ≡ p → IsSending p
       other_phase p is = subst (λ (q : Phase). IsSending q) is (is_sending sends)
 
-      fits_phase : SendsVersion setting w c base phase content → FitsPhase phase c.ask.op
+      fits_phase : SendsVersion setting views w c base phase content → FitsPhase phase c.ask.op
       fits_phase (inl whole) = subst (λ (p : Phase). FitsPhase p c.ask.op) (sym whole.0) tt
       fits_phase (inr change) = subst (λ (p : Phase). FitsPhase p c.ask.op) (sym change.phase_is) (change.bytes, change.op_is)
 
-      stored_content : SendsVersion setting w c base phase content → phase ≡ Stores → content ≡ contents c.ask.group.0 c.ask.stripe.0 c.stamp
+      stored_content : SendsVersion setting views w c base phase content → phase ≡ Stores → content ≡ contents c.ask.group.0 c.ask.stripe.0 c.stamp
       stored_content (inl whole) stores = whole.1 ∙ sym given_now
       stored_content (inr change) stores = let bad : Modifies change.version change.j ≡ Stores = sym change.phase_is ∙ stores in cc
 
-      based_on : SendsVersion setting w c base phase content → (v : Stamp) → base_in phase ≡ Some v → MadeOn setting next d v
+      based_on : SendsVersion setting views w c base phase content → (v : Stamp) → base_in phase ≡ Some v → MadeOn setting views next d v
       based_on (inl whole) v has = let bad : None ≡ Some v = ap base_in (sym whole.0) ∙ has in cc
       based_on (inr change) v has =
           let same : Some change.version ≡ Some v = ap base_in (sym change.phase_is) ∙ has in
-          subst (λ (t : Stamp). MadeOn setting next d t) (same_Some change.version v same) (made_on_base change)
+          subst (λ (t : Stamp). MadeOn setting views next d t) (same_Some change.version v same) (made_on_base change)
 
-      d_says : CallSays setting next later me.0 c.call.seq d
+      d_says : CallSays setting views next later me.0 c.call.seq d
       d_says = record {
         begun = subst (λ (b : ℕ). IsBegun later me.0 b c.call.seq (c.call.phase + 1) phase c.stamp) (sym boot_now) begun_now;
         last = λ p less.
@@ -646,12 +647,12 @@ module _ (setting : Setting) (sound : IsSound setting) (w : World) (stamps : Sta
       }
 
       calls : (k : ℕ) (e : Coordinator) → node.calls k ≡ Some e
-          → (((w.nodes me.0).calls k ≡ Some e) × KeepsStamps stamps later me.0 boot k) ⊎ CallSays setting next later me.0 k e
+          → (((w.nodes me.0).calls k ≡ Some e) × KeepsStamps stamps later me.0 boot k) ⊎ CallSays setting views next later me.0 k e
       calls k e =
           put_each (λ j x. x ≡ Some e
-          → (((w.nodes me.0).calls j ≡ Some e) × KeepsStamps stamps later me.0 boot j) ⊎ CallSays setting next later me.0 j e)
+          → (((w.nodes me.0).calls j ≡ Some e) × KeepsStamps stamps later me.0 boot j) ⊎ CallSays setting views next later me.0 j e)
           (w.nodes me.0).calls c.call.seq (Some d)
-          (λ at. let same : d ≡ e = cc in inr (subst (λ (z : Coordinator). CallSays setting next later me.0 c.call.seq z) same d_says))
+          (λ at. let same : d ≡ e = cc in inr (subst (λ (z : Coordinator). CallSays setting views next later me.0 c.call.seq z) same d_says))
           (λ j other at. inl (at, stamps_other stamps me.0 boot c.call.seq (c.call.phase + 1) begun me.0 boot j (λ brick same. other same))) k
 
       -- what the stamps then say
@@ -669,12 +670,12 @@ module _ (setting : Setting) (sound : IsSound setting) (w : World) (stamps : Sta
           omega arith)
 
       -- the invariant holds when a version was made
-      pub said_made : IsSaid setting
+      pub said_made : IsSaid setting views
           (world_stepped setting w me (record { node = node; packets = more; told = Made c.call.seq c.stamp base ∷ []; answers = [] }))
       said_made =
-          subst (λ (z : World). IsSaid setting z) (sym next_is) (
+          subst (λ (z : World). IsSaid setting views z) (sym next_is) (
             later,
-            said_operated setting w stamps later me node more w.marks n o made contents books said grow keeps
+            said_operated setting views w stamps later me node more w.marks n o made contents books said grow keeps
                 (record {
                   stamps_say = say;
                   stamps_other = λ i b k other.

@@ -14,6 +14,7 @@ use Rattle.messages.specs.declared.requests.Request.{Request}
 use Rattle.messages.specs.declared.replies.Reply.{Reply}
 use Rattle.reg_model.specs.declared.marks.Mark.TheVariants.{Begin, End, Crash}
 use Rattle.fab_base.specs.Layouts.{Group}
+use Rattle.protocol.specs.Views.{Views, layout_views}
 use Rattle.protocol.specs.Settings.{Setting, IsSound}
 use Rattle.protocol.specs.Replicas.{handle}
 use Rattle.protocol.specs.Coordinators.{Coordinator, with_reply, once_full, counted_at, counts_at, on_reply}
@@ -343,13 +344,13 @@ tallied_first setting = record {
 }
 
 -- what is said of a world is what its messages should show
-messages_show : (setting : Setting) (w : World) (stamps : Stamping) → Books setting w → Said setting w stamps → MessagesShow w
-messages_show setting w stamps books said = record {
+messages_show : (setting : Setting) (views : Views) (w : World) (stamps : Stamping) → Books setting w → Said setting views w stamps → MessagesShow w
+messages_show setting views w stamps books said = record {
   later = λ call from to x sent. said.packets sent.0 (record { from = from; to = to; message = Message.Reply call (Reply.Later x) }) sent.1;
-  orders_alone = orders_alone setting w stamps books said;
-  in_round = λ i k c to t is. in_round setting w stamps books said (record { 0 = i }) to c t (at_call i k c is);
+  orders_alone = orders_alone setting views w stamps books said;
+  in_round = λ i k c to t is. in_round setting views w stamps books said (record { 0 = i }) to c t (at_call i k c is);
   counted = λ i k c is.
-      each_then (CountedSays setting w i c) (λ x. WasSent w
+      each_then (CountedSays setting views w i c) (λ x. WasSent w
       (record { from = x.brick; to = record { 0 = i }; message = Message.Reply c.call x.reply }))
       c.counted (λ x says. says.sent) (said.calls i k c is).counted;
 }
@@ -365,5 +366,5 @@ tallied setting events sound =
   where
     shows : (more : List Event) → MessagesShow (run setting more (first_world setting.layout))
     shows more =
-        let said : IsSaid setting (run setting more (first_world setting.layout)) = always_said setting more sound in
-        messages_show setting (run setting more (first_world setting.layout)) said.0 (books setting more) said.1
+        let said : IsSaid setting (layout_views setting.layout) (run setting more (first_world setting.layout)) = always_said setting (layout_views setting.layout) more sound in
+        messages_show setting (layout_views setting.layout) (run setting more (first_world setting.layout)) said.0 (books setting more) said.1

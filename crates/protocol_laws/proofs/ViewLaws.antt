@@ -50,27 +50,27 @@ module _ (setting : Setting) (w : World) (first : (i : ℕ) → IsInFirst settin
         sym (own_members (group_of setting.layout g))
         ∙ ap (λ (members : List BrickId). group_kept setting.layout members g) (sym (ap (λ (x : ℕ). views g x) is ∙ views_first g)) ∙ found
 
-module _ (setting : Setting) (views : Views) (w : World) (stamps : Stamping) (books : Books setting w) (said : Said setting w stamps)
+module _ (setting : Setting) (views : Views) (w : World) (stamps : Stamping) (books : Books setting w) (said : Said setting views w stamps)
     (follows : Follows setting.layout views w) where
   first : (i : ℕ) → IsInFirst setting.layout (w.nodes i)
   first = books.first
 
   -- what a request that was sent says
   sent_says : (call : Call) (from to : BrickId) (request : Request) → RequestSent w call from to request
-      → RequestSays setting w stamps from.0 to.0 call request
+      → RequestSays setting views w stamps from.0 to.0 call request
   sent_says call from to request sent = said.packets sent.0 (record { from = from; to = to; message = Message.Request call request }) sent.1
 
   -- the version that a reply tells has its content, and its call is of view 1
-  found_says : (from to : BrickId) (call : Call) (reply : Reply) (version : Version) → ReplySays setting w stamps from to call reply
-      → told_in reply ≡ Some version → ToldSays setting w call.group.0 call.stripe.0 from.0 version × (call.view.0 ≡ 1)
+  found_says : (from to : BrickId) (call : Call) (reply : Reply) (version : Version) → ReplySays setting views w stamps from to call reply
+      → told_in reply ≡ Some version → ToldSays setting views w call.group.0 call.stripe.0 from.0 version × (call.view.0 ≡ 1)
   found_says from to call (Reply.Found order (Some found)) version says told =
       let same : found ≡ version = same_Some found version told in
-      (subst (λ (z : Version). ToldSays setting w call.group.0 call.stripe.0 from.0 z) same says.says, says.called.view)
+      (subst (λ (z : Version). ToldSays setting views w call.group.0 call.stripe.0 from.0 z) same says.says, says.called.view)
   found_says from to call (Reply.OrderedRead found) version says told = (says.says version told, says.called.view)
   found_says from to call reply version says told = cc
 
   -- a member is sent a request to store a version at its seat
-  stored_at : (call : Call) (from to : BrickId) (phase : Phase) (t : Stamp) (group : Group) → MakerSays setting w stamps from.0 to.0 call phase t
+  stored_at : (call : Call) (from to : BrickId) (phase : Phase) (t : Stamp) (group : Group) → MakerSays setting views w stamps from.0 to.0 call phase t
       → group_in setting.layout views call.group.0 call.view.0 ≡ Some group
       → (group_of setting.layout call.group.0 ≡ Some group) × ((k : ℕ) × (seat_in group.members to.0 ≡ Some k))
   stored_at call from to phase t group says found =
@@ -81,7 +81,7 @@ module _ (setting : Setting) (views : Views) (w : World) (stamps : Stamping) (bo
   pub one_content : OneContent setting views w
   one_content = record {
     sent = λ call from to t block group found sent.
-        let says : WriteSays setting w stamps from.0 to.0 call t block = sent_says call from to (Request.Write t block) sent in
+        let says : WriteSays setting views w stamps from.0 to.0 call t block = sent_says call from to (Request.Write t block) sent in
         let at = stored_at call from to Stores t group says.maker found in (
           at.1.0,
           seat_within group to.0 at.1.0 at.1.1,
@@ -89,7 +89,7 @@ module _ (setting : Setting) (views : Views) (w : World) (stamps : Stamping) (bo
           says.is_block group at.1.0 at.0 at.1.1,
         );
     changed = λ call from to t base j delta group found sent.
-        let says : ModifySays setting w stamps from.0 to.0 call t base j delta = sent_says call from to (Request.Modify t base j delta) sent in
+        let says : ModifySays setting views w stamps from.0 to.0 call t base j delta = sent_says call from to (Request.Modify t base j delta) sent in
         let at = stored_at call from to (Modifies base j) t group says.maker found in
         let change = says.changes group at.1.0 at.0 at.1.1 in (
           at.1.0,
@@ -102,7 +102,7 @@ module _ (setting : Setting) (views : Views) (w : World) (stamps : Stamping) (bo
         (said.packets sent.0 (record { from = from; to = to; message = Message.Reply call reply }) sent.1) told in
         ⊎_elim
         (λ (none : version.block ≡ []). inl none)
-        (λ (whole : IsBlockOf setting w call.group.0 call.stripe.0 from.0 version.stamp version.block).
+        (λ (whole : IsBlockOf setting views w call.group.0 call.stripe.0 from.0 version.stamp version.block).
         inr (whole group seat (group_first setting w first views follows call.group.0 call.view.0 group says.1 found) at))
         says.0.block;
     kept = λ g e s i seat k version group found seat_is at. ⊎_elim
@@ -120,10 +120,10 @@ module _ (setting : Setting) (views : Views) (w : World) (stamps : Stamping) (bo
       none_there k version is = let never : ⊥ = cc in never
 
   -- a stamp under which a member is asked to store is guarded
-  stored_guarded : (call : Call) (from to : BrickId) (phase : Phase) (t : Stamp) (group : Group) → MakerSays setting w stamps from.0 to.0 call phase t
+  stored_guarded : (call : Call) (from to : BrickId) (phase : Phase) (t : Stamp) (group : Group) → MakerSays setting views w stamps from.0 to.0 call phase t
       → group_in setting.layout views call.group.0 (view_of t) ≡ Some group → IsGuarded w call.group.0 call.stripe.0 group t
   stored_guarded call from to phase t group says found =
-      let view : view_of t ≡ 1 = made_view setting w stamps books said call.group.0 call.stripe.0 t (inr (
+      let view : view_of t ≡ 1 = made_view setting views w stamps books said call.group.0 call.stripe.0 t (inr (
         w.numbers from.0 call.boot call.seq,
         says.operation,
         says.called.is,
@@ -136,26 +136,26 @@ module _ (setting : Setting) (views : Views) (w : World) (stamps : Stamping) (bo
 
   pub writes_guarded : WritesAreGuarded setting views w
   writes_guarded call from to (Request.Write z block) t group found sent stores =
-      let says : WriteSays setting w stamps from.0 to.0 call z block = sent_says call from to (Request.Write z block) sent in
+      let says : WriteSays setting views w stamps from.0 to.0 call z block = sent_says call from to (Request.Write z block) sent in
       stored_guarded call from to Stores t group
-      (subst (λ (u : Stamp). MakerSays setting w stamps from.0 to.0 call Stores u) (same_Some z t stores) says.maker) found
+      (subst (λ (u : Stamp). MakerSays setting views w stamps from.0 to.0 call Stores u) (same_Some z t stores) says.maker) found
   writes_guarded call from to (Request.Modify z base j delta) t group found sent stores =
-      let says : ModifySays setting w stamps from.0 to.0 call z base j delta = sent_says call from to (Request.Modify z base j delta) sent in
+      let says : ModifySays setting views w stamps from.0 to.0 call z base j delta = sent_says call from to (Request.Modify z base j delta) sent in
       stored_guarded call from to (Modifies base j) t group
-      (subst (λ (u : Stamp). MakerSays setting w stamps from.0 to.0 call (Modifies base j) u) (same_Some z t stores) says.maker) found
+      (subst (λ (u : Stamp). MakerSays setting views w stamps from.0 to.0 call (Modifies base j) u) (same_Some z t stores) says.maker) found
   writes_guarded call from to request t group found sent stores = cc
 
   -- a version that was collected is of view 1, and a quorum has held it
-  collected_stands : (g s : ℕ) (c : Stamp) → WasCollected w g s c → (view_of c ≡ 1) × Stands setting w g s c
+  collected_stands : (g s : ℕ) (c : Stamp) → WasCollected w g s c → (view_of c ≡ 1) × Stands setting views w g s c
   collected_stands g s c was =
       let says : CollectSays w was.from.0 was.call c = sent_says was.call was.from was.to (Request.Collect c) was.sent in
       let n : ℕ = w.numbers was.from.0 was.call.boot was.call.seq in
       let o : Operation = says.operation in
       let group : o.ask.group.0 ≡ g = says.called.group ∙ was.group in
       let stripe : o.ask.stripe.0 ≡ s = says.called.stripe ∙ was.stripe in (
-        made_view setting w stamps books said g s c (inr (n, o, says.called.is, group, stripe, says.made, says.version)),
-        subst (λ (h : ℕ). Stands setting w h s c) group
-            (subst (λ (r : ℕ). Stands setting w o.ask.group.0 r c) stripe
+        made_view setting views w stamps books said g s c (inr (n, o, says.called.is, group, stripe, says.made, says.version)),
+        subst (λ (h : ℕ). Stands setting views w h s c) group
+            (subst (λ (r : ℕ). Stands setting views w o.ask.group.0 r c) stripe
             ((said.operations n o says.called.is).stands c says.version (inr says.answered))),
       )
 
@@ -208,7 +208,7 @@ module _ (setting : Setting) (views : Views) (w : World) (stamps : Stamping) (bo
   pub bases_newest : BasesAreNewest setting views w
   bases_newest n o t b is made version base = ⊎_elim
       (λ (whole : WritesWhole w o t). absurd (let none : Some b ≡ None = sym base ∙ whole.0 in let never : ⊥ = cc in never))
-      (λ (back : ReadsBack setting w o t).
+      (λ (back : ReadsBack setting views w o t).
       let same : back.base ≡ b = same_Some back.base b (sym back.base_is ∙ base) in
       subst (λ (z : Stamp). ((bytes : List ℕ) → o.ask.op ≡ WriteStripe bytes → ⊥)
       × (stamp_below z t ≡ true)
@@ -224,7 +224,7 @@ module _ (setting : Setting) (views : Views) (w : World) (stamps : Stamping) (bo
     where
       made_most : (u : Stamp) → IsMadeOrFirst w o.ask.group.0 o.ask.stripe.0 u → u.view.0 ≤ 1
       made_most u is_made =
-          let view : view_of u ≡ 1 = made_view setting w stamps books said o.ask.group.0 o.ask.stripe.0 u is_made in omega arith
+          let view : view_of u ≡ 1 = made_view setting views w stamps books said o.ask.group.0 o.ask.stripe.0 u is_made in omega arith
 
 -- every run follows the layout's members: no brick has learnt others
 pub follows_layout : EveryRunFollowsTheLayout

@@ -24,6 +24,7 @@ use Rattle.reg_model.proofs.Chains.{each_next_from_made}
 use Rattle.reg_model.proofs.EntryOrder.{entry_order}
 use Rattle.reg_model.proofs.Walk.{walk_is_strict}
 use Rattle.fab_base.specs.Layouts.{Group, group_of}
+use Rattle.protocol.specs.Views.{Views}
 use Rattle.protocol.specs.Settings.{Setting}
 use Rattle.protocol.specs.Worlds.{World, Operation}
 use Rattle.protocol.specs.Happenings.{is_of, entries_to, was_answered, writes, is_told, base_of, ascending, Effect, effect_of, walk_of, happenings_of}
@@ -91,7 +92,7 @@ reader_after : (reader : Bool) (k n : ℕ) → turn_below reader k true n ≡ fa
 reader_after false k n h = absurd (let never : true ≡ false = h in cc)
 reader_after true k n h = ltb-false k n h
 
-module _ (setting : Setting) (w : World) (g s : ℕ) (books : Books setting w) (facts : QuorumFacts setting w) where
+module _ (setting : Setting) (views : Views) (w : World) (g s : ℕ) (books : Books setting w) (facts : QuorumFacts setting views w) where
   -- the stripe's marks, its entries in order, what the sweep finds of them, and the walk
   abbrev marks : List Mark
   marks = stripe_marks g s w.marks
@@ -166,7 +167,7 @@ module _ (setting : Setting) (w : World) (g s : ℕ) (books : Books setting w) (
 
   -- each entry of the walk is one of the stripe's
   walk_ours : All IsOurs walk
-  walk_ours = told_all w.operations IsOurs entries (entries_ours setting w g s books facts)
+  walk_ours = told_all w.operations IsOurs entries (entries_ours setting views w g s books facts)
 
   -- each entry of the walk stands among all entries
   walk_entries : All (Contains entries) walk
@@ -187,7 +188,7 @@ module _ (setting : Setting) (w : World) (g s : ℕ) (books : Books setting w) (
   reads_right : (n : ℕ) (o : Operation) (t : Stamp) (l : StripeLife n o) → IsOperation w n o → is_of g s o ≡ true → o.version ≡ Some t
       → IsRead (read_of setting.layout.block o.ask.op (w.contents g s t)) (data_of l.life.ending)
   reads_right n o t l is of version =
-      let at : (o.ask.group.0 ≡ g) × (o.ask.stripe.0 ≡ s) = stripe_of setting w g s books facts o of in
+      let at : (o.ask.group.0 ≡ g) × (o.ask.stripe.0 ≡ s) = stripe_of setting views w g s books facts o of in
       let same : w.contents o.ask.group.0 o.ask.stripe.0 t ≡ w.contents g s t
       = ap (λ (x : ℕ). w.contents x o.ask.stripe.0 t) at.0 ∙ ap (λ (y : ℕ). w.contents g y t) at.1 in
       reads_data (read_of setting.layout.block o.ask.op (w.contents g s t)) l.life.ending
@@ -229,15 +230,15 @@ module _ (setting : Setting) (w : World) (g s : ℕ) (books : Books setting w) (
   walk_versions k d lt =
       let e : Entry = get_or walk k d in
       let ours : IsOurs e = walk_ours k d lt in
-      let effective = All-contains (λ (t : Stamp). IsEffective (IsAnsweredVersion setting w g s books facts) base t) effect.versions e.stamp
-      (versions_effective setting w g s books facts) (told_versions w.operations entries k d lt) in
+      let effective = All-contains (λ (t : Stamp). IsEffective (IsAnsweredVersion setting views w g s books facts) base t) effect.versions e.stamp
+      (versions_effective setting views w g s books facts) (told_versions w.operations entries k d lt) in
       ⊎_elim
-      (λ (above : stamp_below first_stamp e.stamp ≡ true). inl ((are_effective setting w g s books facts).complete e.stamp effective above))
+      (λ (above : stamp_below first_stamp e.stamp ≡ true). inl ((are_effective setting views w g s books facts).complete e.stamp effective above))
       (λ (not_above : stamp_below first_stamp e.stamp ≡ false). inr (
         sym (stamp_neither_below first_stamp e.stamp not_above (stamp_below_first e.stamp)),
         ⊎_elim (λ (reads : e.reader ≡ true). reads)
             (λ (maker : e.reader ≡ false).
-            absurd (both_ways (stamp_below first_stamp e.stamp) not_above (maker_facts setting w g s books facts e ours maker).later))
+            absurd (both_ways (stamp_below first_stamp e.stamp) not_above (maker_facts setting views w g s books facts e ours maker).later))
             (cases_Bool e.reader),
       ))
       (cases_Bool (stamp_below first_stamp e.stamp))
@@ -249,16 +250,16 @@ module _ (setting : Setting) (w : World) (g s : ℕ) (books : Books setting w) (
       (by facts_of.how)
     where
       mine : IsOurs r
-      mine = All-contains IsOurs entries r (entries_ours setting w g s books facts) has
+      mine = All-contains IsOurs entries r (entries_ours setting views w g s books facts) has
 
-      facts_of : MakerFacts setting w mine.operation r.stamp
-      facts_of = maker_facts setting w g s books facts r mine maker
+      facts_of : MakerFacts setting views w mine.operation r.stamp
+      facts_of = maker_facts setting views w g s books facts r mine maker
 
       its : StripeLife r.operation mine.operation
       its = stripe_life r.operation mine.operation mine.is mine.of
 
       at : (mine.operation.ask.group.0 ≡ g) × (mine.operation.ask.stripe.0 ≡ s)
-      at = stripe_of setting w g s books facts mine.operation mine.of
+      at = stripe_of setting views w g s books facts mine.operation mine.of
 
       content_of : (t : Stamp) → w.contents mine.operation.ask.group.0 mine.operation.ask.stripe.0 t ≡ w.contents g s t
       content_of t = ap (λ (x : ℕ). w.contents x mine.operation.ask.stripe.0 t) at.0 ∙ ap (λ (y : ℕ). w.contents g y t) at.1
@@ -280,10 +281,10 @@ module _ (setting : Setting) (w : World) (g s : ℕ) (books : Books setting w) (
           )
 
       -- what was read back is the version before
-      base_is_u : (says : BaseSays setting w mine.operation r.stamp) → says.base ≡ u
+      base_is_u : (says : BaseSays setting views w mine.operation r.stamp) → says.base ≡ u
       base_is_u says =
           let is : base r.stamp ≡ Some says.base
-          = base_is setting w g s books facts r has maker ∙ ap (λ (o : Option Operation). base_of o) mine.is ∙ says.base_is in
+          = base_is setting views w g s books facts r has maker ∙ ap (λ (o : Option Operation). base_of o) mine.is ∙ says.base_is in
           ⊎_elim
           (λ (none : base v ≡ None). absurd (let never : None ≡ Some says.base = sym none ∙ ap (λ (t : Stamp). base t) (sym stamp) ∙ is in cc))
           (λ (some : base v ≡ Some u). same_Some says.base u (sym is ∙ ap (λ (t : Stamp). base t) stamp ∙ some))
@@ -293,14 +294,14 @@ module _ (setting : Setting) (w : World) (g s : ℕ) (books : Books setting w) (
       unmade : mine.operation.answered ≡ false → writes mine.operation.ask.op ≡ false → IsMade walk r.stamp → ⊥
       unmade unanswered reads (k, e, lt, is, made) =
           let e_has : Contains entries e = All-contains (Contains entries) walk e walk_entries (k, lt, is) in
-          let one : e.operation ≡ r.operation = one_maker setting w g s books facts e r e_has has made.0 maker made.1 in
+          let one : e.operation ≡ r.operation = one_maker setting views w g s books facts e r e_has has made.0 maker made.1 in
           let told : is_told (w.operations e.operation) ≡ true
           = All-contains (λ (x : Entry). is_told (w.operations x.operation) ≡ true) walk e (told_told w.operations entries) (k, lt, is) in
           let same : is_told (Some mine.operation) ≡ true
           = sym (ap (λ (o : Option Operation). is_told o) (ap w.operations one ∙ mine.is)) ∙ told in
           both_ways (mine.operation.answered || writes mine.operation.ask.op) (or_from _ _ unanswered reads) same
 
-      by : WritesWhole w mine.operation r.stamp ⊎ BaseSays setting w mine.operation r.stamp → Follows setting.layout.block marks
+      by : WritesWhole w mine.operation r.stamp ⊎ BaseSays setting views w mine.operation r.stamp → Follows setting.layout.block marks
           (w.contents g s) walk u r.stamp
       by (inl whole) =
           made_from (or_right mine.operation.answered _ (ap (λ (x : Op). writes x) whole.1))
@@ -321,19 +322,19 @@ module _ (setting : Setting) (w : World) (g s : ℕ) (books : Books setting w) (
           (cases_Bool (is_told (Some mine.operation)))
 
   -- each effective version came so from the one before it
-  follows : (u v : Stamp) → IsEffective (IsAnsweredVersion setting w g s books facts) base v → IsMadeOn base u v → stamp_below first_stamp v ≡ true
+  follows : (u v : Stamp) → IsEffective (IsAnsweredVersion setting views w g s books facts) base v → IsMadeOn base u v → stamp_below first_stamp v ≡ true
       → Follows setting.layout.block marks (w.contents g s) walk u v
   follows u v effective on above =
-      let has : Contains effect.versions v = complete setting w g s books facts v effective above in
-      let made : MadeVersion setting w g s books facts v = version_made setting w g s books facts v has above in
-      let swept = maker_swept setting w g s books facts v has (entry_of made.number made.operation v) (maker_entry setting w g s books facts v made)
-      (maker_reads setting w g s books facts v made) refl in
+      let has : Contains effect.versions v = complete setting views w g s books facts v effective above in
+      let made : MadeVersion setting views w g s books facts v = version_made setting views w g s books facts v has above in
+      let swept = maker_swept setting views w g s books facts v has (entry_of made.number made.operation v) (maker_entry setting views w g s books facts v made)
+      (maker_reads setting views w g s books facts v made) refl in
       follows_by u v on swept.0 swept.1 swept.2 swept.3 swept.4
 
   each_follows : EachNext (Follows setting.layout.block marks (w.contents g s) walk) versions
   each_follows k d inside =
-      let are : AreEffective (IsAnsweredVersion setting w g s books facts) base versions = are_effective setting w g s books facts in
-      each_next_from_made (IsAnsweredVersion setting w g s books facts) base (base_facts setting w g s books facts)
+      let are : AreEffective (IsAnsweredVersion setting views w g s books facts) base versions = are_effective setting views w g s books facts in
+      each_next_from_made (IsAnsweredVersion setting views w g s books facts) base (base_facts setting views w g s books facts)
       (λ (u v : Stamp). stamp_below first_stamp v ≡ true → Follows setting.layout.block marks (w.contents g s) walk u v) versions are
       (λ u v effective on above. follows u v effective on above) k d inside
       (above_first _ _ (are.ascend k d inside))
@@ -352,7 +353,7 @@ module _ (setting : Setting) (w : World) (g s : ℕ) (books : Books setting w) (
           let version = (books.operations n o.0 o.1).answered_version was in
           let e : Entry = entry_of n o.0 version.0 in
           let swept : IsSwept w.operations effect e = answered_swept w.operations entries e
-          (has_entry setting w g s books facts n o.0 version.0 o.1 o.2 version.1)
+          (has_entry setting views w g s books facts n o.0 version.0 o.1 o.2 version.1)
           (ap (λ (x : Option Operation). was_answered x) o.1 ∙ was) in
           Contains-number walk e (swept.told (ap (λ (x : Option Operation). is_told x) o.1 ∙ or_left o.0.answered _ was))
 
@@ -424,10 +425,10 @@ module _ (setting : Setting) (w : World) (g s : ℕ) (books : Books setting w) (
   walk_facts group is = record {
     ascending = IsSortedBy-from_order walk walk_order;
     once = numbers_distinct walk walk_apart;
-    versions_ascend = (are_effective setting w g s books facts).ascend;
+    versions_ascend = (are_effective setting views w g s books facts).ascend;
     of_versions = walk_versions;
     one_maker = λ stamp a b a_has b_has a_makes b_makes.
-        one_maker setting w g s books facts a b (All-contains (Contains entries) walk a walk_entries a_has)
+        one_maker setting views w g s books facts a b (All-contains (Contains entries) walk a walk_entries a_has)
         (All-contains (Contains entries) walk b walk_entries b_has) a_makes.0 b_makes.0 (a_makes.1 ∙ sym b_makes.1);
     turns = walk_turns;
     first_is_zero = facts.first g s group is;

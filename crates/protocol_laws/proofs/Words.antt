@@ -9,6 +9,7 @@ use Rattle.fab_base.specs.declared.asks.Op.TheVariants.{ReadBlock, WriteBlock, R
 use Rattle.fab_base.specs.declared.answers.Answer.{Answer}
 use Rattle.fab_base.specs.declared.answers.Answer.TheVariants.{Data, Done, Aborted}
 use Rattle.fab_base.specs.Layouts.{Group, group_of}
+use Rattle.protocol.specs.Views.{Views}
 use Rattle.protocol.specs.Settings.{Setting}
 use Rattle.reg_model.specs.Registers.{block_of, read_of}
 use Rattle.protocol.specs.Nodes.{has_block}
@@ -19,7 +20,7 @@ use Rattle.protocol_laws.proofs.Books.{Books, OperationBooks, IsOperation}
 use Rattle.protocol.proofs.Blocks.{block_room, block_long}
 use Rattle.protocol_laws.proofs.Said.{Stamping, Said, IsMadeOrFirst, EndShows}
 
-module _ (setting : Setting) (w : World) (stamps : Stamping) (books : Books setting w) (said : Said setting w stamps) where
+module _ (setting : Setting) (views : Views) (w : World) (stamps : Stamping) (books : Books setting w) (said : Said setting views w stamps) where
   -- the content of a version that was made, or of the first, is that of m blocks
   content_long : (g s : ℕ) (t : Stamp) (group : Group) → group_of setting.layout g ≡ Some group → IsMadeOrFirst w g s t
       → length (w.contents g s t) ≡ group.m * setting.layout.block
