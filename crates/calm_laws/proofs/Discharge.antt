@@ -1,4 +1,6 @@
 -- What is known of the world in which an operation begins to run alone holds in every world that a run reaches.
+use Rattle.fab_base.proofs.StampOrder.{stamp_neither_below, stamp_below_first}
+use Rattle.protocol_laws.proofs.ViewLaws.{layout_group, follows_layout}
 use Rattle.protocol.specs.Calms.{IsCalm}
 use Rattle.protocol.specs.declared.phases.Phase.{Phase}
 use Rattle.fab_base.specs.declared.asks.Op.{Op}
@@ -28,9 +30,9 @@ use Rattle.protocol_laws.proofs.BooksEvents.{books}
 use Rattle.protocol_laws.proofs.Blocking.{was_kept}
 use Rattle.protocol_laws.proofs.FirstViews.{group_first, others_empty}
 use Rattle.protocol_laws.proofs.Logs.{IsKept, IsUnder, held_stands, nothing_kept, LogAscends}
-use Rattle.protocol_laws.proofs.Said.{Stamping, Said, Stands, WasCollected, IsMadeOrFirst, IsKnown, IsStamped}
+use Rattle.protocol_laws.proofs.Said.{Stamping, Said, Stands, WasCollected, IsMadeOrFirst, IsKnown, IsStamped, IsBottom}
 use Rattle.protocol_laws.proofs.SaidAlways.{always_said}
-use Rattle.protocol_laws.proofs.OwnStamps.{not_made_yet}
+use Rattle.protocol_laws.proofs.OwnStamps.{not_made_yet, call_one}
 use Rattle.protocol_laws.proofs.Parts.{part_of}
 use Rattle.calm_laws.specs.Laws.{EncodesBlocks, CalmOperationsEnd, most_records}
 use Rattle.calm_laws.proofs.Known.{Known, KnownCall, KnownMessages, KnownLogs, repeated}
@@ -67,8 +69,18 @@ module _ (setting : Setting) (sound : IsSound setting) (encodes : EncodesBlocks 
   ask : c.ask ≡ o.ask
   ask = its.ask ∙ ap (λ (z : Operation). z.ask) the_operation
 
+  -- the layout's members keep its group, in view 1
+  call_group : group_of setting.layout c.call.group.0 ≡ Some c.group
+  call_group = sym (layout_group setting.layout c.call.group.0 c.call.view.0) ∙ (said.calls o.brick.0 o.seq c call).group
+
+  asked_group : group_of setting.layout c.ask.group.0 ≡ Some c.group
+  asked_group = ap (λ g. group_of setting.layout g.0) (sym its.call_group) ∙ call_group
+
+  view : c.call.view.0 ≡ 1
+  view = call_one setting (layout_views setting.layout) w stamps books said o.brick.0 o.seq c call
+
   group_same : its_books.group ≡ c.group
-  group_same = same_Some its_books.group c.group (sym its_books.group_is ∙ ap (λ (a : Ask). group_of setting.layout a.group.0) (sym ask) ∙ its.group_is)
+  group_same = same_Some its_books.group c.group (sym its_books.group_is ∙ ap (λ (a : Ask). group_of setting.layout a.group.0) (sym ask) ∙ asked_group)
 
   known_call : KnownCall setting w n o c
   known_call = record {
@@ -78,10 +90,10 @@ module _ (setting : Setting) (sound : IsSound setting) (encodes : EncodesBlocks 
     boot = its.call_boot ∙ boot;
     seq = its.call_seq;
     of_group = its.call_group;
-    view = its.call_view;
+    view = view;
     stripe = its.call_stripe;
-    group_is = its.group_is;
-    groups = λ i. group_first setting.layout (w.nodes i) c.ask.group.0 (books.first i) ∙ its.group_is;
+    group_is = asked_group;
+    groups = λ i. group_first setting.layout (w.nodes i) c.ask.group.0 (books.first i) ∙ asked_group;
     within = subst (λ (a : Ask). a.stripe.0 < c.group.stripes) (sym ask) (subst (λ (z : Group). o.ask.stripe.0 < z.stripes) group_same its_books.stripe);
     block_fits =
         subst (λ (a : Ask). has_block c.group.m a.op ≡ true) (sym ask)
@@ -89,7 +101,7 @@ module _ (setting : Setting) (sound : IsSound setting) (encodes : EncodesBlocks 
     length_fits =
         subst (λ (a : Ask). has_length c.group.m setting.layout.block a.op ≡ true) (sym ask)
         (subst (λ (z : Group). has_length z.m setting.layout.block o.ask.op ≡ true) group_same its_books.length_fits);
-    stamp_view = its.stamp_view;
+    stamp_view = its.stamp_view ∙ view;
     stamp_known = its.stamp_known.1;
     phase = fresh.phase;
     number_of_phase = fresh.number;
@@ -107,7 +119,7 @@ module _ (setting : Setting) (sound : IsSound setting) (encodes : EncodesBlocks 
 
   -- its stripe's part at a brick
   part : (i : ℕ) → replica_at (w.nodes i) c.call ≡ part_of w c.call.group.0 c.call.stripe.0 i
-  part i = ap (λ (e : ℕ). (w.nodes i).replicas c.call.group.0 e c.call.stripe.0) its.call_view
+  part i = ap (λ (e : ℕ). (w.nodes i).replicas c.call.group.0 e c.call.stripe.0) view
 
   -- the lowest version of a log, where it has one
   abbrev lowest_of : List Version → Stamp
@@ -116,9 +128,6 @@ module _ (setting : Setting) (sound : IsSound setting) (encodes : EncodesBlocks 
 
   abbrev lowest : ℕ → Stamp
   lowest i = lowest_of (part_of w c.call.group.0 c.call.stripe.0 i).log
-
-  call_group : group_of setting.layout c.call.group.0 ≡ Some c.group
-  call_group = ap (λ g. group_of setting.layout g.0) its.call_group ∙ its.group_is
 
   -- a collected version stands
   collected_stands : (s : Stamp) → WasCollected w c.call.group.0 c.call.stripe.0 s
@@ -130,7 +139,8 @@ module _ (setting : Setting) (sound : IsSound setting) (encodes : EncodesBlocks 
       let stands : Stands setting (layout_views setting.layout) w maker.ask.group.0 maker.ask.stripe.0 s
       = (said.operations m maker says.called.is).stands s says.version (inr says.answered) in
       subst (λ (g : ℕ). Stands setting (layout_views setting.layout) w g c.call.stripe.0 s) (says.called.group ∙ was.group)
-      (subst (λ (t : ℕ). Stands setting (layout_views setting.layout) w maker.ask.group.0 t s) (says.called.stripe ∙ was.stripe) stands) c.group call_group
+      (subst (λ (t : ℕ). Stands setting (layout_views setting.layout) w maker.ask.group.0 t s) (says.called.stripe ∙ was.stripe) stands) c.group
+      (layout_group setting.layout c.call.group.0 (view_of s) ∙ call_group)
 
   lowest_stands : (i : ℕ) → (lowest i ≡ first_stamp)
       ⊎ (quorum_of c.group ≤ count (length c.group.members) (λ seat. w.held (brick_at c.group seat) c.call.group.0 c.call.stripe.0 (lowest i)))
@@ -140,7 +150,10 @@ module _ (setting : Setting) (sound : IsSound setting) (encodes : EncodesBlocks 
           ⊎ (quorum_of c.group ≤ count (length c.group.members) (λ seat. w.held (brick_at c.group seat) c.call.group.0 c.call.stripe.0 (lowest_of log)))
       by [] none = inl refl
       by (x ∷ log) some = ⊎_elim
-          (λ (first : x.stamp ≡ first_stamp). inl first)
+          (λ (bottom : IsBottom w c.call.group.0 1 c.call.stripe.0 i x.stamp). inl (⊎_elim
+          (λ (above : stamp_below first_stamp x.stamp ≡ true). absurd (bottom first_stamp refl above (said.first_held c.call.group.0 c.call.stripe.0 i)))
+          (λ (isnt : stamp_below first_stamp x.stamp ≡ false). stamp_neither_below x.stamp first_stamp (stamp_below_first x.stamp) isnt)
+          (cases_Bool (stamp_below first_stamp x.stamp))))
           (λ (was : WasCollected w c.call.group.0 c.call.stripe.0 x.stamp). inr (collected_stands x.stamp was))
           (said.lowest c.call.group.0 1 c.call.stripe.0 i x log some)
 
@@ -164,7 +177,7 @@ module _ (setting : Setting) (sound : IsSound setting) (encodes : EncodesBlocks 
         (λ (there : is_held t (part_of w c.call.group.0 c.call.stripe.0 i).log ≡ true).
         inl (subst (λ (r : Replica). is_held t r.log ≡ true) (sym (part i)) there))
         (λ (under : IsUnder t (part_of w c.call.group.0 c.call.stripe.0 i).log). inr (below t (part_of w c.call.group.0 c.call.stripe.0 i).log under))
-        (was_kept w said.logged c.call.group.0 c.call.stripe.0 i t (held_view i t held) held);
+        (was_kept w said.logged c.call.group.0 1 c.call.stripe.0 i t (held_view i t held) held);
     top_view = λ i.
         subst (λ (r : Replica). (top_of r).view.0 ≤ 1) (sym (part i))
         (known_most (top_of (part_of w c.call.group.0 c.call.stripe.0 i)) (said.tops c.call.group.0 1 c.call.stripe.0 i));
@@ -174,7 +187,8 @@ module _ (setting : Setting) (sound : IsSound setting) (encodes : EncodesBlocks 
         (cases_Bool (is_held c.stamp (replica_at (w.nodes i) c.call).log));
     blocks = λ i seat k version seat_is at_k.
         ap (λ (l : List ℕ). length l)
-        ((said.logs c.call.group.0 1 c.call.stripe.0 i k version (ap (λ (r : Replica). slice_get r.log k) (sym (part i)) ∙ at_k)).block c.group seat call_group seat_is)
+        ((said.logs c.call.group.0 1 c.call.stripe.0 i k version (ap (λ (r : Replica). slice_get r.log k) (sym (part i)) ∙ at_k)).block c.group seat
+        (layout_group setting.layout c.call.group.0 1 ∙ call_group) seat_is)
         ∙ encodes c.group.m (w.contents c.call.group.0 c.call.stripe.0 version.stamp) seat;
     short = λ i.
         let inside : length (part_of w c.call.group.0 c.call.stripe.0 i).log ≤ (w.nodes i).live + 1
@@ -232,7 +246,7 @@ pub known_of : (setting : Setting) (events : List Event) (n : ℕ) (bricks : Lis
     → Known setting (run setting events (first_world setting.layout)) n calm.operation calm.coordinator
 known_of setting events n bricks sound encodes small calm =
     let w : World = run setting events (first_world setting.layout) in
-    let said = always_said setting (layout_views setting.layout) events sound in
+    let said = always_said setting (layout_views setting.layout) events sound (follows_layout setting events sound) in
     let always = always_fresh setting events in
     let at : IsOpenAt w n calm.coordinator = opens_at w n calm.coordinator calm.open_is in
     let fresh : IsFresh setting w n calm.coordinator = always.1 n calm.coordinator calm.open_is calm.untouched in

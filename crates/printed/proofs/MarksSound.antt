@@ -1,4 +1,5 @@
 -- The marks of a run hold under its layout, and each has a spelling.
+use Rattle.protocol_laws.proofs.ViewLaws.{follows_layout}
 use Rattle.std.proofs.Common.{◌≡◌, ℕ, zero, suc, ◌*◌, ◌<◌, ◌≤◌, Bool, true, nat_lt, nat_eq, ◌&&◌, List, [], ◌∷◌, length, take, drop, replicate, Option, Some, None, refl, sym, ap, ◌∙◌, subst, arith, take-append-drop, inl, inr}
 use Rattle.std.specs.Prelude.{slice_get, slice_index}
 use Rattle.std.proofs.lemmas.Bool.{and_parts, ltb-true, eqb-true}
@@ -193,7 +194,8 @@ module _ (layout : Layout) (is : IsLayout layout) where
     data_bytes : (k p n : ℕ) (bytes : List ℕ) → slice_get w.marks k ≡ Some (End p n (Data bytes))
         → are_bytes bytes ≡ true
     data_bytes k p n bytes at =
-        let said = always_said (coding layout) (layout_views layout) events (coding_is_sound layout is) in
+        let said = always_said (coding layout) (layout_views layout) events (coding_is_sound layout is)
+        (follows_layout (coding layout) events (coding_is_sound layout is)) in
         let shown = said.1.ends k p n (Data bytes) at in
         let own = (books.books (coding layout) events).operations n shown.operation shown.is in
         read_bytes shown.operation.ask.op bytes

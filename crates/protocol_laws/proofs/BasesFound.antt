@@ -1,7 +1,5 @@
 -- A write of a block that reads its base back finds it.
-use Rattle.std.proofs.Common.{◌≡◌, ℕ, ◌++◌, ◌∷◌, [], false, Option, Some, None, is_some, refl, sym, ◌∙◌, subst}
-use Rattle.std.proofs.lemmas.Option.{same_Some}
-use Rattle.fab_base.specs.Layouts.{Group, seat_in}
+use Rattle.std.proofs.Common.{◌≡◌, ℕ, ◌++◌, ◌∷◌, [], false, Option, Some, None, is_some, refl, sym, subst}
 use Rattle.protocol.specs.Views.{Views}
 use Rattle.protocol.specs.Settings.{Setting, IsSound}
 use Rattle.protocol.specs.declared.phases.Counted.{Counted}
@@ -45,7 +43,5 @@ bases_found setting views sound w stamps books said i k seat c base from reply i
     new_says = record {
       sent = sent;
       answers = facts.answers;
-      seat = λ group group_is.
-          subst (λ (z : Group). seat_in z.members from.0 ≡ Some seat)
-          (same_Some c.group group (sym its.group_is ∙ group_is)) facts.seat_is;
+      seat = facts.seat_is;
     }

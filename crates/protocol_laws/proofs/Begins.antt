@@ -13,8 +13,8 @@ use Rattle.reg_model.specs.declared.marks.Mark.{Mark}
 use Rattle.reg_model.specs.declared.marks.Mark.TheVariants.{Begin, End}
 use Rattle.reg_model.specs.Marks.{life_of, position_of}
 use Rattle.reg_model.specs.Walk.{last_of}
-use Rattle.fab_base.specs.Layouts.{Group, group_of}
-use Rattle.protocol.specs.Views.{Views}
+use Rattle.fab_base.specs.Layouts.{Group}
+use Rattle.protocol.specs.Views.{Views, group_in, view_of}
 use Rattle.protocol.specs.Settings.{Setting}
 use Rattle.protocol.specs.Replicas.{top_of, Replica}
 use Rattle.protocol.specs.declared.phases.Phase.{Phase}
@@ -55,7 +55,8 @@ is_first ReadStripe = tt
 is_first (WriteStripe bytes) = tt
 
 module _ (setting : Setting) (views : Views) (w : World) (stamps : Stamping) (me : BrickId) (ask : Ask) (group : Group) (books : Books setting w)
-    (said : Said setting views w stamps) (group_is : group_of setting.layout ask.group.0 ≡ Some group) where
+    (said : Said setting views w stamps)
+    (group_is : group_in setting.layout views ask.group.0 (view_at (w.nodes me.0) ask.group.0) ≡ Some group) where
   -- the brick before
   abbrev old : Node
   old = w.nodes me.0
@@ -168,7 +169,6 @@ module _ (setting : Setting) (views : Views) (w : World) (stamps : Stamping) (me
     seq = refl;
     group = refl;
     stripe = refl;
-    view = view_first setting.layout (w.nodes me.0) ask.group.0 (books.first me.0);
   }
 
   -- how far a brick had come when the operation began: as far as it had learnt, or as its part had
@@ -269,6 +269,7 @@ module _ (setting : Setting) (views : Views) (w : World) (stamps : Stamping) (me
       (λ at. let same : c ≡ d = cc in
       inr (subst (λ (z : Coordinator). CallSays setting views next later me.0 c.call.seq z) same
       (record {
+        group = group_is;
         begun = subst (λ (b : ℕ). IsBegun later me.0 b c.call.seq c.call.phase c.phase c.stamp) (sym boot_now) begun_now;
         last = λ p less.
             subst (λ (b : ℕ). later me.0 b c.call.seq p ≡ None) (sym boot_now)
@@ -289,33 +290,33 @@ module _ (setting : Setting) (views : Views) (w : World) (stamps : Stamping) (me
 
   -- a version that was there is guarded when the operation begins
   floors_at_least : (a : ℕ) (earlier : Operation) (u : Stamp) → IsOperation w a earlier → earlier.ask.group.0 ≡ ask.group.0
-      → earlier.ask.stripe.0 ≡ ask.stripe.0 → earlier.version ≡ Some u → FloorsAtLeast new group u
-  floors_at_least a earlier u is groups stripes version =
-      let guarded = ((said.operations a earlier is).version u version).guarded group (ap (group_of setting.layout) groups ∙ group_is) in
-      subst (λ (s : ℕ). IsGuarded w ask.group.0 s group u) stripes
-      (subst (λ (g : ℕ). IsGuarded w g earlier.ask.stripe.0 group u) groups guarded)
+      → earlier.ask.stripe.0 ≡ ask.stripe.0 → earlier.version ≡ Some u
+      → (z : Group) → group_in setting.layout views ask.group.0 (view_of u) ≡ Some z → FloorsAtLeast new z u
+  floors_at_least a earlier u is groups stripes version z z_is =
+      let guarded = ((said.operations a earlier is).version u version).guarded z
+      (ap (λ (g : ℕ). group_in setting.layout views g (view_of u)) groups ∙ z_is) in
+      subst (λ (s : ℕ). IsGuarded w ask.group.0 s z u) stripes
+      (subst (λ (g : ℕ). IsGuarded w g earlier.ask.stripe.0 z u) groups guarded)
 
   in_order : IsInOrder setting views next
   in_order a b earlier late u earlier_is late_is groups stripes version =
       put_each (λ i x. x ≡ Some earlier
-      → ((other : Group) → group_of setting.layout late.ask.group.0 ≡ Some other → FloorsAtLeast late other u)
+      → ((other : Group) → group_in setting.layout views late.ask.group.0 (view_of u) ≡ Some other → FloorsAtLeast late other u)
       ⊎ (late.begin ≤ last_of (life_of next.marks i))) w.operations (w.begun + 1) (Some new)
       (λ is. let same : new ≡ earlier = cc in let none : None ≡ Some u = ap (λ (z : Operation). z.version) same ∙ version in cc)
       (λ i other is.
       put_each (λ j x. x ≡ Some late
-      → ((other : Group) → group_of setting.layout late.ask.group.0 ≡ Some other → FloorsAtLeast late other u)
+      → ((other : Group) → group_in setting.layout views late.ask.group.0 (view_of u) ≡ Some other → FloorsAtLeast late other u)
       ⊎ (late.begin ≤ last_of (life_of next.marks i))) w.operations (w.begun + 1) (Some new)
       (λ its.
       let same : new ≡ late = cc in
       inl (λ z z_is.
-      let at : group ≡ z
-      = (let e : Some group ≡ Some z = sym group_is ∙ ap (λ (y : Operation). group_of setting.layout y.ask.group.0) same ∙ z_is in cc) in
       subst (λ (y : Operation). FloorsAtLeast y z u) same
-      (subst (λ (y : Group). FloorsAtLeast new y u) at
       (floors_at_least i earlier u is (groups ∙ ap (λ (y : Operation). y.ask.group.0) (sym same))
-      (stripes ∙ ap (λ (y : Operation). y.ask.stripe.0) (sym same)) version))))
+      (stripes ∙ ap (λ (y : Operation). y.ask.stripe.0) (sym same)) version z
+      (ap (λ (y : Operation). group_in setting.layout views y.ask.group.0 (view_of u)) same ∙ z_is))))
       (λ j apart its. ⊎_elim
-      (λ (floors : (z : Group) → group_of setting.layout late.ask.group.0 ≡ Some z → FloorsAtLeast late z u). inl floors)
+      (λ (floors : (z : Group) → group_in setting.layout views late.ask.group.0 (view_of u) ≡ Some z → FloorsAtLeast late z u). inl floors)
       (λ (before : late.begin ≤ last_of (life_of w.marks i)). inr (omega (arith, before, lasts i)))
       (said.order i j earlier late u is its groups stripes version))
       b late_is)

@@ -14,7 +14,6 @@ use Rattle.protocol.specs.Worlds.{World, first_world}
 use Rattle.protocol.specs.Views.{view_of}
 use Rattle.fab_base.specs.Layouts.{brick_at}
 use Rattle.protocol_laws.specs.Laws.{part_in, AtQuorum, IsBlocked, NeverFalls, AddsNothingBelow, top_in, OrdersRise}
-use Rattle.protocol_laws.proofs.Parts.{part_of}
 use Rattle.protocol_laws.proofs.Logs.{LogAscends, IsKept, below_above}
 
 -- Logs ascend; what is in them was held; and what was held is in them, or was dropped from below all that they have.
@@ -31,13 +30,13 @@ first_fits setting = record {
   kept = λ i g s t held. inl held;
 }
 
--- what is in a part of view 1 was held, where it is of that view, and what was held is kept there
-pub held_in : (w : World) → LogsFit w → (g s i : ℕ) (t : Stamp) → view_of t ≡ 1 → is_held t (part_of w g s i).log ≡ true
+-- what is in a part of a view was held, where it is of that view, and what was held is kept there
+pub held_in : (w : World) → LogsFit w → (g e s i : ℕ) (t : Stamp) → view_of t ≡ e → is_held t (part_in w g e s i).log ≡ true
     → w.held i g s t ≡ true
-held_in w fit g s i t view held = fit.held i g s t (ap (λ (e : ℕ). is_held t (part_in w g e s i).log) view ∙ held)
+held_in w fit g e s i t view held = fit.held i g s t (ap (λ (x : ℕ). is_held t (part_in w g x s i).log) view ∙ held)
 
-pub was_kept : (w : World) → LogsFit w → (g s i : ℕ) (t : Stamp) → view_of t ≡ 1 → w.held i g s t ≡ true → IsKept t (part_of w g s i).log
-was_kept w fit g s i t view held = subst (λ (e : ℕ). IsKept t (part_in w g e s i).log) view (fit.kept i g s t held)
+pub was_kept : (w : World) → LogsFit w → (g e s i : ℕ) (t : Stamp) → view_of t ≡ e → w.held i g s t ≡ true → IsKept t (part_in w g e s i).log
+was_kept w fit g e s i t view held = subst (λ (x : ℕ). IsKept t (part_in w g x s i).log) view (fit.kept i g s t held)
 
 -- from one world to the next no part falls, what a log kept it goes on keeping, what is new is at or above the part's stamps, and logs go on ascending
 pub record LogsStay (w next : World) : Type 0 where

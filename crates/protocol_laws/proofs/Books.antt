@@ -95,15 +95,14 @@ pub record CallBooks (setting : Setting) (w : World) (i k : ℕ) (c : Coordinato
   pub boot : operation.boot ≡ (w.nodes i).boot
   pub seq : operation.seq ≡ k
   pub ask : c.ask ≡ operation.ask
-  pub group_is : group_of setting.layout c.ask.group.0 ≡ Some c.group
   pub stamp_brick : c.stamp.brick ≡ operation.brick
-  pub stamp_view : c.stamp.view.0 ≡ 1
+  pub stamp_view : c.stamp.view.0 ≡ c.call.view.0
   pub stamp_boot : c.stamp.boot ≡ (w.nodes i).boot
   pub stamp_known : (1 ≤ c.stamp.time) × (c.stamp.time ≤ (w.nodes i).known)
   pub call_boot : c.call.boot ≡ (w.nodes i).boot
   pub call_seq : c.call.seq ≡ k
   pub call_group : c.call.group ≡ c.ask.group
-  pub call_view : c.call.view.0 ≡ 1
+  pub call_view : 1 ≤ c.call.view.0
   pub call_stripe : c.call.stripe ≡ c.ask.stripe
   pub rounds : (1 ≤ c.round) × (c.round ≤ most_rounds)
   pub in_round : InRound c c.phase

@@ -169,15 +169,14 @@ module _ (setting : Setting) (w : World) (brick : BrickId) (now : ℕ) (ask : As
     boot = sym (same_boots i);
     seq = refl;
     ask = refl;
-    group_is = group_is;
     stamp_brick = refl;
-    stamp_view = view_first setting.layout node ask.group.0 (books.first i);
+    stamp_view = refl;
     stamp_boot = sym (same_boots i);
     stamp_known = (let e : (later.nodes i).known ≡ c.stamp.time = own_known in (omega arith, omega arith));
     call_boot = sym (same_boots i);
     call_seq = refl;
     call_group = refl;
-    call_view = view_first setting.layout node ask.group.0 (books.first i);
+    call_view = (let one = view_first setting.layout node ask.group.0 (books.first i) in omega (arith, one));
     call_stripe = refl;
     rounds = (omega arith, omega arith);
     in_round = fresh_round c ask.op refl refl;

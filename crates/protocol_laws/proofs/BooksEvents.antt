@@ -286,10 +286,10 @@ module _ (setting : Setting) (w : World) (replies : Replies) (me : BrickId) (now
 
   -- the stamp that an operation has stays its own
   stamp_stays : (time : ℕ) (d : Option Coordinator) (t : Stamp) → t ≡ c.stamp → node.known ≤ time
-      → IsBookedStamp (put w.nodes i (with_call node time node.busy k d) i).known mine.operation t
-  stamp_stays time d t same later = subst (λ (x : Stamp). IsBookedStamp (put w.nodes i (with_call node time node.busy k d) i).known mine.operation x)
+      → IsBookedStamp (put w.nodes i (with_call node time node.busy k d) i).known c.call.view.0 mine.operation t
+  stamp_stays time d t same later = subst (λ (x : Stamp). IsBookedStamp (put w.nodes i (with_call node time node.busy k d) i).known c.call.view.0 mine.operation x)
       (sym same)
-      (subst (λ (x : ℕ). IsBookedStamp x mine.operation c.stamp) (own_known time node.busy d) (record {
+      (subst (λ (x : ℕ). IsBookedStamp x c.call.view.0 mine.operation c.stamp) (own_known time node.busy d) (record {
         brick = mine.stamp_brick;
         view = mine.stamp_view;
         boot = mine.stamp_boot ∙ sym mine.boot;
@@ -298,20 +298,20 @@ module _ (setting : Setting) (w : World) (replies : Replies) (me : BrickId) (now
 
   -- a fresh stamp is the operation's, and no time falls
   stamp_fresh : (time : ℕ) (d : Option Coordinator) (t : Stamp) → fresh ≡ Some t → t.time ≤ time
-      → IsBookedStamp (put w.nodes i (with_call node time node.busy k d) i).known mine.operation t
+      → IsBookedStamp (put w.nodes i (with_call node time node.busy k d) i).known c.call.view.0 mine.operation t
   stamp_fresh time d t is later =
       let facts = fresh_is me c.call.view now node.boot known t is in
       let at : t.time ≡ next_time now known = ap (λ (x : Stamp). x.time) facts.0 in
-      subst (λ (x : ℕ). IsBookedStamp x mine.operation t) (own_known time node.busy d) (record {
+      subst (λ (x : ℕ). IsBookedStamp x c.call.view.0 mine.operation t) (own_known time node.busy d) (record {
         brick = ap (λ (x : Stamp). x.brick) facts.0 ∙ brick_of me mine.operation.brick (sym mine.brick);
-        view = ap (λ (x : Stamp). x.view.0) facts.0 ∙ mine.call_view;
+        view = ap (λ (x : Stamp). x.view.0) facts.0;
         boot = ap (λ (x : Stamp). x.boot) facts.0 ∙ sym mine.boot;
         time = (omega (arith, facts.2, at), omega arith);
       })
 
   -- the stamp and the rounds of the next phase
   stamp_sends : (d : Coordinator) → ReordersFits fresh then' d ⊎ (RecoversFits then' d ⊎ RebuildsFits then' d)
-      → IsBookedStamp (put w.nodes i (with_call node (max known d.stamp.time) node.busy k (Some d)) i).known mine.operation d.stamp
+      → IsBookedStamp (put w.nodes i (with_call node (max known d.stamp.time) node.busy k (Some d)) i).known c.call.view.0 mine.operation d.stamp
   stamp_sends d (inl again) = stamp_fresh (max known d.stamp.time) (Some d) d.stamp again.stamp (omega arith)
   stamp_sends d (inr (inl goes)) = stamp_stays (max known d.stamp.time) (Some d) d.stamp goes.stamp (omega arith)
   stamp_sends d (inr (inr goes)) = stamp_stays (max known d.stamp.time) (Some d) d.stamp goes.stamp (omega arith)

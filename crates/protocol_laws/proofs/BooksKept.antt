@@ -82,7 +82,6 @@ call_kept setting w later i k c books up boot number operation known stays begun
       boot = books.boot ∙ sym boot;
       seq = books.seq;
       ask = books.ask;
-      group_is = books.group_is;
       stamp_brick = books.stamp_brick;
       stamp_view = books.stamp_view;
       stamp_boot = books.stamp_boot ∙ sym boot;

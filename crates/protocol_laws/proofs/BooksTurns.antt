@@ -25,10 +25,10 @@ pub record SameAsk (o later : Operation) : Type 0 where
   pub ask : later.ask ≡ o.ask
   pub answered : later.answered ≡ o.answered
 
--- a stamp of an operation and its boot, whose brick knows this time
-pub record IsBookedStamp (known : ℕ) (o : Operation) (t : Stamp) : Type 0 where
+-- a stamp of an operation and its boot in view e, whose brick knows this time
+pub record IsBookedStamp (known e : ℕ) (o : Operation) (t : Stamp) : Type 0 where
   pub brick : t.brick ≡ o.brick
-  pub view : t.view.0 ≡ 1
+  pub view : t.view.0 ≡ e
   pub boot : t.boot ≡ o.boot
   pub time : (1 ≤ t.time) × (t.time ≤ known)
 
@@ -38,7 +38,7 @@ pub record Turned (w : World) (i k : ℕ) (c d : Coordinator) (before o : Operat
   pub was : IsCall w i k c
   pub operation_was : IsOperation w (number_of w i k) before
   pub same : SameOperation c d
-  pub stamp : IsBookedStamp (nodes i).known before d.stamp
+  pub stamp : IsBookedStamp (nodes i).known c.call.view.0 before d.stamp
   pub rounds : (1 ≤ d.round) × (d.round ≤ most_rounds)
   pub in_round : InRound d d.phase
   pub same_ask : SameAsk before o
@@ -110,16 +110,14 @@ module _ (setting : Setting) (w : World) (i k : ℕ) (c d : Coordinator) (before
         boot = turned.same_ask.boot ∙ boot;
         seq = turned.same_ask.seq ∙ seq;
         ask = turned.same.ask ∙ call.ask ∙ ap (λ (x : Operation). x.ask) same_before ∙ sym turned.same_ask.ask;
-        group_is = ap (λ a. Rattle.fab_base.specs.Layouts.group_of setting.layout a.group.0) turned.same.ask ∙ call.group_is
-            ∙ ap (λ (z : Group). Some z) (sym turned.same.members);
         stamp_brick = turned.stamp.brick ∙ sym turned.same_ask.brick;
-        stamp_view = turned.stamp.view;
+        stamp_view = turned.stamp.view ∙ sym (ap (λ v. v.0) turned.same.view);
         stamp_boot = turned.stamp.boot ∙ boot;
         stamp_known = turned.stamp.time;
         call_boot = turned.same.boot ∙ call.call_boot ∙ sym (turned.keeps i).boot;
         call_seq = turned.same.seq ∙ call.call_seq;
         call_group = turned.same.group ∙ call.call_group ∙ sym (ap (λ a. a.group) turned.same.ask);
-        call_view = ap (λ v. v.0) turned.same.view ∙ call.call_view;
+        call_view = subst (λ v. 1 ≤ v.0) (sym turned.same.view) call.call_view;
         call_stripe = turned.same.stripe ∙ call.call_stripe ∙ sym (ap (λ a. a.stripe) turned.same.ask);
         rounds = turned.rounds;
         in_round = turned.in_round;

@@ -1,8 +1,8 @@
 -- What the replies that count show of the operation, when they are a quorum.
-use Rattle.protocol.specs.Views.{Views}
+use Rattle.protocol.specs.Views.{Views, group_in, view_of}
 use Rattle.protocol_laws.proofs.Blocking.{blocked_never_stands}
 use Rattle.fab_base.specs.declared.asks.Ask.{Ask}
-use Rattle.protocol_laws.proofs.OwnStamps.{maker_stamp, operation_unique}
+use Rattle.protocol_laws.proofs.OwnStamps.{maker_stamp, operation_unique, call_in, m_is}
 use Rattle.std.proofs.Common.{◌≡◌, ℕ, zero, suc, ◌-◌, ◌*◌, ◌/◌, ◌<◌, ◌≤◌, ◌⊎◌, inl, inr, true, false, not, List, [], ◌∷◌, length, replicate, Option, Some, None, refl, sym, ap, ◌∙◌, subst, ⊎_elim, arith, Bool}
 use Rattle.std.specs.Prelude.{nat_eq}
 use Rattle.std.specs.Option.{option_map}
@@ -35,7 +35,7 @@ use Rattle.protocol.specs.Coordinators.{Coordinator, may_be_found, may_be_base, 
 use Rattle.protocol.specs.Worlds.{World, Operation, zero_content, number_of}
 use Rattle.fab_base.specs.Layouts.{brick_at}
 use Rattle.protocol_laws.specs.Laws.{AtQuorum, stamp_stored, IsGuarded, IsBlocked, top_in}
-use Rattle.protocol_laws.proofs.Books.{Books, CallBooks, IsOperation, IsCall, IsMade, MadeInPhase}
+use Rattle.protocol_laws.proofs.Books.{Books, CallBooks, IsOperation, IsCall, IsMade, MadeInPhase, OperationBooks}
 use Rattle.protocol_laws.proofs.Logs.{IsWithin}
 use Rattle.protocol_laws.proofs.Said.{Stamping, Said, IsBegun, IsMadeOrFirst, FloorsAtMost, IsCalled, OrderedSays, OrderedReadSays, FoundSays, ReplySays, CountedSays, EachCounted, AreOnce, IsBlockOf, RequestSays, look_of, want_of, is_looked, IsPassedOver, CollectSays, Stands, IsStamped, WritesWhole, ReadsBack}
 use Rattle.fab_base.proofs.Seats.{seat_within, brick_at_seat}
@@ -49,17 +49,18 @@ zero_bytes : (n : ℕ) → are_bytes (replicate n 0) ≡ true
 zero_bytes zero = refl
 zero_bytes (suc n) = zero_bytes n
 
--- the version that was found, by the operation of a read
-pub record FoundAt (setting : Setting) (w : World) (j : ℕ) (o : Operation) (order : Stamp) (version : Version) : Type 0 where
+-- the version that was found in view e, by the operation of a read
+pub record FoundAt (setting : Setting) (views : Views) (w : World) (e j : ℕ) (o : Operation) (order : Stamp) (version : Version) : Type 0 where
   pub top : stamp_below (top_in w o.ask.group.0 o.ask.stripe.0 j) (stamp_max order version.stamp) ≡ false
   pub floor : stamp_below (stamp_max order version.stamp) (o.floor j) ≡ false
   pub held : w.held j o.ask.group.0 o.ask.stripe.0 version.stamp ≡ true
   pub made : IsMadeOrFirst w o.ask.group.0 o.ask.stripe.0 version.stamp
-  pub block : (group : Group) (seat : ℕ) → group_of setting.layout o.ask.group.0 ≡ Some group → seat_in group.members j ≡ Some seat
+  pub of : view_of version.stamp ≡ e
+  pub block : (group : Group) (seat : ℕ) → group_in setting.layout views o.ask.group.0 e ≡ Some group → seat_in group.members j ≡ Some seat
       → (version.block ≡ []) ⊎ (version.block ≡ setting.code.encode group.m (w.contents o.ask.group.0 o.ask.stripe.0 version.stamp) seat)
 
 found_at : (setting : Setting) (views : Views) (w : World) (j i : ℕ) (call : Call) (o : Operation) (order : Stamp) (version : Version)
-    → IsOperation w (w.numbers i call.boot call.seq) o → FoundSays setting views w j i call order version → FoundAt setting w j o order version
+    → IsOperation w (w.numbers i call.boot call.seq) o → FoundSays setting views w j i call order version → FoundAt setting views w call.view.0 j o order version
 found_at setting views w j i call o order version is says =
     let same : says.operation ≡ o = (let e : Some says.operation ≡ Some o = sym says.called.is ∙ is in cc) in
     let group : o.ask.group.0 ≡ call.group.0 = ap (λ (p : Operation). p.ask.group.0) (sym same) ∙ says.called.group in
@@ -73,10 +74,11 @@ found_at setting views w j i call o order version is says =
           (subst (λ (s : ℕ). w.held j call.group.0 s version.stamp ≡ true) (sym stripe) says.held);
       made = subst (λ (g : ℕ). IsMadeOrFirst w g o.ask.stripe.0 version.stamp) (sym group)
           (subst (λ (s : ℕ). IsMadeOrFirst w call.group.0 s version.stamp) (sym stripe) says.says.made);
+      of = says.says.of;
       block = λ its seat its_is at. ⊎_elim
           (λ (none : version.block ≡ []). inl none)
-          (λ (block : IsBlockOf setting views w call.group.0 call.stripe.0 j version.stamp version.block).
-          inr (block its seat (ap (group_of setting.layout) (sym group) ∙ its_is) at
+          (λ (block : IsBlockOf setting views w call.group.0 call.view.0 call.stripe.0 j version.stamp version.block).
+          inr (block its seat (ap (λ (g : ℕ). group_in setting.layout views g call.view.0) (sym group) ∙ its_is) at
           ∙ ap (λ content. setting.code.encode its.m content seat)
           (ap (λ (g : ℕ). w.contents g call.stripe.0 version.stamp) (sym group) ∙ ap (λ (s : ℕ). w.contents o.ask.group.0 s version.stamp)
           (sym stripe))))
@@ -255,8 +257,8 @@ module _ (setting : Setting) (views : Views) (sound : IsSound setting) (w : Worl
   abbrev group : Group
   group = c.group
 
-  group_is : group_of setting.layout c.ask.group.0 ≡ Some group
-  group_is = (books.calls me.0 c.call.seq c is).group_is
+  group_is : group_in setting.layout views c.call.group.0 c.call.view.0 ≡ Some group
+  group_is = (said.calls me.0 c.call.seq c is).group
 
   abbrev its : CallBooks setting w me.0 c.call.seq c
   its = books.calls me.0 c.call.seq c is
@@ -265,8 +267,20 @@ module _ (setting : Setting) (views : Views) (sound : IsSound setting) (w : Worl
   abbrev pub its_operation : Operation
   its_operation = (books.calls me.0 c.call.seq c is).operation
 
-  its_group : group_of setting.layout its_operation.ask.group.0 ≡ Some group
-  its_group = ap (λ a. group_of setting.layout a.group.0) (sym its.ask) ∙ group_is
+  -- of the view of its call
+  its_group : (v : Stamp) → view_of v ≡ c.call.view.0 → group_in setting.layout views its_operation.ask.group.0 (view_of v) ≡ Some group
+  its_group v = call_in setting views w stamps books said me.0 c.call.seq c is its_operation.ask.group.0 v (ap (λ a. a.group.0) (sym its.ask))
+
+  -- the layout's group, which has as many data blocks
+  its_books : OperationBooks setting w (number_of w me.0 c.call.seq) its_operation
+  its_books = books.operations (number_of w me.0 c.call.seq) its_operation its.operation_is
+
+  m_same : its_books.group.m ≡ group.m
+  m_same = m_is setting views w stamps books said me.0 c.call.seq c is its_operation.ask.group.0 its_books.group (ap (λ a. a.group.0) (sym its.ask)) its_books.group_is
+
+  -- its members are within the limits
+  pub its_limits : IsWithinLimits group.m (length group.members)
+  its_limits = said.limits c.call.group.0 c.call.view.0 group group_is
 
   -- a counted reply says what its packet says
   counted_says : (x : Counted) → CountedSays setting views w me.0 c x → ReplySays setting views w stamps x.brick (record { 0 = me.0 }) c.call x.reply
@@ -276,7 +290,7 @@ module _ (setting : Setting) (views : Views) (sound : IsSound setting) (w : Worl
   -- the seat of a counted reply, and its brick
   seat_fits : (x : Counted) → CountedSays setting views w me.0 c x → (x.seat < length group.members) × (brick_at group x.seat ≡ x.brick.0)
   seat_fits x says =
-      let at : seat_in group.members x.brick.0 ≡ Some x.seat = says.seat group group_is in
+      let at : seat_in group.members x.brick.0 ≡ Some x.seat = says.seat in
       (seat_within group x.brick.0 x.seat at, brick_at_seat group x.brick.0 x.seat at)
 
   -- its stripe is the call's
@@ -436,8 +450,9 @@ module _ (setting : Setting) (views : Views) (sound : IsSound setting) (w : Worl
     pub promises : PromisesAt x
     pub found : Option Version
     pub found_is : told_in x.reply ≡ found
-    pub newest : (d : Stamp) → held_at x.seat d ≡ true → is_looked look d ≡ true → IsWithin found d
+    pub newest : (d : Stamp) → view_of d ≡ c.call.view.0 → held_at x.seat d ≡ true → is_looked look d ≡ true → IsWithin found d
     pub looked : (version : Version) → found ≡ Some version → is_looked look version.stamp ≡ true
+    pub of : (version : Version) → found ≡ Some version → view_of version.stamp ≡ c.call.view.0
     pub held : (version : Version) → found ≡ Some version → held_at x.seat version.stamp ≡ true
     pub made : (version : Version) → found ≡ Some version → IsMadeOrFirst w its_operation.ask.group.0 its_operation.ask.stripe.0 version.stamp
     pub block : (version : Version) → found ≡ Some version → is_wanted (want_of c.phase) x.seat ≡ true
@@ -455,11 +470,11 @@ module _ (setting : Setting) (views : Views) (sound : IsSound setting) (w : Worl
   -- What was collected under the operation's stamp is looked for, since no quorum holds what it does not look for below that, and its own version
   -- was not collected: the operation is open.
   none_passed : (look : Look) → look_of c.phase c.stamp ≡ Some look → (d : Stamp) → is_looked look d ≡ true
-      → IsPassedOver w c.call.group.0 c.call.stripe.0 look c.stamp d → ⊥
+      → IsPassedOver w c.call.group.0 c.call.view.0 c.call.stripe.0 look c.stamp d → ⊥
   none_passed look looks d looked passed = ⊎_elim
       (λ (less : stamp_below passed.at c.stamp ≡ true).
       blocked_never_stands w its_operation.ask.group.0 its_operation.ask.stripe.0 group passed.at (blocked look looks looked passed.unlooked less)
-      (stands group its_group))
+      (stands group (its_group passed.at passed.of)))
       (λ (above : stamp_below passed.at c.stamp ≡ false). not_own (stamp_neither_below passed.at c.stamp above passed.most))
       (cases_Bool (stamp_below passed.at c.stamp))
     where
@@ -510,7 +525,8 @@ module _ (setting : Setting) (views : Views) (sound : IsSound setting) (w : Worl
           absurd (false≢true (sym unlooked ∙ subst (λ (t : Stamp). stamp_below passed.at t ≡ true) (sym own) less)))
           (λ (lower : c.phase ≡ Descends bound).
           subst (λ (a : Ask). IsBlocked w a.group.0 a.stripe.0 group passed.at) its.ask
-          ((said.calls me.0 c.call.seq c is).covered bound lower group group_is passed.at (unlooked, less)))
+          ((said.calls me.0 c.call.seq c is).covered bound lower passed.at group
+          (call_in setting views w stamps books said me.0 c.call.seq c is c.ask.group.0 passed.at refl passed.of) (unlooked, less)))
           (bound_cases c.phase c.stamp bound looks)
       blocked (At base) looks looked unlooked less =
           let made : IsMade c its_operation × (c.base ≡ Some base)
@@ -525,7 +541,7 @@ module _ (setting : Setting) (views : Views) (sound : IsSound setting) (w : Worl
           by_maker base looked less based (inr back) =
               let same : back.base ≡ d
               = same_Some back.base base (sym back.base_is ∙ based) ∙ sym (stamp_same_true d base looked) in
-              back.blocked group its_group passed.at
+              back.blocked passed.at group (its_group passed.at passed.of)
               (subst (λ (t : Stamp). stamp_below t passed.at ≡ true) (sym same) passed.above, less)
 
   read_seat : (look : Look) → look_of c.phase c.stamp ≡ Some look → (x : Counted) → CountedSays setting views w me.0 c x → Allows x → ReadsAt look x
@@ -538,15 +554,16 @@ module _ (setting : Setting) (views : Views) (sound : IsSound setting) (w : Worl
         promises = promises_at x says told.operation told.stamp told.called same.0 told.promised told.floor;
         found = answer.found;
         found_is = ap told_in answer.reply_is;
-        newest = at_seat (λ g s j. (d : Stamp) → w.held j g s d ≡ true → is_looked look d ≡ true → IsWithin answer.found d) x says
-            (λ d held looked. ⊎_elim
+        newest = at_seat (λ g s j. (d : Stamp) → view_of d ≡ c.call.view.0 → w.held j g s d ≡ true → is_looked look d ≡ true → IsWithin answer.found d) x says
+            (λ d of held looked. ⊎_elim
             (λ (within : IsWithin answer.found d). within)
-            (λ (passed : IsPassedOver w c.call.group.0 c.call.stripe.0 told.look told.stamp d).
+            (λ (passed : IsPassedOver w c.call.group.0 c.call.view.0 c.call.stripe.0 told.look told.stamp d).
             absurd (none_passed look looks d looked
-            (subst (λ (l : Look). IsPassedOver w c.call.group.0 c.call.stripe.0 l c.stamp d) same.1
-            (subst (λ (t : Stamp). IsPassedOver w c.call.group.0 c.call.stripe.0 told.look t d) same.0 passed))))
-            (told.newest d held (subst (λ (l : Look). is_looked l d ≡ true) (sym same.1) looked)));
+            (subst (λ (l : Look). IsPassedOver w c.call.group.0 c.call.view.0 c.call.stripe.0 l c.stamp d) same.1
+            (subst (λ (t : Stamp). IsPassedOver w c.call.group.0 c.call.view.0 c.call.stripe.0 told.look t d) same.0 passed))))
+            (told.newest d of held (subst (λ (l : Look). is_looked l d ≡ true) (sym same.1) looked)));
         looked = answer.looked;
+        of = λ version is. (told.says version is).of;
         held = λ version is. at_seat (λ g s j. w.held j g s version.stamp ≡ true) x says (told.held version is);
         made = λ version is. of_stripe (λ g s. IsMadeOrFirst w g s version.stamp) (told.says version is).made;
         block = λ version is wanted.
@@ -555,8 +572,8 @@ module _ (setting : Setting) (views : Views) (sound : IsSound setting) (w : Worl
             (setting.code.encode group.m (w.contents c.call.group.0 c.call.stripe.0 version.stamp) x.seat) sound.positive
             (wanted_long setting.layout.block c.stamp x.seat c.phase x.reply version (ap told_in answer.reply_is ∙ is) says.answers wanted)
             (⊎_elim (λ (none : version.block ≡ []). inl none)
-            (λ (block : IsBlockOf setting views w c.call.group.0 c.call.stripe.0 x.brick.0 version.stamp version.block).
-            inr (block group x.seat (ap (group_of setting.layout) (sym call_group) ∙ its_group) (says.seat group group_is)))
+            (λ (block : IsBlockOf setting views w c.call.group.0 c.call.view.0 c.call.stripe.0 x.brick.0 version.stamp version.block).
+            inr (block group x.seat group_is says.seat))
             (told.says version is).block));
       }
 
@@ -573,6 +590,7 @@ module _ (setting : Setting) (views : Views) (sound : IsSound setting) (w : Worl
     top : stamp_below (top_in w its_operation.ask.group.0 its_operation.ask.stripe.0 (brick_at group x.seat)) v ≡ false
     floor : stamp_below v (its_operation.floor (brick_at group x.seat)) ≡ false
     held : held_at x.seat v ≡ true
+    of : view_of v ≡ c.call.view.0
     made : IsMadeOrFirst w its_operation.ask.group.0 its_operation.ask.stripe.0 v
     block : is_wanted (want_of c.phase) x.seat ≡ true
         → found_bytes x.reply ≡ setting.code.encode group.m (w.contents its_operation.ask.group.0 its_operation.ask.stripe.0 v) x.seat
@@ -581,7 +599,7 @@ module _ (setting : Setting) (views : Views) (sound : IsSound setting) (w : Worl
   tells_at v x says tells =
       let told : FoundSays setting views w x.brick.0 me.0 c.call tells.order tells.version
       = subst (λ (r : Reply). ReplySays setting views w stamps x.brick (record { 0 = me.0 }) c.call r) tells.reply_is (counted_says x says) in
-      let at : FoundAt setting w x.brick.0 its_operation tells.order tells.version
+      let at : FoundAt setting views w c.call.view.0 x.brick.0 its_operation tells.order tells.version
       = found_at setting views w x.brick.0 me.0 c.call its_operation tells.order tells.version its_called told in
       let most : Stamp = stamp_max tells.order tells.version.stamp in
       let above : stamp_below most v ≡ false
@@ -599,13 +617,14 @@ module _ (setting : Setting) (views : Views) (sound : IsSound setting) (w : Worl
         held = subst (λ (t : Stamp). held_at x.seat t ≡ true) tells.stamp
             (subst (λ (j : ℕ). w.held j its_operation.ask.group.0 its_operation.ask.stripe.0 tells.version.stamp ≡ true)
             (sym brick) at.held);
+        of = ap view_of (sym tells.stamp) ∙ at.of;
         made = subst (λ (t : Stamp). IsMadeOrFirst w its_operation.ask.group.0 its_operation.ask.stripe.0 t) tells.stamp at.made;
         block = λ wanted.
             ap found_bytes tells.reply_is
             ∙ whole_block setting.layout.block tells.version.block
             (setting.code.encode group.m (w.contents its_operation.ask.group.0 its_operation.ask.stripe.0 tells.version.stamp) x.seat) sound.positive
             (wanted_long setting.layout.block c.stamp x.seat c.phase x.reply tells.version (ap told_in tells.reply_is) says.answers wanted)
-            (at.block group x.seat its_group (says.seat group group_is))
+            (at.block group x.seat (ap (λ (g : ℕ). group_in setting.layout views g c.call.view.0) call_group ∙ group_is) says.seat)
             ∙ ap (λ (t : Stamp). setting.code.encode group.m (w.contents its_operation.ask.group.0 its_operation.ask.stripe.0 t) x.seat) tells.stamp;
       }
 
@@ -652,13 +671,23 @@ module _ (setting : Setting) (views : Views) (sound : IsSound setting) (w : Worl
       made_of [] is_fast all = cc
       made_of (x ∷ l) is_fast all = all.0.made
 
+  -- and is of the call's view
+  pub fast_in : (v : Stamp) → fast_version counted ≡ Some v → view_of v ≡ c.call.view.0
+  unfolding fast_version
+  fast_in v fast = of_view counted fast (all_tell_at v fast)
+    where
+      of_view : (l : List Counted) → fast_version l ≡ Some v → EachCounted (TellsAt v) l → view_of v ≡ c.call.view.0
+      of_view [] is_fast all = cc
+      of_view (x ∷ l) is_fast all = all.0.of
+
   -- the content of a version that was made, or of the first, is the bytes of m blocks
   pub content_formed : (v : Stamp) → IsMadeOrFirst w its_operation.ask.group.0 its_operation.ask.stripe.0 v
       → IsContent group.m setting.layout.block (w.contents its_operation.ask.group.0 its_operation.ask.stripe.0 v)
   content_formed v (inl first) =
       let zero : w.contents its_operation.ask.group.0 its_operation.ask.stripe.0 v ≡ zero_registers group.m setting.layout.block
       = ap (λ (t : Stamp). w.contents its_operation.ask.group.0 its_operation.ask.stripe.0 t) first
-      ∙ said.first its_operation.ask.group.0 its_operation.ask.stripe.0 ∙ ap (λ (z : Option Group). zero_content setting.layout.block z) its_group in
+      ∙ said.first its_operation.ask.group.0 its_operation.ask.stripe.0 ∙ ap (λ (z : Option Group). zero_content setting.layout.block z) its_books.group_is
+      ∙ ap (λ (m : ℕ). zero_registers m setting.layout.block) m_same in
       subst (λ (l : List ℕ). IsContent group.m setting.layout.block l) (sym zero)
       (length-replicate (group.m * setting.layout.block) 0, zero_bytes (group.m * setting.layout.block))
   content_formed v (inr made) =
@@ -666,13 +695,14 @@ module _ (setting : Setting) (views : Views) (sound : IsSound setting) (w : Worl
       let content : w.contents p.ask.group.0 p.ask.stripe.0 v ≡ w.contents its_operation.ask.group.0 its_operation.ask.stripe.0 v
       = ap (λ (g : ℕ). w.contents g p.ask.stripe.0 v) made.3 ∙ ap (λ (s : ℕ). w.contents its_operation.ask.group.0 s v) made.4 in
       subst (λ (l : List ℕ). IsContent group.m setting.layout.block l) content
-      ((said.operations made.0 p made.2).content v made.5 made.6 group (ap (group_of setting.layout) made.3 ∙ its_group))
+      (subst (λ (m : ℕ). IsContent m setting.layout.block (w.contents p.ask.group.0 p.ask.stripe.0 v)) m_same
+      ((said.operations made.0 p made.2).content v made.5 made.6 its_books.group (ap (group_of setting.layout) made.3 ∙ its_books.group_is)))
 
   -- and the replies decode to its content, where all blocks are wanted
   pub fast_decodes : (v : Stamp) → fast_version counted ≡ Some v → want_of c.phase ≡ All
       → setting.code.decode group.m (pieces_of counted) ≡ w.contents its_operation.ask.group.0 its_operation.ask.stripe.0 v
   fast_decodes v fast all_wanted =
-      let limits : IsWithinLimits group.m (length group.members) = sound.limits its_operation.ask.group.0 group its_group in
+      let limits : IsWithinLimits group.m (length group.members) = its_limits in
       let enough : group.m ≤ quorum_of group = quorum_enough group.m (length group.members) limits.enough_seats in
       let pieces : length (pieces_of counted) ≡ length counted = pieces_length counted in
       sound.decodes group.m (length group.members) limits
@@ -691,7 +721,7 @@ module _ (setting : Setting) (views : Views) (sound : IsSound setting) (w : Worl
       ≡ block_of setting.layout.block j (w.contents its_operation.ask.group.0 its_operation.ask.stripe.0 v)
   data_block v j below made =
       let formed = content_formed v made in
-      sound.keeps group.m (length group.members) (sound.limits its_operation.ask.group.0 group its_group)
+      sound.keeps group.m (length group.members) its_limits
       (w.contents its_operation.ask.group.0 its_operation.ask.stripe.0 v) j formed.0 formed.1 below
 
   -- what the seat of data block j tells, where it is wanted, is that block of the version that all tell

@@ -217,7 +217,6 @@ module _ (setting : Setting) (views : Views) (w : World) (stamps : Stamping) (me
       seq = its.seq;
       group = ap (λ a. a.group.0) (sym its.ask) ∙ ap (λ g. g.0) (sym its.call_group);
       stripe = ap (λ a. a.stripe.0) (sym its.ask) ∙ ap (λ s. s.0) (sym its.call_stripe);
-      view = its.call_view;
     }
 
     packets : (z : Option Stamp) → stored ≡ z → (k : ℕ) (packet : Packet) → slice_get (collect_packets me c z) k ≡ Some packet

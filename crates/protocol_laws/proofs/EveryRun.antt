@@ -24,15 +24,15 @@ use Rattle.protocol_laws.proofs.Guards.{writes_were_guarded}
 laws : (setting : Setting) (views : Views) (w : World) (stamps : Stamping) → Books setting w → Said setting views w stamps → Follows setting.layout views w
     → WritesWereGuarded setting views w → QuorumFacts setting views w → Tallied w → IsNumbered w → RefusalsWereTrue setting w → Laws setting views w
 laws setting views w stamps booked said follows guards facts history numbered truths = record {
-  one_content = one_content setting views w stamps booked said follows;
+  one_content = one_content setting views w stamps said;
   first_is_zero = facts.first;
   contents_are_made = facts.contents;
-  guarded = writes_guarded setting views w stamps booked said follows;
+  guarded = writes_guarded setting views w stamps said;
   guarded_when_sent = guards;
   stored = facts.stored;
-  collects = collects_stand setting views w stamps booked said follows;
-  drops = drops_older setting views w stamps booked said follows;
-  bases = bases_newest setting views w stamps booked said follows;
+  collects = collects_stand setting views w stamps said;
+  drops = drops_older setting views w stamps said;
+  bases = bases_newest setting views w stamps said;
   bases_found = facts.bases_found;
   neighbours = λ g s. neighbours_follow setting views w g s booked facts;
   lowest = λ g s. lowest_follows setting views w g s booked facts;
@@ -52,7 +52,7 @@ laws setting views w stamps booked said follows guards facts history numbered tr
 pub every_run : EveryRunKeepsTheLaws
 every_run setting views events sound follows =
     let w : World = run setting events (first_world setting.layout) in
-    let said = always_said setting views events sound in
+    let said = always_said setting views events sound follows in
     laws setting views w said.0 (books setting events) said.1 (follows events [] (sym (append-nil events)))
     (writes_were_guarded setting views events sound follows)
     (facts setting views sound w said.0 (books setting events) said.1)

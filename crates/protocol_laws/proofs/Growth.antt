@@ -148,7 +148,6 @@ module _ (setting : Setting) (views : Views) (w next : World) (stamps later : St
           seq = on.seq ∙ called.seq;
           group = ap (λ a. a.group.0) on.ask ∙ called.group;
           stripe = ap (λ a. a.stripe.0) on.ask ∙ called.stripe;
-          view = called.view;
         },
         on,
       )
@@ -171,31 +170,32 @@ module _ (setting : Setting) (views : Views) (w next : World) (stamps later : St
 
   -- what is blocked stays blocked
   pub stay_blocked : (g s : ℕ) (Q : Stamp → Type 0) → AreBlocked setting views w g s Q → AreBlocked setting views next g s Q
-  stay_blocked g s Q blocked group is d has = blocked_stays w next grows.parts g s group d (blocked group is d has)
+  stay_blocked g s Q blocked d group is has = blocked_stays w next grows.parts g s group d (blocked d group is has)
 
   -- what stands goes on standing
   pub stays_standing : (g s : ℕ) (v : Stamp) → Stands setting views w g s v → Stands setting views next g s v
   stays_standing g s v stands group is = stands_stays w next grows.parts g s group v (stands group is)
 
   -- a block stays the block of its version
-  pub stays_block : (g s i : ℕ) (t : Stamp) (block : List ℕ) → IsMadeOrFirst w g s t → IsBlockOf setting views w g s i t block
-      → IsBlockOf setting views next g s i t block
-  stays_block g s i t block made is group seat its at =
+  pub stays_block : (g e s i : ℕ) (t : Stamp) (block : List ℕ) → IsMadeOrFirst w g s t → IsBlockOf setting views w g e s i t block
+      → IsBlockOf setting views next g e s i t block
+  stays_block g e s i t block made is group seat its at =
       is group seat its at ∙ ap (λ content. setting.code.encode group.m content seat) (sym (grows.contents g s t made))
 
-  pub stays_version : (g s i : ℕ) (version : Version) → VersionSays setting views w g s i version → VersionSays setting views next g s i version
-  stays_version g s i version says = record {
+  pub stays_version : (g e s i : ℕ) (version : Version) → VersionSays setting views w g e s i version → VersionSays setting views next g e s i version
+  stays_version g e s i version says = record {
     made = stays_made g s version.stamp says.made;
-    block = stays_block g s i version.stamp version.block says.made says.block;
+    block = stays_block g e s i version.stamp version.block says.made says.block;
   }
 
-  pub stays_told : (g s i : ℕ) (version : Version) → ToldSays setting views w g s i version → ToldSays setting views next g s i version
-  stays_told g s i version says = record {
+  pub stays_told : (g e s i : ℕ) (version : Version) → ToldSays setting views w g e s i version → ToldSays setting views next g e s i version
+  stays_told g e s i version says = record {
+    of = says.of;
     made = stays_made g s version.stamp says.made;
     block = ⊎_elim
         (λ (none : version.block ≡ []). inl none)
-        (λ (block : IsBlockOf setting views w g s i version.stamp version.block).
-        inr (stays_block g s i version.stamp version.block says.made block))
+        (λ (block : IsBlockOf setting views w g e s i version.stamp version.block).
+        inr (stays_block g e s i version.stamp version.block says.made block))
         says.block;
   }
 
@@ -223,7 +223,7 @@ module _ (setting : Setting) (views : Views) (w next : World) (stamps later : St
       → WriteSays setting views next later from to call t block
   stays_write from to call t block says = record {
     maker = stays_maker_of from to call Stores t says.maker;
-    is_block = stays_block call.group.0 call.stripe.0 to t block (maker_made from to call Stores t says.maker) says.is_block;
+    is_block = stays_block call.group.0 call.view.0 call.stripe.0 to t block (maker_made from to call Stores t says.maker) says.is_block;
   }
 
   -- what a version modifies of its base stays so
@@ -327,7 +327,7 @@ module _ (setting : Setting) (views : Views) (w next : World) (stamps later : St
         top = stays_above call.group.0 call.stripe.0 j (stamp_max order version.stamp) says.top;
         floor = subst (λ (f : ℕ → Stamp). stamp_below (stamp_max order version.stamp) (f j) ≡ false) (sym goes.2.floor) says.floor;
         held = grows.parts.held call.group.0 call.stripe.0 j version.stamp says.held;
-        says = stays_told call.group.0 call.stripe.0 j version says.says;
+        says = stays_told call.group.0 call.view.0 call.stripe.0 j version says.says;
       }
 
   -- what was found stays the newest that is looked for, or the others are passed over, since nothing comes to be held below the promised stamp
@@ -347,24 +347,25 @@ module _ (setting : Setting) (views : Views) (w next : World) (stamps later : St
         view = says.view;
         promised = stays_above call.group.0 call.stripe.0 j says.stamp says.promised;
         floor = subst (λ (f : ℕ → Stamp). stamp_below says.stamp (f j) ≡ false) (sym goes.2.floor) says.floor;
-        newest = λ d held less. ⊎_elim
+        newest = λ d of held less. ⊎_elim
             (λ (was : w.held j call.group.0 call.stripe.0 d ≡ true). ⊎_elim
             (λ (within : IsWithin found d). inl within)
-            (λ (passed : IsPassedOver w call.group.0 call.stripe.0 says.look says.stamp d). inr (record {
+            (λ (passed : IsPassedOver w call.group.0 call.view.0 call.stripe.0 says.look says.stamp d). inr (record {
               at = passed.at;
+              of = passed.of;
               above = passed.above;
               unlooked = passed.unlooked;
               most = passed.most;
               collected = stays_collected w next grows.sent call.group.0 call.stripe.0 passed.at passed.collected;
             }))
-            (says.newest d was less))
+            (says.newest d of was less))
             (λ (new : stamp_below d (top_in w call.group.0 call.stripe.0 j) ≡ false).
             let above : stamp_below d says.stamp ≡ false
             = stamp_not_below_trans says.stamp (top_in w call.group.0 call.stripe.0 j) d says.promised new in
             absurd (false≢true (sym above ∙ says.below d less)))
             (grows.parts.newer call.group.0 call.stripe.0 j d held);
         held = λ version is. grows.parts.held call.group.0 call.stripe.0 j version.stamp (says.held version is);
-        says = λ version is. stays_told call.group.0 call.stripe.0 j version (says.says version is);
+        says = λ version is. stays_told call.group.0 call.view.0 call.stripe.0 j version (says.says version is);
       }
 
   -- what was asked stays asked
@@ -463,6 +464,7 @@ module _ (setting : Setting) (views : Views) (w next : World) (stamps later : St
   pub stays_made_on : (c : Coordinator) (base : Stamp) → MadeOn setting views w c base → MadeOn setting views next c base
   stays_made_on c base on = record {
     base_is = on.base_is;
+    of = on.of;
     below = on.below;
     base_made = stays_made c.ask.group.0 c.ask.stripe.0 base on.base_made;
     stands = stays_standing c.ask.group.0 c.ask.stripe.0 base on.stands;
@@ -476,6 +478,7 @@ module _ (setting : Setting) (views : Views) (w next : World) (stamps later : St
       → ((p : ℕ) → later i (w.nodes i).boot k p ≡ stamps i (w.nodes i).boot k p) → CallSays setting views w stamps i k c
       → CallSays setting views next later i k c
   stays_call i k c boot same says = record {
+    group = says.group;
     begun = subst (λ (b : ℕ). IsBegun later i b k c.call.phase c.phase c.stamp) (sym boot)
         (stays_phase i (w.nodes i).boot k c.call.phase c.phase c.stamp says.begun);
     last = λ p less. subst (λ (b : ℕ). later i b k p ≡ None) (sym boot) (same p ∙ says.last p less);

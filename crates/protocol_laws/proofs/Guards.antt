@@ -1,6 +1,6 @@
 -- A request to store a version is sent while a quorum takes nothing below it, and while its operation is open: an event that sends one lowers and raises no
 -- brick, and sends it for a call that is open.
-use Rattle.std.proofs.Common.{◌≡◌, ℕ, ◌≤◌, not, List, [], ◌∷◌, ◌++◌, length, Option, Some, None, refl, sym, ap, ◌∙◌, subst, arith}
+use Rattle.std.proofs.Common.{◌≡◌, ℕ, not, List, [], ◌∷◌, ◌++◌, length, Option, Some, None, refl, sym, ap, ◌∙◌, subst, arith, append_assoc}
 use Rattle.std.specs.Prelude.{slice_get}
 use Rattle.fab_base.specs.declared.identities.BrickId.{BrickId}
 use Rattle.fab_base.specs.declared.asks.Ask.{Ask}
@@ -14,7 +14,6 @@ use Rattle.messages.specs.declared.calls.Call.{Call}
 use Rattle.messages.specs.declared.packets.Message.{Message}
 use Rattle.messages.specs.declared.packets.Packet.{Packet}
 use Rattle.messages.specs.declared.replies.Reply.{Reply}
-use Rattle.messages.specs.declared.requests.Request.{Request}
 use Rattle.reg_model.specs.Marks.{Life, life_of, IsOpen}
 use Rattle.protocol.specs.Settings.{Setting, Code, IsSound}
 use Rattle.protocol.specs.Views.{Views}
@@ -240,6 +239,6 @@ writes_were_guarded setting views events sound follows k call from to request t 
         ≡ Some (record { from = from; to = to; message = Message.Request call request })
         → IsGuarded (run setting upto (first_world setting.layout)) call.group.0 call.stripe.0 group t
     guarded_there upto later is there =
-        let said = always_said setting views upto sound in
-        writes_guarded setting views (run setting upto (first_world setting.layout)) said.0 (books setting upto) said.1 (follows upto later is) call from to
+        let said = always_said setting views upto sound (λ earlier rest at. follows earlier (rest ++ later) (is ∙ ap (λ (l : List Event). l ++ later) at ∙ append_assoc earlier rest later)) in
+        writes_guarded setting views (run setting upto (first_world setting.layout)) said.0 said.1 call from to
         request t group found (k, there) stores

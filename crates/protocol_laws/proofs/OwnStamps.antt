@@ -1,5 +1,7 @@
 -- Each call has stamps of its own.
-use Rattle.std.proofs.Common.{◌≡◌, ℕ, inl, inr, true, false, Some, refl, sym, ap, ◌∙◌, subst}
+use Rattle.std.specs.Option.{option_map}
+use Rattle.fab_base.specs.Layouts.{Group, group_of}
+use Rattle.std.proofs.Common.{◌≡◌, ℕ, inl, inr, true, false, Some, refl, sym, ap, ◌∙◌, subst, arith}
 use Rattle.std.proofs.lemmas.Bool.{false≢true}
 use Rattle.std.proofs.lemmas.Option.{same_Some}
 use Rattle.fab_base.specs.declared.identities.BrickId.{BrickId}
@@ -16,7 +18,7 @@ use Rattle.messages.specs.declared.requests.Want.{Want}
 use Rattle.messages.specs.declared.requests.Want.TheVariants.{Seat, All}
 use Rattle.messages.specs.declared.requests.Request.{Request}
 use Rattle.protocol.specs.Settings.{Setting}
-use Rattle.protocol.specs.Views.{Views, view_of}
+use Rattle.protocol.specs.Views.{Views, view_of, group_in, kept_by}
 use Rattle.protocol.specs.declared.phases.Phase.{Phase}
 use Rattle.protocol.specs.declared.phases.Phase.TheVariants.{LooksAt, Orders, OrdersAt, Recovers, Descends, Modifies, Stores}
 use Rattle.protocol.specs.Coordinators.{Coordinator}
@@ -99,6 +101,39 @@ module _ (setting : Setting) (views : Views) (w : World) (stamps : Stamping) (bo
       let same : made.1 ≡ o = same_Some made.1 o (sym made.2 ∙ ap w.operations (sym number) ∙ is) in
       let bad : true ≡ false = sym made.5 ∙ ap (λ (z : Operation). z.made) same ∙ unmade in
       cc
+
+  -- an open operation's stamp is of its call's view
+  pub own_in : (i k : ℕ) (c : Coordinator) → IsCall w i k c → view_of c.stamp ≡ c.call.view.0
+  own_in i k c is =
+      let of = (books.calls i k c is).stamp_view in
+      let some = (books.calls i k c is).call_view in
+      omega (arith, of, some)
+
+  -- which is view 1
+  pub call_one : (i k : ℕ) (c : Coordinator) → IsCall w i k c → c.call.view.0 ≡ 1
+  call_one i k c is =
+      sym (books.calls i k c is).stamp_view
+      ∙ (said.stamps_say.are i (w.nodes i).boot k c.call.phase c.stamp (c.phase, (said.calls i k c is).begun)).view
+
+  -- its members keep its group in that view
+  pub call_in : (i k : ℕ) (c : Coordinator) → IsCall w i k c → (g : ℕ) (v : Stamp) → g ≡ c.ask.group.0 → view_of v ≡ c.call.view.0
+      → group_in setting.layout views g (view_of v) ≡ Some c.group
+  call_in i k c is g v at of =
+      ap (λ (h : ℕ). group_in setting.layout views h (view_of v)) (at ∙ ap (λ h. h.0) (sym (books.calls i k c is).call_group))
+      ∙ ap (λ (e : ℕ). group_in setting.layout views c.call.group.0 e) of ∙ (said.calls i k c is).group
+
+  pub call_by : (i k : ℕ) (c : Coordinator) → IsCall w i k c → (g : ℕ) (v : Stamp) → g ≡ c.ask.group.0 → view_of v ≡ c.call.view.0
+      → (other : Group) → group_in setting.layout views g (view_of v) ≡ Some other → c.group ≡ other
+  call_by i k c is g v at of other other_is = same_Some c.group other (sym (call_in i k c is g v at of) ∙ other_is)
+
+  -- and it has as many data blocks as the layout says
+  pub m_is : (i k : ℕ) (c : Coordinator) → IsCall w i k c → (g : ℕ) (other : Group) → g ≡ c.ask.group.0 → group_of setting.layout g ≡ Some other
+      → other.m ≡ c.group.m
+  m_is i k c is g other at other_is =
+      ap (λ (z : Group). z.m) (same_Some (kept_by (views g c.call.view.0) other) c.group
+      (sym (ap (option_map (kept_by (views g c.call.view.0))) other_is)
+      ∙ ap (λ (h : ℕ). group_in setting.layout views h c.call.view.0) (at ∙ ap (λ h. h.0) (sym (books.calls i k c is).call_group))
+      ∙ (said.calls i k c is).group))
 
   -- what a request that was sent says
   sent_says : (call : Call) (from to : BrickId) (request : Request)
@@ -225,7 +260,6 @@ module _ (setting : Setting) (views : Views) (w : World) (stamps : Stamping) (bo
         seq = its.seq;
         group = ap (λ a. a.group.0) (sym its.ask) ∙ ap (λ g. g.0) (sym its.call_group);
         stripe = ap (λ a. a.stripe.0) (sym its.ask) ∙ ap (λ s. s.0) (sym its.call_stripe);
-        view = its.call_view;
       } in
       let begun = order_begun c.call from to its.operation c.ask.op t called (ap (λ a. a.op) (sym its.ask)) sent in
       subst (λ (p : Phase). IsRound p)

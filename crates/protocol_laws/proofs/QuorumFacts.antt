@@ -1,4 +1,5 @@
 -- What quorums make true of the versions of a world, for the walk along them.
+use Rattle.std.specs.Option.{option_map}
 use Rattle.std.proofs.Common.{◌≡◌, ℕ, ◌≤◌, ◌⊎◌, inl, inr, true, false, not, List, length, Option, Some, sym, ap, ◌∙◌, subst, ⊎_elim, arith}
 use Rattle.std.specs.Prelude.{nat_eq}
 use Rattle.std.proofs.lemmas.Bool.{and_parts, cases_Bool, eqb-true, not-true}
@@ -17,7 +18,7 @@ use Rattle.reg_model.specs.Marks.{Life, life_of, Answered}
 use Rattle.reg_model.specs.Registers.{zero_registers, after_op, read_of}
 use Rattle.reg_model.specs.Walk.{last_of}
 use Rattle.fab_base.specs.Layouts.{Group, group_of}
-use Rattle.protocol.specs.Views.{Views}
+use Rattle.protocol.specs.Views.{Views, group_in, kept_by, view_of}
 use Rattle.protocol.specs.Settings.{Setting, IsSound}
 use Rattle.protocol.specs.Worlds.{World, Operation, zero_content, content_on}
 use Rattle.protocol.specs.Happenings.{writes}
@@ -31,7 +32,7 @@ use Rattle.protocol_laws.proofs.BasesFound.{bases_found}
 use Rattle.protocol_laws.proofs.Blocking.{blocked_never_stands}
 use Rattle.reg_model.proofs.GrowingLives.{answered_has_end}
 use Rattle.protocol_laws.proofs.Stampings.{above_first}
-use Rattle.protocol_laws.proofs.OwnStamps.{maker_stamp, made_later, operation_unique}
+use Rattle.protocol_laws.proofs.OwnStamps.{maker_stamp, made_later, operation_unique, made_view}
 
 -- an operation that made version t on a base: the base is below it, was made itself or is the first, and the content is what the operation makes of
 -- the base's; and nothing that a quorum holds lies between the two
@@ -102,13 +103,19 @@ module _ (setting : Setting) (views : Views) (sound : IsSound setting) (w : Worl
       let a_at = and_parts (nat_eq earlier.ask.group.0 g) (nat_eq earlier.ask.stripe.0 s) a_of in
       let b_at = and_parts (nat_eq later.ask.group.0 g) (nat_eq later.ask.stripe.0 s) b_of in
       let b_books : OperationBooks setting w b later = books.operations b later b_is in
-      let group : Group = b_books.group in
-      let limits : IsWithinLimits group.m (length group.members) = sound.limits later.ask.group.0 group b_books.group_is in
+      let had = (said.operations b later b_is).version v b_version in
+      let group : Group = kept_by (views later.ask.group.0 (view_of u)) b_books.group in
+      let group_is : group_in setting.layout views later.ask.group.0 (view_of u) ≡ Some group
+      = ap (option_map (kept_by (views later.ask.group.0 (view_of u)))) b_books.group_is in
+      let limits : IsWithinLimits group.m (length group.members) = said.limits later.ask.group.0 (view_of u) group group_is in
+      let one : view_of u ≡ 1 = made_view setting views w stamps books said earlier.ask.group.0 earlier.ask.stripe.0 u
+      ((said.operations a earlier a_is).version u a_version).made in
+      let other : view_of v ≡ 1 = made_view setting views w stamps books said later.ask.group.0 later.ask.stripe.0 v had.made in
       ⊎_elim
-      (λ (floors : (z : Group) → group_of setting.layout later.ask.group.0 ≡ Some z → FloorsAtLeast later z u).
+      (λ (floors : (z : Group) → group_in setting.layout views later.ask.group.0 (view_of u) ≡ Some z → FloorsAtLeast later z u).
       let share = quorums_share group.m (length group.members) limits.enough_seats
       (λ seat. not (stamp_below (later.floor (brick_at group seat)) u)) (λ seat. not (stamp_below v (later.floor (brick_at group seat))))
-      (floors group b_books.group_is) (((said.operations b later b_is).version v b_version).floors group b_books.group_is) in
+      (floors group group_is) (had.floors group (ap (λ (e : ℕ). group_in setting.layout views later.ask.group.0 e) (other ∙ sym one) ∙ group_is)) in
       let seat = count_some (length group.members)
       (both (λ k. not (stamp_below (later.floor (brick_at group k)) u)) (λ k. not (stamp_below v (later.floor (brick_at group k)))))
       (omega (arith, share, limits.some_block)) in
@@ -134,8 +141,11 @@ module _ (setting : Setting) (views : Views) (sound : IsSound setting) (w : Worl
         made = back.made;
         content = back.content;
         none_between = λ u stands above less.
-            blocked_never_stands w o.ask.group.0 o.ask.stripe.0 its.group u (back.blocked its.group its.group_is u (above, less))
-            (stands its.group its.group_is);
+            (let at : group_in setting.layout views o.ask.group.0 (view_of u) ≡ Some (kept_by (views o.ask.group.0 (view_of u)) its.group)
+            = ap (option_map (kept_by (views o.ask.group.0 (view_of u)))) its.group_is in
+            blocked_never_stands w o.ask.group.0 o.ask.stripe.0 (kept_by (views o.ask.group.0 (view_of u)) its.group) u
+            (back.blocked u (kept_by (views o.ask.group.0 (view_of u)) its.group) at (above, less))
+            (stands (kept_by (views o.ask.group.0 (view_of u)) its.group) at));
       }
 
   maker_holds : (n : ℕ) (o : Operation) (t : Stamp) → IsOperation w n o → o.made ≡ true → o.version ≡ Some t → MakerFacts setting views w o t

@@ -1,5 +1,7 @@
 -- What a quorum of replies to a recovery decides: nothing that a quorum holds, or ever will, lies between the greatest version found and the
 -- recovery's stamp; nor that version itself, where too few blocks of it were found.
+use Rattle.protocol_laws.proofs.Tops.{view_between}
+use Rattle.protocol_laws.proofs.OwnStamps.{call_in, own_in}
 use Rattle.std.proofs.Common.{◌≡◌, ℕ, ◌+◌, ◌<◌, ◌≤◌, Bool, true, false, not, List, [], ◌∷◌, length, Option, Some, None, refl, sym, ap, ◌∙◌, subst, ⊎_elim, arith, ◌&&◌}
 use Rattle.std.specs.Prelude.{filter}
 use Rattle.std.specs.Option.{option_map}
@@ -8,14 +10,14 @@ use Rattle.std.proofs.lemmas.List.Filters.{length-filter_both}
 use Rattle.fab_base.specs.declared.identities.BrickId.{BrickId}
 use Rattle.fab_base.specs.declared.stamps.Stamp.{Stamp}
 use Rattle.fab_base.specs.Stamps.{stamp_below, first_stamp}
-use Rattle.fab_base.proofs.StampOrder.{stamp_not_below_trans, stamp_neither_below, stamp_same_refl, stamp_same_true}
+use Rattle.fab_base.proofs.StampOrder.{stamp_not_below_trans, stamp_neither_below, stamp_same_refl, stamp_same_true, stamp_below_asym}
 use Rattle.fab_base.specs.declared.asks.Ask.{Ask}
 use Rattle.messages.specs.declared.requests.Version.{Version}
 use Rattle.quorum.specs.Quorums.{count, both, IsWithinLimits}
 use Rattle.quorum.proofs.Counts.{count_full, count_both, count_empty}
-use Rattle.fab_base.specs.Layouts.{Group, group_of}
+use Rattle.fab_base.specs.Layouts.{Group}
 use Rattle.quorum.specs.Quorums.{quorum_of}
-use Rattle.protocol.specs.Views.{Views}
+use Rattle.protocol.specs.Views.{Views, view_of}
 use Rattle.protocol.specs.Settings.{Setting, IsSound}
 use Rattle.protocol.specs.Replicas.{is_wanted}
 use Rattle.protocol.specs.declared.phases.Counted.{Counted}
@@ -29,7 +31,6 @@ use Rattle.protocol.specs.Coordinators.{Coordinator, told_in, told_stamp, finds,
 use Rattle.protocol.specs.Worlds.{World, Operation}
 use Rattle.fab_base.specs.Layouts.{brick_at}
 use Rattle.protocol_laws.specs.Laws.{AtQuorum, IsBlocked, top_in}
-use Rattle.protocol_laws.proofs.FirstViews.{view_below}
 use Rattle.protocol_laws.proofs.Books.{Books, CallBooks, IsCall}
 use Rattle.protocol_laws.proofs.Logs.{IsWithin, below_above}
 use Rattle.protocol_laws.proofs.Blocking.{twice_quorum, passes_by, passes, blocked_by, blocked_never_stands}
@@ -76,9 +77,8 @@ module _ (setting : Setting) (views : Views) (sound : IsSound setting) (w : Worl
   pub pieces_decode : c.group.m ≤ length (pieces_at v counted)
       → setting.code.decode c.group.m (pieces_at v counted) ≡ w.contents its_ask.group.0 its_ask.stripe.0 v
   pieces_decode enough =
-      let its : CallBooks setting w me.0 c.call.seq c = books.calls me.0 c.call.seq c is in
       let limits : IsWithinLimits c.group.m (length c.group.members)
-      = sound.limits its_ask.group.0 c.group (ap (λ a. group_of setting.layout a.group.0) (sym its.ask) ∙ its.group_is) in
+      = said.limits c.call.group.0 c.call.view.0 c.group (said.calls me.0 c.call.seq c is).group in
       let formed : IsContent c.group.m setting.layout.block (w.contents its_ask.group.0 its_ask.stripe.0 v)
       = content_formed setting views sound w stamps me c books said is counted each once many v made in
       sound.decodes c.group.m (length c.group.members) limits (w.contents its_ask.group.0 its_ask.stripe.0 v) (pieces_at v counted) formed.0 formed.1
@@ -94,7 +94,8 @@ module _ (setting : Setting) (views : Views) (sound : IsSound setting) (w : Worl
     (books : Books setting w) (said : Said setting views w stamps) (is : IsCall w me.0 c.call.seq c)
     (counted : List Counted) (each : EachCounted (CountedSays setting views w me.0 c) counted) (once : AreOnce counted)
     (many : quorum_of c.group ≤ length counted) (bound : Stamp) (looks : look_of c.phase c.stamp ≡ Some (Below bound))
-    (all : EachCounted (ReadsAt setting views sound w stamps me c books said is counted each once many (Below bound)) counted) where
+    (all : EachCounted (ReadsAt setting views sound w stamps me c books said is counted each once many (Below bound)) counted)
+    (one : c.call.view.0 ≡ 1) where
   -- what a reply reads
   abbrev Reading : Counted → Type 0
   Reading x = ReadsAt setting views sound w stamps me c books said is counted each once many (Below bound) x
@@ -115,7 +116,7 @@ module _ (setting : Setting) (views : Views) (sound : IsSound setting) (w : Worl
   tells_some x reads nothing =
       let none : reads.found ≡ None = none_told reads.found (sym (ap (option_map (λ (z : Version). z.stamp)) reads.found_is) ∙ nothing) in
       subst (λ (z : Option Version). IsWithin z first_stamp) none
-      (reads.newest first_stamp
+      (reads.newest first_stamp (sym one)
       (said.first_held (books.calls me.0 c.call.seq c is).operation.ask.group.0 (books.calls me.0 c.call.seq c is).operation.ask.stripe.0
       (brick_at c.group x.seat))
       first_under)
@@ -127,7 +128,7 @@ module _ (setting : Setting) (views : Views) (sound : IsSound setting) (w : Worl
   -- so a quorum of replies finds one
   pub something_found : greatest_found counted ≡ None → ⊥
   something_found nothing =
-      let limits : IsWithinLimits c.group.m (length c.group.members) = sound.limits c.ask.group.0 c.group (books.calls me.0 c.call.seq c is).group_is in
+      let limits : IsWithinLimits c.group.m (length c.group.members) = said.limits c.call.group.0 c.call.view.0 c.group (said.calls me.0 c.call.seq c is).group in
       let enough : c.group.m ≤ quorum_of c.group = quorum_enough c.group.m (length c.group.members) limits.enough_seats in
       each_some counted all nothing (omega (arith, limits.some_block, enough, many))
 
@@ -141,9 +142,6 @@ module _ (setting : Setting) (views : Views) (sound : IsSound setting) (w : Worl
   abbrev group : Group
   group = c.group
 
-  group_is : group_of setting.layout c.ask.group.0 ≡ Some group
-  group_is = (books.calls me.0 c.call.seq c is).group_is
-
   abbrev its : CallBooks setting w me.0 c.call.seq c
   its = books.calls me.0 c.call.seq c is
 
@@ -153,11 +151,8 @@ module _ (setting : Setting) (views : Views) (sound : IsSound setting) (w : Worl
   says : CallSays setting views w stamps me.0 c.call.seq c
   says = said.calls me.0 c.call.seq c is
 
-  its_group : group_of setting.layout o.ask.group.0 ≡ Some group
-  its_group = ap (λ a. group_of setting.layout a.group.0) (sym its.ask) ∙ group_is
-
   limits : IsWithinLimits group.m (length group.members)
-  limits = sound.limits o.ask.group.0 group its_group
+  limits = said.limits c.call.group.0 c.call.view.0 group says.group
 
   -- what a reply reads
   abbrev Reads : Counted → Type 0
@@ -195,6 +190,10 @@ module _ (setting : Setting) (views : Views) (sound : IsSound setting) (w : Worl
   pub version_lower : stamp_below v c.stamp ≡ true
   version_lower = bound_most v v_below
 
+  -- and is of its view
+  pub version_view : view_of v ≡ c.call.view.0
+  version_view = ap view_of (sym v_told.2) ∙ one.1.of v_told.0 v_told.1
+
   pub version_made : IsMadeOrFirst w o.ask.group.0 o.ask.stripe.0 v
   version_made = subst (λ (t : Stamp). IsMadeOrFirst w o.ask.group.0 o.ask.stripe.0 t) v_told.2 (one.1.made v_told.0 v_told.1)
 
@@ -207,11 +206,11 @@ module _ (setting : Setting) (views : Views) (sound : IsSound setting) (w : Worl
       (subst (λ (z : Option Stamp). TellsAtMost v z) (ap (option_map (λ (z : Version). z.stamp)) told) most)
 
   -- no member that replied holds a version above v and below the bound
-  not_held : (x : Counted) (d : Stamp) → Reads x → TellsAtMost v (told_stamp x.reply) → stamp_below d bound ≡ true → stamp_below v d ≡ true
-      → held_in x.seat d ≡ false
-  not_held x d reads most less above = ⊎_elim
+  not_held : (x : Counted) (d : Stamp) → Reads x → TellsAtMost v (told_stamp x.reply) → view_of d ≡ c.call.view.0 → stamp_below d bound ≡ true
+      → stamp_below v d ≡ true → held_in x.seat d ≡ false
+  not_held x d reads most of less above = ⊎_elim
       (λ (held : held_in x.seat d ≡ true).
-      absurd (false≢true (sym (within_most x reads.found d reads.found_is (reads.newest d held less) most) ∙ above)))
+      absurd (false≢true (sym (within_most x reads.found d reads.found_is (reads.newest d of held less) most) ∙ above)))
       (λ (isnt : held_in x.seat d ≡ false). isnt)
       (cases_Bool (held_in x.seat d))
 
@@ -221,42 +220,46 @@ module _ (setting : Setting) (views : Views) (sound : IsSound setting) (w : Worl
   pass_at x d reads less isnt = (
     reads.promises.within,
     passes w o.ask.group.0 o.ask.stripe.0 group d x.seat
-        (subst (λ (e : ℕ). stamp_below d (top_in w o.ask.group.0 o.ask.stripe.0 (brick_at group x.seat)) ≡ true)
-        (sym (view_below d c.stamp (omega (arith, its.stamp_view)) less))
-        (below_above d c.stamp (come_to x.seat) less reads.promises.top)) isnt,
+        (below_above d c.stamp (come_to x.seat) less reads.promises.top) isnt,
   )
 
   -- nothing that a quorum holds lies between v and the bound
-  under_bound : (d : Stamp) → stamp_below v d ≡ true → stamp_below d bound ≡ true → IsBlocked w o.ask.group.0 o.ask.stripe.0 group d
-  under_bound d above less =
+  under_bound : (d : Stamp) → view_of d ≡ c.call.view.0 → stamp_below v d ≡ true → stamp_below d bound ≡ true
+      → IsBlocked w o.ask.group.0 o.ask.stripe.0 group d
+  under_bound d of above less =
       let seats : length counted ≤ count (length group.members) (passes_by w o.ask.group.0 o.ask.stripe.0 group d)
       = at_seats (length group.members) counted (passes_by w o.ask.group.0 o.ask.stripe.0 group d)
       (each_then (λ x. Reads x × TellsAtMost v (told_stamp x.reply))
       (λ x. (x.seat < length group.members) × (passes_by w o.ask.group.0 o.ask.stripe.0 group d x.seat ≡ true)) counted
-      (λ x h. pass_at x d h.0 (bound_most d less) (not_held x d h.0 h.1 less above)) each_tells)
+      (λ x h. pass_at x d h.0 (bound_most d less) (not_held x d h.0 h.1 of less above)) each_tells)
       once in
       blocked_by w o.ask.group.0 o.ask.stripe.0 group d limits (omega (arith, seats, many, limits.some_block))
 
   -- nor from the bound up to the recovery's stamp
-  from_bound : (d : Stamp) → stamp_below d bound ≡ false → stamp_below d c.stamp ≡ true → IsBlocked w o.ask.group.0 o.ask.stripe.0 group d
-  from_bound d not_less less = ⊎_elim
+  from_bound : (d : Stamp) → view_of d ≡ c.call.view.0 → stamp_below d bound ≡ false → stamp_below d c.stamp ≡ true → IsBlocked w o.ask.group.0 o.ask.stripe.0 group d
+  from_bound d of not_less less = ⊎_elim
       (λ (own : bound ≡ c.stamp).
       absurd (false≢true (sym not_less ∙ subst (λ (t : Stamp). stamp_below d t ≡ true) (sym own) less)))
       (λ (lower : c.phase ≡ Descends bound).
-      subst (λ (a : Ask). IsBlocked w a.group.0 a.stripe.0 group d) its.ask (says.covered bound lower group group_is d (not_less, less)))
+      subst (λ (a : Ask). IsBlocked w a.group.0 a.stripe.0 group d) its.ask
+      (says.covered bound lower d group (call_in setting views w stamps books said me.0 c.call.seq c is c.ask.group.0 d refl of) (not_less, less)))
       (bound_cases c.phase c.stamp bound looks)
 
   -- nothing that a quorum holds, or ever will, lies between the version and the recovery's stamp
   pub between_blocked : (d : Stamp) → stamp_below v d ≡ true → stamp_below d c.stamp ≡ true → IsBlocked w o.ask.group.0 o.ask.stripe.0 group d
-  between_blocked d above less = ⊎_elim
-      (λ (lower : stamp_below d bound ≡ true). under_bound d above lower)
-      (λ (upper : stamp_below d bound ≡ false). from_bound d upper less)
+  between_blocked d above less =
+      let of : view_of d ≡ c.call.view.0
+      = view_between v d c.stamp c.call.view.0 version_view (own_in setting views w stamps books said me.0 c.call.seq c is)
+      (stamp_below_asym v d above) less in
+      ⊎_elim
+      (λ (lower : stamp_below d bound ≡ true). under_bound d of above lower)
+      (λ (upper : stamp_below d bound ≡ false). from_bound d of upper less)
       (cases_Bool (stamp_below d bound))
 
   -- a member whose reply does not find v does not hold it
   not_found : (x : Counted) → Reads x → TellsAtMost v (told_stamp x.reply) → not (finds v x) ≡ true → held_in x.seat v ≡ false
   not_found x reads most isnt = ⊎_elim
-      (λ (held : held_in x.seat v ≡ true). absurd (found_at reads.found reads.found_is (reads.newest v held v_below)))
+      (λ (held : held_in x.seat v ≡ true). absurd (found_at reads.found reads.found_is (reads.newest v version_view held v_below)))
       (λ (never : held_in x.seat v ≡ false). never)
       (cases_Bool (held_in x.seat v))
     where
@@ -301,6 +304,7 @@ module _ (setting : Setting) (views : Views) (sound : IsSound setting) (w : Worl
     (counted : List Counted) (each : EachCounted (CountedSays setting views w me.0 c) counted) (once : AreOnce counted)
     (many : quorum_of c.group ≤ length counted) (base : Stamp)
     (all : EachCounted (ReadsAt setting views sound w stamps me c books said is counted each once many (At base)) counted)
+    (of : view_of base ≡ c.call.view.0)
     (stands : AtQuorum c.group (λ seat. w.held (brick_at c.group seat) (books.calls me.0 c.call.seq c is).operation.ask.group.0
     (books.calls me.0 c.call.seq c is).operation.ask.stripe.0 base)) where
   abbrev asked : Ask
@@ -313,7 +317,7 @@ module _ (setting : Setting) (views : Views) (sound : IsSound setting) (w : Worl
   unheld : (x : Counted) → ReadsAt setting views sound w stamps me c books said is counted each once many (At base) x → not (finds base x) ≡ true
       → held_base x.seat ≡ false
   unheld x reads isnt = ⊎_elim
-      (λ (held : held_base x.seat ≡ true). absurd (by reads.found reads.found_is reads.looked (reads.newest base held (stamp_same_refl base))))
+      (λ (held : held_base x.seat ≡ true). absurd (by reads.found reads.found_is reads.looked (reads.newest base of held (stamp_same_refl base))))
       (λ (never : held_base x.seat ≡ false). never)
       (cases_Bool (held_base x.seat))
     where
@@ -328,8 +332,7 @@ module _ (setting : Setting) (views : Views) (sound : IsSound setting) (w : Worl
 
   base_found : c.group.m ≤ length (pieces_at base counted)
   base_found =
-      let its : CallBooks setting w me.0 c.call.seq c = books.calls me.0 c.call.seq c is in
-      let limits : IsWithinLimits c.group.m (length c.group.members) = sound.limits c.ask.group.0 c.group its.group_is in
+      let limits : IsWithinLimits c.group.m (length c.group.members) = said.limits c.call.group.0 c.call.view.0 c.group (said.calls me.0 c.call.seq c is).group in
       let test : Counted → Bool = λ x. not (finds base x) in
       let others : List Counted = filter test counted in
       let seats : length others ≤ count (length c.group.members) (λ seat. not (held_base seat))
@@ -368,9 +371,9 @@ module _ (setting : Setting) (views : Views) (sound : IsSound setting) (w : Worl
 
   pub base_enough : c.group.m ≤ length (pieces_at base counted)
   base_enough =
-      base_found setting views sound w stamps me c books said is counted each once many base all_reads
+      base_found setting views sound w stamps me c books said is counted each once many base all_reads based.of
       (subst (λ (a : Ask). AtQuorum c.group (λ seat. w.held (brick_at c.group seat) a.group.0 a.stripe.0 base)) its_books.ask
-      (based.stands c.group its_books.group_is))
+      (based.stands c.group (call_in setting views w stamps books said me.0 c.call.seq c is c.ask.group.0 base refl based.of)))
 
   -- and so reads its content back
   pub base_decodes : setting.code.decode c.group.m (pieces_at base counted)

@@ -1,4 +1,6 @@
 -- A coordinator takes a reply: what it then decides keeps the invariant.
+use Rattle.protocol_laws.proofs.Tops.{view_between}
+use Rattle.protocol_laws.proofs.OwnStamps.{call_by, own_in, m_is, call_one}
 use Rattle.std.proofs.Common.{◌≡◌, ℕ, ◌+◌, ◌*◌, ◌<◌, ◌≤◌, max, nat_lt, ◌⊎◌, inl, inr, true, false, List, [], length, Option, Some, None, refl, sym, ap, ◌∙◌, subst, ⊎_elim, arith}
 use Rattle.std.specs.Prelude.{nat_eq}
 use Rattle.std.proofs.lemmas.Bool.{cond_both, cases_Bool, false≢true, and_parts, eqb-true, ltb-true, ltb-false}
@@ -18,10 +20,10 @@ use Rattle.messages.specs.declared.packets.Message.TheVariants as Message
 use Rattle.messages.specs.declared.requests.Look.TheVariants.{Below}
 use Rattle.messages.specs.declared.requests.Want.TheVariants.{All}
 use Rattle.messages.specs.declared.replies.Reply.{Reply}
-use Rattle.fab_base.specs.Layouts.{Group, group_of, seat_in}
+use Rattle.fab_base.specs.Layouts.{Group, seat_in}
 use Rattle.quorum.specs.Quorums.{quorum_of}
 use Rattle.reg_model.specs.Registers.{block_of, after_op, read_of}
-use Rattle.protocol.specs.Views.{Views}
+use Rattle.protocol.specs.Views.{Views, group_in, view_of}
 use Rattle.protocol.specs.Settings.{Setting, Code, IsSound, are_bytes}
 use Rattle.protocol.specs.declared.phases.Refuser.{Refuser}
 use Rattle.protocol.specs.declared.phases.FullMember.{FullMember}
@@ -42,8 +44,8 @@ use Rattle.protocol.proofs.Blocks.{formed_after, IsContent}
 use Rattle.protocol_laws.proofs.Stampings.{ComesFrom, ages_within, stamp_stays, stamps_same, later_unknown, not_first, above_first}
 use Rattle.protocol_laws.proofs.Growth.{Grows, stays_call}
 use Rattle.protocol_laws.proofs.Steps.{KeepsStamps, keeps_same, quiet, quiet_grows, said_quiet, stamps_stay_by}
-use Rattle.protocol_laws.proofs.Decisions.{PromisesAt, ReadsAt, all_ordered, all_read, promises_guard, promises_floors, stored_stands, fast_guards, fast_floors, fast_stands, fast_made, fast_decodes, content_formed, modified_stands, fast_block, common_block, common_stands}
-use Rattle.protocol_laws.proofs.Recoveries.{something_found, version_lower, version_above, version_made, between_blocked, too_few_blocked, pieces_decode, base_enough, base_decodes}
+use Rattle.protocol_laws.proofs.Decisions.{PromisesAt, ReadsAt, all_ordered, all_read, promises_guard, promises_floors, stored_stands, fast_guards, fast_floors, fast_stands, fast_made, fast_decodes, content_formed, modified_stands, fast_block, common_block, common_stands, fast_in}
+use Rattle.protocol_laws.proofs.Recoveries.{something_found, version_lower, version_above, version_made, between_blocked, too_few_blocked, pieces_decode, base_enough, base_decodes, version_view}
 use Rattle.protocol_laws.proofs.Stores.{MakesOn, SendsVersion, made_content, said_made}
 use Rattle.protocol_laws.proofs.Sends.{IsCovered, MayBegin, said_sent}
 use Rattle.protocol_laws.proofs.Ends.{WillShow, said_ended}
@@ -125,9 +127,6 @@ module _ (setting : Setting) (views : Views) (sound : IsSound setting) (w : Worl
   abbrev group : Group
   group = c.group
 
-  group_is : group_of setting.layout c.ask.group.0 ≡ Some group
-  group_is = (books.calls me.0 c.call.seq c is).group_is
-
   abbrev its : CallBooks setting w me.0 c.call.seq c
   its = books.calls me.0 c.call.seq c is
 
@@ -187,9 +186,17 @@ module _ (setting : Setting) (views : Views) (sound : IsSound setting) (w : Worl
         (λ t bad. let never : None ≡ Some t = bad in cc),
   )
 
-  -- a group that is the operation's is the one at hand
-  its_group : group_of setting.layout o.ask.group.0 ≡ Some group
-  its_group = ap (λ a. group_of setting.layout a.group.0) (sym its.ask) ∙ group_is
+  -- a group of the view of its call that is the operation's is the one at hand
+  same_group : (v : Stamp) → view_of v ≡ c.call.view.0 → (other : Group) → group_in setting.layout views o.ask.group.0 (view_of v) ≡ Some other
+      → group ≡ other
+  same_group v = call_by setting views w stamps books said me.0 c.call.seq c is o.ask.group.0 v (ap (λ a. a.group.0) (sym its.ask))
+
+  -- the view is the first
+  first_view : c.call.view.0 ≡ 1
+  first_view = call_one setting views w stamps books said me.0 c.call.seq c is
+
+  own_view : view_of c.stamp ≡ c.call.view.0
+  own_view = own_in setting views w stamps books said me.0 c.call.seq c is
 
   module _ (from : BrickId) (reply : Reply) (seat : ℕ) (sent : WasSent w (record { from = from; to = me; message = Message.Reply c.call reply }))
       (answers : answers_phase setting.layout.block c.stamp seat c.phase reply ≡ true) (seat_is : seat_in group.members from.0 ≡ Some seat)
@@ -202,9 +209,7 @@ module _ (setting : Setting) (views : Views) (sound : IsSound setting) (w : Worl
     new_says = record {
       sent = sent;
       answers = answers;
-      seat = λ other other_is.
-          let same : group ≡ other = (let e : Some group ≡ Some other = sym group_is ∙ other_is in cc) in
-          subst (λ (z : Group). seat_in z.members from.0 ≡ Some seat) same seat_is;
+      seat = seat_is;
     }
 
     each : EachCounted (CountedSays setting views w me.0 c) d.counted
@@ -217,6 +222,7 @@ module _ (setting : Setting) (views : Views) (sound : IsSound setting) (w : Worl
     more_says : CallSays setting views w stamps me.0 c.call.seq d
     unfolding request_of
     more_says = record {
+      group = says.group;
       begun = says.begun;
       last = says.last;
       asked = says.asked;
@@ -229,7 +235,7 @@ module _ (setting : Setting) (views : Views) (sound : IsSound setting) (w : Worl
       stores = says.stores;
       based = λ base has.
           let on : MadeOn setting views w c base = says.based base has in
-          record { base_is = on.base_is; below = on.below; base_made = on.base_made; stands = on.stands; made = on.made; content = on.content };
+          record { base_is = on.base_is; of = on.of; below = on.below; base_made = on.base_made; stands = on.stands; made = on.made; content = on.content };
       counted = each_then (CountedSays setting views w me.0 c) (CountedSays setting views w me.0 d) d.counted
           (λ x h. record { sent = h.sent; answers = h.answers; seat = h.seat }) each;
       once = once;
@@ -249,15 +255,16 @@ module _ (setting : Setting) (views : Views) (sound : IsSound setting) (w : Worl
           → read_of setting.layout.block o.ask.op (w.contents o.ask.group.0 o.ask.stripe.0 v) ≡ Some bytes
           → IsSaid setting views (after (Ends (Data bytes) (Some v) None))
       said_answers v bytes fast unmade reads gives =
+          let of : view_of v ≡ c.call.view.0 = fast_in setting views sound w stamps me c books said is d.counted each once many v fast in
           let has : HasVersion setting views w o v = record {
             made = fast_made setting views sound w stamps me c books said is d.counted each once many v fast;
             reader = λ isnt. reads;
             guarded = λ other other_is.
-                let same : group ≡ other = (let e : Some group ≡ Some other = sym its_group ∙ other_is in cc) in
+                let same : group ≡ other = same_group v of other other_is in
                 subst (λ (z : Group). IsGuarded w o.ask.group.0 o.ask.stripe.0 z v) same
                 (fast_guards setting views sound w stamps me c books said is d.counted each once many v fast);
             floors = λ other other_is.
-                let same : group ≡ other = (let e : Some group ≡ Some other = sym its_group ∙ other_is in cc) in
+                let same : group ≡ other = same_group v of other other_is in
                 subst (λ (z : Group). FloorsAtMost o z v) same
                 (fast_floors setting views sound w stamps me c books said is d.counted each once many v fast);
           } in (
@@ -268,7 +275,7 @@ module _ (setting : Setting) (views : Views) (sound : IsSound setting) (w : Worl
                 (λ u now. let same : v ≡ u = cc in subst (λ (t : Stamp). HasVersion setting views w o t) same has)
                 (λ u now how other other_is.
                 let same : v ≡ u = cc in
-                let group_same : group ≡ other = same_Some group other (sym its_group ∙ other_is) in
+                let group_same : group ≡ other = same_group u (ap view_of (sym same) ∙ of) other other_is in
                 subst (λ (z : Group). AtQuorum z (λ seat. w.held (brick_at z seat) o.ask.group.0 o.ask.stripe.0 u)) group_same
                 (subst (λ (t : Stamp). AtQuorum group (λ seat. w.held (brick_at group seat) o.ask.group.0 o.ask.stripe.0 t)) same
                 (fast_stands setting views sound w stamps me c books said is d.counted each once many v fast)))
@@ -324,14 +331,14 @@ module _ (setting : Setting) (views : Views) (sound : IsSound setting) (w : Worl
       o_books : OperationBooks setting w (number_of w me.0 c.call.seq) o
       o_books = books.operations (number_of w me.0 c.call.seq) o its.operation_is
 
-      o_group : o_books.group ≡ group
-      o_group = same_Some o_books.group group (sym o_books.group_is ∙ its_group)
+      o_group : o_books.group.m ≡ group.m
+      o_group = m_is setting views w stamps books said me.0 c.call.seq c is o.ask.group.0 o_books.group (ap (λ a. a.group.0) (sym its.ask)) o_books.group_is
 
       has_its_block : has_block group.m o.ask.op ≡ true
-      has_its_block = subst (λ (z : Group). has_block z.m o.ask.op ≡ true) o_group o_books.block_fits
+      has_its_block = subst (λ (m : ℕ). has_block m o.ask.op ≡ true) o_group o_books.block_fits
 
       has_its_length : has_length group.m setting.layout.block o.ask.op ≡ true
-      has_its_length = subst (λ (z : Group). has_length z.m setting.layout.block o.ask.op ≡ true) o_group o_books.length_fits
+      has_its_length = subst (λ (m : ℕ). has_length m setting.layout.block o.ask.op ≡ true) o_group o_books.length_fits
 
       looks_at_on : (j : ℕ) → c.phase ≡ LooksAt j → (z : Option Stamp) → fast_version_at j d.counted ≡ z
           → IsSaid setting views (after (answered_fast_at d j z))
@@ -412,22 +419,26 @@ module _ (setting : Setting) (views : Views) (sound : IsSound setting) (w : Worl
           lower : stamp_below v c.stamp ≡ true
           lower = version_lower setting views sound w stamps me c books said is d.counted each once many bound looks all v greatest
 
+          found_view : view_of v ≡ c.call.view.0
+          found_view = version_view setting views sound w stamps me c books said is d.counted each once many bound looks all v greatest
+
           made_version : IsMadeOrFirst w o.ask.group.0 o.ask.stripe.0 v
           made_version = version_made setting views sound w stamps me c books said is d.counted each once many bound looks all v greatest
 
           blocked : AreBlocked setting views w o.ask.group.0 o.ask.stripe.0 (λ e. (stamp_below v e ≡ true) × (stamp_below e c.stamp ≡ true))
-          blocked other other_is e h =
-              let same : group ≡ other = same_Some group other (sym its_group ∙ other_is) in
+          blocked e other other_is h =
+              let of : view_of e ≡ c.call.view.0 = view_between v e c.stamp c.call.view.0 found_view own_view (stamp_below_asym v e h.0) h.1 in
+              let same : group ≡ other = same_group e of other other_is in
               subst (λ (z : Group). IsBlocked w o.ask.group.0 o.ask.stripe.0 z e) same
               (between_blocked setting views sound w stamps me c books said is d.counted each once many bound looks all v greatest e h.0 h.1)
 
           -- with too few blocks nothing from v up to the stamp is held by a quorum
           covered : length (pieces_at v d.counted) < group.m → AreBlocked setting views w o.ask.group.0 o.ask.stripe.0 (IsCovered v c.stamp)
-          covered few other other_is e h = ⊎_elim
-              (λ (above : stamp_below v e ≡ true). blocked other other_is e (above, h.1))
+          covered few e other other_is h = ⊎_elim
+              (λ (above : stamp_below v e ≡ true). blocked e other other_is (above, h.1))
               (λ (not_above : stamp_below v e ≡ false).
               let same : v ≡ e = stamp_neither_below v e not_above h.0 in
-              let group_same : group ≡ other = same_Some group other (sym its_group ∙ other_is) in
+              let group_same : group ≡ other = same_group e (ap view_of (sym same) ∙ found_view) other other_is in
               subst (λ (z : Group). IsBlocked w o.ask.group.0 o.ask.stripe.0 z e) group_same
               (subst (λ (t : Stamp). IsBlocked w o.ask.group.0 o.ask.stripe.0 group t) same
               (too_few_blocked setting views sound w stamps me c books said is d.counted each once many bound looks all v greatest few)))
@@ -492,7 +503,7 @@ module _ (setting : Setting) (views : Views) (sound : IsSound setting) (w : Worl
         reads_on : want_of c.phase ≡ All → (z : Option Stamp) → greatest_found d.counted ≡ z
             → IsSaid setting views (after (read_back setting.layout.block setting.code d z))
         reads_on wanted None nothing =
-            absurd (something_found setting views sound w stamps me c books said is d.counted each once many bound looks all nothing)
+            absurd (something_found setting views sound w stamps me c books said is d.counted each once many bound looks all first_view nothing)
         reads_on wanted (Some v) greatest =
             cond_both (nat_lt (length (pieces_at v d.counted)) group.m) (Sends (in_phase d (Descends v)))
             (Makes (restoring setting.layout.block d v (setting.code.decode group.m (pieces_at v d.counted)))) (λ (z : Next). IsSaid setting views (after z))
@@ -539,7 +550,7 @@ module _ (setting : Setting) (views : Views) (sound : IsSound setting) (w : Worl
 
           -- nothing lies from its stamp up to its stamp
           none_covered : AreBlocked setting views w c.ask.group.0 c.ask.stripe.0 (IsCovered c.stamp c.stamp)
-          none_covered other other_is e h = absurd (false≢true (sym h.0 ∙ h.1))
+          none_covered e other other_is h = absurd (false≢true (sym h.0 ∙ h.1))
 
           own_above : stamp_below first_stamp c.stamp ≡ true
           own_above =
@@ -565,6 +576,7 @@ module _ (setting : Setting) (views : Views) (sound : IsSound setting) (w : Worl
               (inr (record {
                 version = v;
                 base_is = refl;
+                of = found_view c.stamp looks none roomy not_whole unmade v greatest;
                 j = j;
                 bytes = writing.0;
                 phase_is = refl;
@@ -572,13 +584,12 @@ module _ (setting : Setting) (views : Views) (sound : IsSound setting) (w : Worl
                 below = lower c.stamp looks none roomy not_whole unmade v greatest;
                 made = of_ask (λ a. IsMadeOrFirst w a.group.0 a.stripe.0 v) made;
                 stands = λ other other_is.
-                    let same : group ≡ other = same_Some group other (sym group_is ∙ other_is) in
+                    let same : group ≡ other
+                    = call_by setting views w stamps books said me.0 c.call.seq c is c.ask.group.0 v refl
+                    (found_view c.stamp looks none roomy not_whole unmade v greatest) other other_is in
                     subst (λ (z : Group). AtQuorum z (λ seat. w.held (brick_at z seat) c.ask.group.0 c.ask.stripe.0 v)) same
                     (of_ask (λ a. AtQuorum group (λ seat. w.held (brick_at group seat) a.group.0 a.stripe.0 v)) stands);
-                formed = λ other other_is.
-                    let same : group ≡ other = same_Some group other (sym group_is ∙ other_is) in
-                    subst (λ (z : Group). IsContent z.m setting.layout.block (w.contents c.ask.group.0 c.ask.stripe.0 v)) same
-                    (of_ask (λ a. IsContent group.m setting.layout.block (w.contents a.group.0 a.stripe.0 v)) formed);
+                formed = (of_ask (λ a. IsContent group.m setting.layout.block (w.contents a.group.0 a.stripe.0 v)) formed);
                 delta_is = ap (λ (l : List ℕ). setting.code.delta l (block_written c.ask.op))
                     (of_ask (λ a. bytes_at j d.counted ≡ block_of setting.layout.block j (w.contents a.group.0 a.stripe.0 v)) old)
                     ∙ ap (λ (op : Op). setting.code.delta (block_of setting.layout.block j (w.contents c.ask.group.0 c.ask.stripe.0 v)) (block_written op)) writing.1;
@@ -625,7 +636,7 @@ module _ (setting : Setting) (views : Views) (sound : IsSound setting) (w : Worl
             (λ v has. (said.operations (number_of w me.0 c.call.seq) o its.operation_is).version v has)
             (λ v has how other other_is.
             let same : c.stamp ≡ v = same_Some c.stamp v (sym made.0 ∙ has) in
-            let group_same : group ≡ other = same_Some group other (sym its_group ∙ other_is) in
+            let group_same : group ≡ other = same_group v (ap view_of (sym same) ∙ own_view) other other_is in
             subst (λ (z : Group). AtQuorum z (λ seat. w.held (brick_at z seat) o.ask.group.0 o.ask.stripe.0 v)) group_same
             (subst (λ (t : Stamp). AtQuorum group (λ seat. w.held (brick_at group seat) o.ask.group.0 o.ask.stripe.0 t)) same stands))
             (λ answered writing. made.1)

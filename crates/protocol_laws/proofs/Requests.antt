@@ -1,18 +1,18 @@
 -- A member handles a request: what its part of the stripe, and its reply, then say.
-use Rattle.std.proofs.Common.{◌≡◌, ℕ, ◌⊎◌, inl, inr, true, false, List, [], Option, Some, None, refl, sym, ap, ◌∙◌, subst, ⊎_elim, arith, ◌∷◌, ◌≤◌, Bool}
+use Rattle.std.proofs.Common.{◌≡◌, ℕ, ◌⊎◌, inl, inr, true, false, List, [], Option, Some, None, refl, sym, ap, ◌∙◌, subst, ⊎_elim, arith, ◌∷◌, ◌≤◌}
 use Rattle.std.specs.Prelude.{slice_get, nat_eq}
 use Rattle.std.proofs.lemmas.Bool.{cond_both, eqb-true, or_left, false≢true, cases_Bool}
 use Rattle.std.proofs.lemmas.Option.{same_Some}
 use Rattle.fab_base.specs.declared.identities.BrickId.{BrickId}
 use Rattle.fab_base.specs.declared.stamps.Stamp.{Stamp}
 use Rattle.fab_base.specs.Stamps.{stamp_below, stamp_same, first_stamp}
-use Rattle.fab_base.proofs.StampOrder.{stamp_below_irrefl, stamp_not_below_trans, stamp_below_asym, stamp_same_refl, stamp_below_first}
+use Rattle.fab_base.proofs.StampOrder.{stamp_below_irrefl, stamp_not_below_trans, stamp_below_asym, stamp_same_refl}
 use Rattle.messages.specs.declared.calls.Call.{Call}
 use Rattle.messages.specs.declared.packets.Message.TheVariants as Message
 use Rattle.messages.specs.declared.packets.Packet.{Packet}
 use Rattle.messages.specs.declared.requests.Look.{Look}
 use Rattle.messages.specs.declared.requests.Look.TheVariants.{Below, At}
-use Rattle.fab_base.specs.Layouts.{Group, group_of, seat_in, Layout}
+use Rattle.fab_base.specs.Layouts.{Group, seat_in, Layout}
 use Rattle.messages.specs.declared.requests.Request.{Request}
 use Rattle.messages.specs.declared.requests.Version.{Version}
 use Rattle.messages.specs.declared.replies.Reply.{Reply}
@@ -23,22 +23,19 @@ use Rattle.protocol.specs.declared.phases.Phase.TheVariants.{Orders, Modifies, S
 use Rattle.protocol.specs.Nodes.{Node, put, with_replica, replica_at, full_at, reply_packets, view_at, view_floor, top_at}
 use Rattle.protocol.specs.Worlds.{World, Operation}
 use Rattle.protocol_laws.specs.Laws.{WasSent, AskedAt, stamp_asked, stamp_stored, top_in, part_in}
-use Rattle.protocol_laws.proofs.Parts.{part_of}
 use Rattle.protocol.proofs.Served.{parts_each}
-use Rattle.protocol_laws.proofs.FirstViews.{view_is, view_below, view_first}
 use Rattle.protocol_laws.proofs.Books.{Books}
-use Rattle.protocol_laws.proofs.OwnStamps.{made_view}
 use Rattle.protocol_laws.proofs.Blocking.{held_in, was_kept}
-use Rattle.protocol_laws.proofs.Said.{Stamping, Said, IsStamped, IsMadeOrFirst, IsKnown, IsCalled, VersionSays, ToldSays, MakerSays, WriteSays, ChangesBlock, ModifySays, OrderSays, OrderReadSays, RequestSays, is_looked, OrderedSays, OrderedReadSays, FoundSays, ReplySays, PacketSays, IsPassedOver, WasCollected}
+use Rattle.protocol_laws.proofs.Said.{Stamping, Said, IsStamped, IsMadeOrFirst, IsKnown, IsCalled, VersionSays, ToldSays, MakerSays, WriteSays, ChangesBlock, ModifySays, OrderSays, OrderReadSays, RequestSays, is_looked, OrderedSays, OrderedReadSays, FoundSays, ReplySays, PacketSays, IsPassedOver, WasCollected, IsBottom}
 use Rattle.protocol.proofs.Tables.{put_same, get_one}
-use Rattle.protocol_laws.proofs.Logs.{LogAscends, IsWithin, among, place_held, newest_stands, newest_held, newest_among, newest_stands_among, IsKept, IsUnder}
+use Rattle.protocol_laws.proofs.Logs.{LogAscends, IsWithin, among, place_held, newest_stands, newest_held, newest_among, newest_stands_among, IsKept, IsUnder, below_above}
 use Rattle.protocol_laws.proofs.Reactions.{IsAfter, StoresBlock, IsTold, ReactionSays, SaysIf, with_order, top_promised, after_top, after_kept, after_lowest, after_newer, after_ascends, after_asked, after_log, top_is, held_top, after_order, top_order}
 use Rattle.protocol_laws.proofs.Stampings.{ages_within, stamps_same}
 use Rattle.protocol_laws.proofs.Growth.{Grows, Continues, stays_version, stays_told, stays_called, stays_found, stays_collected}
 use Rattle.protocol_laws.proofs.Steps.{KeepsParts, quiet, quiet_grows, said_quiet, stamps_stay_by}
 use Rattle.protocol_laws.proofs.Tops.{top_rises, top_most, top_above, view_above, time_rises}
-use Rattle.protocol_laws.proofs.StampViews.{StampViews, NodeViews, RequestIsOf, asks_above}
-use Rattle.protocol.specs.Views.{Views, view_of}
+use Rattle.protocol_laws.proofs.StampViews.{StampViews, NodeViews, RequestIsOf, asks_above, asked_view}
+use Rattle.protocol.specs.Views.{Views, view_of, group_in}
 
 -- A request to the part in the view that a brick has learnt, which asks for nothing below that, lowers no brick, adds nothing below what it had come
 -- to, and drops only what is below all that is left.
@@ -87,58 +84,37 @@ part_now node call reaction =
     (put_same (node.replicas call.group.0) call.view.0 (put (node.replicas call.group.0 call.view.0) call.stripe.0 reaction.replica))
     ∙ put_same (node.replicas call.group.0 call.view.0) call.stripe.0 reaction.replica
 
--- a log that keeps something is not empty
-kept_some : (t : Stamp) (log : List Version) → IsKept t log → (x : Version) × (rest : List Version) × (log ≡ x ∷ rest)
-kept_some t [] (inl held) = absurd (false≢true held)
-kept_some t [] (inr under) = absurd under
-kept_some t (x ∷ rest) kept = (x, rest, refl)
-
 -- what was found is at least what is below it
 within_lower : (found : Option Version) (d c : Stamp) → stamp_below d c ≡ true → IsWithin found c → IsWithin found d
 within_lower None d c less within = within
 within_lower (Some version) d c less within = stamp_not_below_trans d c version.stamp (stamp_below_asym d c less) within
 
--- the call in view 1
-abbrev pub in_first : Call → Call
-in_first call =
-    record { boot = call.boot; seq = call.seq; phase = call.phase; group = call.group; view = record { 0 = 1 }; stripe = call.stripe }
-
-module _ (setting : Setting) (views : Views) (w : World) (stamps : Stamping) (me from : BrickId) (given : Call) (request : Request) (books : Books setting w)
-    (stamped : StampViews setting.layout w) (group : Group) (seat : ℕ) (group_is : group_of setting.layout given.group.0 ≡ Some group) (seat_is : seat_in group.members me.0 ≡ Some seat)
-    (said : Said setting views w stamps) (sent : WasSent w (record { from = from; to = me; message = Message.Request (in_first given) request })) where
-  -- the call
-  abbrev call : Call
-  call = in_first given
-
+module _ (setting : Setting) (views : Views) (w : World) (stamps : Stamping) (me from : BrickId) (call : Call) (request : Request) (books : Books setting w)
+    (stamped : StampViews setting.layout w) (group : Group) (seat : ℕ)
+    (group_is : group_in setting.layout views call.group.0 call.view.0 ≡ Some group) (seat_is : seat_in group.members me.0 ≡ Some seat)
+    (view : call.view.0 ≡ view_at (w.nodes me.0) call.group.0) (free : (w.nodes me.0).accepted call.group.0 ≡ false)
+    (said : Said setting views w stamps) (sent : WasSent w (record { from = from; to = me; message = Message.Request call request })) where
   -- the member's part before the request
   abbrev before : Replica
-  before = part_of w call.group.0 call.stripe.0 me.0
+  before = part_in w call.group.0 call.view.0 call.stripe.0 me.0
 
-  -- its log ascends, and has a lowest version
+  -- its log ascends
   rises : LogAscends before.log
-  rises = said.logged.ascends call.group.0 1 call.stripe.0 me.0
+  rises = said.logged.ascends call.group.0 call.view.0 call.stripe.0 me.0
 
-  lowest_is : (x : Version) × (rest : List Version) × (before.log ≡ x ∷ rest)
-  lowest_is =
-      kept_some first_stamp before.log
-      (was_kept w said.logged call.group.0 call.stripe.0 me.0 first_stamp refl (said.first_held call.group.0 call.stripe.0 me.0))
-
-  -- the view that the member has learnt, and accepted none to follow
-  in_view : view_at (w.nodes me.0) call.group.0 ≡ 1
-  in_view = view_first setting.layout (w.nodes me.0) call.group.0 (books.first me.0)
-
-  free : (w.nodes me.0).accepted call.group.0 ≡ false
-  free = ap (λ (f : ℕ → Bool). f call.group.0) (books.first me.0).accepted
+  -- its versions are of the view
+  kept_of : (k : ℕ) (version : Version) → slice_get before.log k ≡ Some version → view_of version.stamp ≡ call.view.0
+  kept_of = ((stamped.nodes me.0).parts call.group.0 call.view.0 call.stripe.0).log
 
   -- what is of the view is not below what the member has learnt
-  over : (t : Stamp) → view_of t ≡ 1 → stamp_below t (view_floor (w.nodes me.0) call.group.0) ≡ false
-  over t view = view_above (w.nodes me.0) call.group.0 t free (view ∙ sym in_view)
+  over : (t : Stamp) → view_of t ≡ call.view.0 → stamp_below t (view_floor (w.nodes me.0) call.group.0) ≡ false
+  over t of = view_above (w.nodes me.0) call.group.0 t free (of ∙ view)
 
   -- a brick that has learnt it comes no less far than its part of it
-  above_part : (node : Node) → view_at node call.group.0 ≡ 1
+  above_part : (node : Node) → view_at node call.group.0 ≡ call.view.0
       → stamp_below (top_at node call.group.0 call.stripe.0) (top_of (replica_at node call)) ≡ false
-  above_part node view =
-      subst (λ (e : ℕ). stamp_below (top_at node call.group.0 call.stripe.0) (top_of (node.replicas call.group.0 e call.stripe.0)) ≡ false) view
+  above_part node learnt =
+      subst (λ (e : ℕ). stamp_below (top_at node call.group.0 call.stripe.0) (top_of (node.replicas call.group.0 e call.stripe.0)) ≡ false) learnt
       (top_above node call.group.0 call.stripe.0)
 
   asks : RequestSays setting views w stamps from.0 me.0 call request
@@ -163,12 +139,12 @@ module _ (setting : Setting) (views : Views) (w : World) (stamps : Stamping) (me
   asked_stamped : (t : Stamp) → stamp_asked request ≡ Some t → IsStamped stamps from.0 call.boot call.seq call.phase t
   asked_stamped t is = asked_phase request t is asks
 
-  -- it is of view 1, and known
-  asked_view : (t : Stamp) → stamp_asked request ≡ Some t → t.view.0 ≡ 1
-  asked_view t is = (said.stamps_say.are from.0 call.boot call.seq call.phase t (asked_stamped t is)).view
+  -- it is of the call's view, and known
+  asked_as : RequestIsOf call request
+  asked_as = stamped.packets sent.0 (record { from = from; to = me; message = Message.Request call request }) sent.1
 
-  stamp_view : (t : Stamp) → IsStamped stamps from.0 call.boot call.seq call.phase t → view_of t ≡ 1
-  stamp_view t is = view_is t (said.stamps_say.are from.0 call.boot call.seq call.phase t is).view
+  asked_in : (t : Stamp) → stamp_asked request ≡ Some t → view_of t ≡ call.view.0
+  asked_in = asked_view setting.layout (w.nodes me.0) call request (stamped.nodes me.0) asked_as view
 
   asked_known : (t : Stamp) → stamp_asked request ≡ Some t → IsKnown stamps t
   asked_known t is = inr (from.0, call.boot, call.seq, call.phase, asked_stamped t is)
@@ -195,8 +171,7 @@ module _ (setting : Setting) (views : Views) (w : World) (stamps : Stamping) (me
     keeps : KeepsParts (w.nodes me.0) (with_replica (w.nodes me.0) call reaction)
     keeps =
         parts_keep setting.layout setting.code group.m seat (w.nodes me.0) call request reaction rises after (stamped.nodes me.0)
-        (stamped.packets sent.0 (record { from = from; to = me; message = Message.Request call request }) sent.1)
-        (sym in_view) free
+        asked_as view free
 
     grows : Grows w next stamps stamps
     grows = quiet_grows w stamps stamps me (with_replica (w.nodes me.0) call reaction) more (stamps_same stamps) said.logged keeps
@@ -216,7 +191,7 @@ module _ (setting : Setting) (views : Views) (w : World) (stamps : Stamping) (me
         inr (w.numbers from.0 call.boot call.seq, says.operation, says.called.is, says.called.group, says.called.stripe, says.made, says.version)
 
     -- each group of the call is the one at hand, and so is each seat
-    at_hand : (P : Group → ℕ → Type 0) → P group seat → (other : Group) (k : ℕ) → group_of setting.layout call.group.0 ≡ Some other
+    at_hand : (P : Group → ℕ → Type 0) → P group seat → (other : Group) (k : ℕ) → group_in setting.layout views call.group.0 call.view.0 ≡ Some other
         → seat_in other.members me.0 ≡ Some k → P other k
     at_hand P h other k other_is at_k =
         let same : group ≡ other = same_Some group other (sym group_is ∙ other_is) in
@@ -224,7 +199,7 @@ module _ (setting : Setting) (views : Views) (w : World) (stamps : Stamping) (me
         subst (λ (z : Group). P z k) same (subst (λ (i : ℕ). P group i) place h)
 
     stored_version : (version : Version) → StoresBlock setting.code group.m seat before request version.stamp version.block
-        → VersionSays setting views w call.group.0 call.stripe.0 me.0 version
+        → VersionSays setting views w call.group.0 call.view.0 call.stripe.0 me.0 version
     stored_version version (inl is) =
         let says : WriteSays setting views w stamps from.0 me.0 call version.stamp version.block = asks_as (Request.Write version.stamp version.block) is in
         record { made = made_by Stores version.stamp says.maker; block = says.is_block }
@@ -232,8 +207,8 @@ module _ (setting : Setting) (views : Views) (w : World) (stamps : Stamping) (me
         let says : ModifySays setting views w stamps from.0 me.0 call version.stamp old.stamp j delta
         = asks_as (Request.Modify version.stamp old.stamp j delta) is in
         let stands = newest_stands before.log old newest in
-        let kept : VersionSays setting views w call.group.0 call.stripe.0 me.0 old
-        = said.logs call.group.0 1 call.stripe.0 me.0 stands.0 old stands.1 in
+        let kept : VersionSays setting views w call.group.0 call.view.0 call.stripe.0 me.0 old
+        = said.logs call.group.0 call.view.0 call.stripe.0 me.0 stands.0 old stands.1 in
         let change : ChangesBlock setting w call.group.0 call.stripe.0 version.stamp old.stamp j delta group seat = says.changes group seat group_is seat_is in
         let block : version.block ≡ setting.code.encode group.m (w.contents call.group.0 call.stripe.0 version.stamp) seat
         = block_is ∙ ap (λ (z : List ℕ). modified_block setting.code group.m j seat delta z) (kept.block group seat group_is seat_is) ∙ change.makes in
@@ -243,27 +218,25 @@ module _ (setting : Setting) (views : Views) (w : World) (stamps : Stamping) (me
         }
 
     logs : (g e s k : ℕ) (version : Version) → slice_get ((with_replica (w.nodes me.0) call reaction).replicas g e s).log k ≡ Some version
-        → ((j : ℕ) × (slice_get ((w.nodes me.0).replicas g e s).log j ≡ Some version)) ⊎ VersionSays setting views next g s me.0 version
+        → ((j : ℕ) × (slice_get ((w.nodes me.0).replicas g e s).log j ≡ Some version)) ⊎ VersionSays setting views next g e s me.0 version
     logs g e s k version = parts_each
         (λ h e r x. slice_get x.log k ≡ Some version
-        → ((j : ℕ) × (slice_get ((w.nodes me.0).replicas h e r).log j ≡ Some version)) ⊎ VersionSays setting views next h r me.0 version)
+        → ((j : ℕ) × (slice_get ((w.nodes me.0).replicas h e r).log j ≡ Some version)) ⊎ VersionSays setting views next h e r me.0 version)
         (w.nodes me.0) call reaction
         (λ is. ⊎_elim
         (λ (old : (j : ℕ) × (slice_get before.log j ≡ Some version)). inl old)
         (λ (new : StoresBlock setting.code group.m seat before request version.stamp version.block).
-        inr (stays_version setting views w next stamps stamps books grows call.group.0 call.stripe.0 me.0 version (stored_version version new)))
+        inr (stays_version setting views w next stamps stamps books grows call.group.0 call.view.0 call.stripe.0 me.0 version (stored_version version new)))
         (after_log setting.code group.m seat before request part k version after is))
         (λ h v r is. inl (k, is)) g e s
 
-    -- the lowest version is as before, or one that was collected
-    lowest : (g e s : ℕ) (x : Version) (log : List Version) → ((with_replica (w.nodes me.0) call reaction).replicas g e s).log ≡ x ∷ log
-        → ((rest : List Version) × (((w.nodes me.0).replicas g e s).log ≡ x ∷ rest)) ⊎ WasCollected next g s x.stamp
-    lowest g e s x log = parts_each
-        (λ h e r y. y.log ≡ x ∷ log → ((rest : List Version) × (((w.nodes me.0).replicas h e r).log ≡ x ∷ rest)) ⊎ WasCollected next h r x.stamp)
-        (w.nodes me.0) call reaction
-        (λ is. ⊎_elim
+    -- the lowest version is as before, or one that was collected, or there was none
+    lowest_now : (z : List Version) → before.log ≡ z → (x : Version) (log : List Version) → part.log ≡ x ∷ log
+        → ((rest : List Version) × (before.log ≡ x ∷ rest)) ⊎ ((before.log ≡ []) ⊎ WasCollected next call.group.0 call.stripe.0 x.stamp)
+    lowest_now [] was x log is = inr (inl was)
+    lowest_now (y ∷ rest) was x log is = ⊎_elim
         (λ (old : (rest : List Version) × (before.log ≡ x ∷ rest)). inl old)
-        (λ (collects : request ≡ Request.Collect x.stamp). inr (record {
+        (λ (collects : request ≡ Request.Collect x.stamp). inr (inr (record {
           call = call;
           from = from;
           to = me;
@@ -271,12 +244,19 @@ module _ (setting : Setting) (views : Views) (w : World) (stamps : Stamping) (me
               (subst (λ (z : Request). WasSent w (record { from = from; to = me; message = Message.Request call z })) collects sent);
           group = refl;
           stripe = refl;
-        }))
-        (after_lowest setting.code group.m seat before request part lowest_is.0 x lowest_is.1 log rises after lowest_is.2 is))
-        (λ h v r is. inl (log, is)) g e s
+        })))
+        (after_lowest setting.code group.m seat before request part y x rest log rises after was is)
+
+    lowest : (g e s : ℕ) (x : Version) (log : List Version) → ((with_replica (w.nodes me.0) call reaction).replicas g e s).log ≡ x ∷ log
+        → ((rest : List Version) × (((w.nodes me.0).replicas g e s).log ≡ x ∷ rest))
+        ⊎ ((((w.nodes me.0).replicas g e s).log ≡ []) ⊎ WasCollected next g s x.stamp)
+    lowest g e s x log = parts_each
+        (λ h v r y. y.log ≡ x ∷ log → ((rest : List Version) × (((w.nodes me.0).replicas h v r).log ≡ x ∷ rest))
+        ⊎ ((((w.nodes me.0).replicas h v r).log ≡ []) ⊎ WasCollected next h r x.stamp))
+        (w.nodes me.0) call reaction (lowest_now before.log refl x log) (λ h v r is. inl (log, is)) g e s
 
     -- the member's part after the request
-    now : part_of next call.group.0 call.stripe.0 me.0 ≡ part
+    now : part_in next call.group.0 call.view.0 call.stripe.0 me.0 ≡ part
     now = ap (λ node. replica_at node call) (put_same w.nodes me.0 (with_replica (w.nodes me.0) call reaction))
         ∙ part_now (w.nodes me.0) call reaction
 
@@ -286,7 +266,7 @@ module _ (setting : Setting) (views : Views) (w : World) (stamps : Stamping) (me
         subst (λ (n : Node). stamp_below (top_at n call.group.0 call.stripe.0) (top_of part) ≡ false)
         (sym (put_same w.nodes me.0 (with_replica (w.nodes me.0) call reaction)))
         (subst (λ (r : Replica). stamp_below (top_at (with_replica (w.nodes me.0) call reaction) call.group.0 call.stripe.0) (top_of r) ≡ false)
-        (part_now (w.nodes me.0) call reaction) (above_part (with_replica (w.nodes me.0) call reaction) in_view))
+        (part_now (w.nodes me.0) call reaction) (above_part (with_replica (w.nodes me.0) call reaction) (sym view)))
 
     -- the operation's floor at this member is at most what is of the view, and at or above its part
     floor_below : (o : Operation) → IsCalled w from.0 call o → (t : Stamp) → stamp_below t (view_floor (w.nodes me.0) call.group.0) ≡ false
@@ -300,22 +280,23 @@ module _ (setting : Setting) (views : Views) (w : World) (stamps : Stamping) (me
         = subst (λ (s : ℕ). stamp_below (top_in w call.group.0 s me.0) (o.floor me.0) ≡ false) called.stripe in_group in
         stamp_not_below_trans (o.floor me.0) (top_in w call.group.0 call.stripe.0 me.0) t here
         (top_most (w.nodes me.0) call.group.0 call.stripe.0 t over
-        (subst (λ (e : ℕ). stamp_below t (top_of (part_in w call.group.0 e call.stripe.0 me.0)) ≡ false) (sym in_view) above))
+        (subst (λ (e : ℕ). stamp_below t (top_of (part_in w call.group.0 e call.stripe.0 me.0)) ≡ false) view above))
 
     -- a version that is told as it is kept, or without its bytes, says what it should
     told_says : (version : Version) (kept : Option Version) → IsTold (Some version) kept
         → ((old : Version) → kept ≡ Some old → (k : ℕ) × (slice_get before.log k ≡ Some old))
-        → ToldSays setting views w call.group.0 call.stripe.0 me.0 version
+        → ToldSays setting views w call.group.0 call.view.0 call.stripe.0 me.0 version
     told_says version kept told place =
         let old : Version = told.0 in
         let at = place old told.1 in
-        let says : VersionSays setting views w call.group.0 call.stripe.0 me.0 old = said.logs call.group.0 1 call.stripe.0 me.0 at.0 old at.1 in
+        let says : VersionSays setting views w call.group.0 call.view.0 call.stripe.0 me.0 old = said.logs call.group.0 call.view.0 call.stripe.0 me.0 at.0 old at.1 in
         record {
+          of = ap view_of told.2 ∙ kept_of at.0 old at.1;
           made = subst (λ (t : Stamp). IsMadeOrFirst w call.group.0 call.stripe.0 t) (sym told.2) says.made;
           block = ⊎_elim
               (λ (none : version.block ≡ []). inl none)
               (λ (whole : version.block ≡ old.block).
-              inr (λ (z : Group) (k : ℕ) (z_is : group_of setting.layout call.group.0 ≡ Some z) (at_k : seat_in z.members me.0 ≡ Some k).
+              inr (λ (z : Group) (k : ℕ) (z_is : group_in setting.layout views call.group.0 call.view.0 ≡ Some z) (at_k : seat_in z.members me.0 ≡ Some k).
               whole ∙ says.block z k z_is at_k
               ∙ ap (λ (t : Stamp). setting.code.encode z.m (w.contents call.group.0 call.stripe.0 t) k) (sym told.2)))
               told.3;
@@ -334,25 +315,24 @@ module _ (setting : Setting) (views : Views) (w : World) (stamps : Stamping) (me
         record {
           operation = says.0;
           called = says.1;
-          top = subst (λ (t : Stamp). stamp_below (top_in w call.group.0 call.stripe.0 me.0) t ≡ false) top (above_part (w.nodes me.0) in_view);
+          top = subst (λ (t : Stamp). stamp_below (top_in w call.group.0 call.stripe.0 me.0) t ≡ false) top (above_part (w.nodes me.0) (sym view));
           floor = subst (λ (t : Stamp). stamp_below t (says.0.floor me.0) ≡ false) top
               (floor_below says.0 says.1 (top_of before)
               (stamp_not_below_trans (view_floor (w.nodes me.0) call.group.0) old.stamp (top_of before)
-              (over old.stamp (((stamped.nodes me.0).parts call.group.0 1 call.stripe.0).log stands.0 old stands.1))
+              (over old.stamp (kept_of stands.0 old stands.1))
               (held_top before old.stamp rises (newest_held before.log old newest)))
               (stamp_below_irrefl (top_of before)));
           held = subst (λ (t : Stamp). w.held me.0 call.group.0 call.stripe.0 t ≡ true) (sym stamp)
-              (held_in w said.logged call.group.0 call.stripe.0 me.0 old.stamp (made_view setting views w stamps books said
-              call.group.0 call.stripe.0 old.stamp (said.logs call.group.0 1 call.stripe.0 me.0 stands.0 old stands.1).made)
+              (held_in w said.logged call.group.0 call.view.0 call.stripe.0 me.0 old.stamp (kept_of stands.0 old stands.1)
               (newest_held before.log old newest));
           says = told_says version (newest_of before.log) told.2 (λ kept is. newest_stands before.log kept is);
         }
 
     -- a promise is at or above the operation's floor at this member
-    promise_above : (t : Stamp) (o : Operation) → IsCalled w from.0 call o → (p : Operation) → Continues o p → view_of t ≡ 1
+    promise_above : (t : Stamp) (o : Operation) → IsCalled w from.0 call o → (p : Operation) → Continues o p → view_of t ≡ call.view.0
         → stamp_below t (top_of before) ≡ false → stamp_below t (p.floor me.0) ≡ false
-    promise_above t o called p on view above =
-        subst (λ (f : ℕ → Stamp). stamp_below t (f me.0) ≡ false) (sym on.floor) (floor_below o called t (over t view) above)
+    promise_above t o called p on of above =
+        subst (λ (f : ℕ → Stamp). stamp_below t (f me.0) ≡ false) (sym on.floor) (floor_below o called t (over t of) above)
 
     ordered_says : ReactionSays full before request part Reply.Ordered → OrderedSays next stamps me.0 from.0 call
     ordered_says told =
@@ -364,7 +344,7 @@ module _ (setting : Setting) (views : Views) (w : World) (stamps : Stamping) (me
           stamp = told.0;
           stamp_is = says.begun;
           promised = subst (λ (t : Stamp). stamp_below (top_in next call.group.0 call.stripe.0 me.0) t ≡ false) told.3 part_stands;
-          floor = promise_above told.0 says.operation says.called goes.0 goes.2 (stamp_view told.0 (Orders, says.begun)) told.2;
+          floor = promise_above told.0 says.operation says.called goes.0 goes.2 (asked_in told.0 (ap stamp_asked told.1)) told.2;
         }
 
     -- what is looked for in a log
@@ -381,13 +361,13 @@ module _ (setting : Setting) (views : Views) (w : World) (stamps : Stamping) (me
 
     -- what was dropped, and is looked for, is below what was found, or is passed over
     dropped_passed : (found : Option Version) (look : Look) (t d : Stamp) → IsTold found (looked_up look before.log)
-        → stamp_below t (top_of before) ≡ false → IsUnder d before.log → IsWithin found d ⊎ IsPassedOver next call.group.0 call.stripe.0 look t d
-    dropped_passed found look t d told above under =
-        let x : Version = lowest_is.0 in
-        let less : stamp_below d x.stamp ≡ true = subst (λ (l : List Version). IsUnder d l) lowest_is.2 under in
+        → stamp_below t (top_of before) ≡ false → view_of d ≡ call.view.0 → next.held me.0 call.group.0 call.stripe.0 d ≡ true → (z : List Version)
+        → before.log ≡ z → IsUnder d z → IsWithin found d ⊎ IsPassedOver next call.group.0 call.view.0 call.stripe.0 look t d
+    dropped_passed found look t d told above of held [] log_is under = absurd under
+    dropped_passed found look t d told above of held (x ∷ rest) log_is less =
         let here : is_held x.stamp before.log ≡ true
-        = subst (λ (l : List Version). is_held x.stamp l ≡ true) (sym lowest_is.2)
-        (or_left (stamp_same x.stamp x.stamp) (is_held x.stamp lowest_is.1) (stamp_same_refl x.stamp)) in
+        = subst (λ (l : List Version). is_held x.stamp l ≡ true) (sym log_is)
+        (or_left (stamp_same x.stamp x.stamp) (is_held x.stamp rest) (stamp_same_refl x.stamp)) in
         ⊎_elim
         (λ (looked : is_looked look x.stamp ≡ true).
         inl (within_lower found d x.stamp less
@@ -395,17 +375,27 @@ module _ (setting : Setting) (views : Views) (w : World) (stamps : Stamping) (me
         (subst (λ (z : Option Version). IsWithin z x.stamp) (sym (looked_is look before.log))
         (newest_among (is_looked look) x.stamp before.log rises here looked)))))
         (λ (unlooked : is_looked look x.stamp ≡ false). ⊎_elim
-        (λ (first : x.stamp ≡ first_stamp).
-        absurd (false≢true (sym (stamp_below_first d) ∙ subst (λ (z : Stamp). stamp_below d z ≡ true) first less)))
+        (λ (bottom : IsBottom w call.group.0 call.view.0 call.stripe.0 me.0 x.stamp). absurd (bottom d of less (was_held x.stamp here less)))
         (λ (collected : WasCollected w call.group.0 call.stripe.0 x.stamp). inr (record {
           at = x.stamp;
+          of = kept_of 0 x (ap (λ (l : List Version). slice_get l 0) log_is);
           above = less;
           unlooked = unlooked;
           most = stamp_not_below_trans x.stamp (top_of before) t (held_top before x.stamp rises here) above;
           collected = stays_collected w next grows.sent call.group.0 call.stripe.0 x.stamp collected;
         }))
-        (said.lowest call.group.0 1 call.stripe.0 me.0 x lowest_is.1 lowest_is.2))
+        (said.lowest call.group.0 call.view.0 call.stripe.0 me.0 x rest log_is))
         (cases_Bool (is_looked look x.stamp))
+      where
+        -- what is below a version that was kept was held before
+        was_held : (c : Stamp) → is_held c before.log ≡ true → stamp_below d c ≡ true → w.held me.0 call.group.0 call.stripe.0 d ≡ true
+        was_held c there less = ⊎_elim
+            (λ (was : w.held me.0 call.group.0 call.stripe.0 d ≡ true). was)
+            (λ (new : stamp_below d (top_in w call.group.0 call.stripe.0 me.0) ≡ false).
+            absurd (false≢true (sym new ∙ below_above d c (top_in w call.group.0 call.stripe.0 me.0) less
+            (stamp_not_below_trans c (top_of before) (top_in w call.group.0 call.stripe.0 me.0) (held_top before c rises there)
+            (above_part (w.nodes me.0) (sym view))))))
+            (grows.parts.newer call.group.0 call.stripe.0 me.0 d held)
 
     found_told : (found : Option Version) (kept : Option Version) (version : Version) → IsTold found kept → found ≡ Some version
         → IsTold (Some version) kept
@@ -419,8 +409,8 @@ module _ (setting : Setting) (views : Views) (w : World) (stamps : Stamping) (me
         let says : OrderReadSays w stamps from.0 call told.0 look told.1.1 = asks_as (Request.OrderRead told.0 look told.1.1) told.1.2 in
         let goes = stays_called setting views w next stamps stamps books grows from.0 call says.operation says.called in
         let kept : looked_up look before.log ≡ newest_of (among (is_looked look) before.log) = looked_is look before.log in
-        let view : told.0.view.0 ≡ 1 = (said.stamps_say.are from.0 call.boot call.seq call.phase told.0 (says.phase, says.begun)).view in
-        let promise : part_of next call.group.0 call.stripe.0 me.0 ≡ with_order before told.0 = now ∙ told.1.4 in
+        let asked : stamp_asked request ≡ Some told.0 = ap stamp_asked told.1.2 in
+        let promise : part_in next call.group.0 call.view.0 call.stripe.0 me.0 ≡ with_order before told.0 = now ∙ told.1.4 in
         let top : top_of part ≡ told.0 = ap (λ (r : Replica). top_of r) told.1.4 ∙ top_promised before told.0 told.1.3 in
         record {
           operation = goes.0;
@@ -431,27 +421,25 @@ module _ (setting : Setting) (views : Views) (w : World) (stamps : Stamping) (me
           begun = says.begun;
           look_is = says.look_is;
           below = says.below;
-          view = view;
+          view = asked_as told.0 asked;
           promised = subst (λ (t : Stamp). stamp_below (top_in next call.group.0 call.stripe.0 me.0) t ≡ false) top part_stands;
-          floor = promise_above told.0 says.operation says.called goes.0 goes.2 (view_is told.0 view) told.1.3;
-          newest = λ d held looked. ⊎_elim
+          floor = promise_above told.0 says.operation says.called goes.0 goes.2 (asked_in told.0 asked) told.1.3;
+          newest = λ d of held looked. ⊎_elim
               (λ (there : is_held d before.log ≡ true).
               inl (found_within found (looked_up look before.log) d told.1.5
               (subst (λ (z : Option Version). IsWithin z d) (sym kept) (newest_among (is_looked look) d before.log rises there looked))))
-              (λ (under : IsUnder d before.log). dropped_passed found look told.0 d told.1.5 told.1.3 under)
+              (λ (under : IsUnder d before.log). dropped_passed found look told.0 d told.1.5 told.1.3 of held before.log refl under)
               (subst (λ (r : Replica). IsKept d r.log) promise
-              (was_kept next grows.parts.logged call.group.0 call.stripe.0 me.0 d
-              (view_below d told.0 (omega (arith, view)) (says.below d looked)) held));
+              (was_kept next grows.parts.logged call.group.0 call.view.0 call.stripe.0 me.0 d of held));
           held = λ version is.
               let tells = found_told found (looked_up look before.log) version told.1.5 is in
               let at = newest_stands_among (is_looked look) before.log tells.0 (sym kept ∙ tells.1) in
               grows.parts.held call.group.0 call.stripe.0 me.0 version.stamp
               (subst (λ (t : Stamp). w.held me.0 call.group.0 call.stripe.0 t ≡ true) (sym tells.2)
-              (held_in w said.logged call.group.0 call.stripe.0 me.0 tells.0.stamp (made_view setting views w stamps books said
-              call.group.0 call.stripe.0 tells.0.stamp (said.logs call.group.0 1 call.stripe.0 me.0 at.0 tells.0 at.1).made)
+              (held_in w said.logged call.group.0 call.view.0 call.stripe.0 me.0 tells.0.stamp (kept_of at.0 tells.0 at.1)
               (place_held before.log at.0 tells.0 at.1)));
           says = λ version is.
-              stays_told setting views w next stamps stamps books grows call.group.0 call.stripe.0 me.0 version
+              stays_told setting views w next stamps stamps books grows call.group.0 call.view.0 call.stripe.0 me.0 version
               (told_says version (looked_up look before.log) (found_told found (looked_up look before.log) version told.1.5 is)
               (λ old old_is. newest_stands_among (is_looked look) before.log old (sym kept ∙ old_is)));
         }
@@ -478,8 +466,8 @@ module _ (setting : Setting) (views : Views) (w : World) (stamps : Stamping) (me
       request,
       grows.sent (record { from = from; to = me; message = Message.Request call request }) sent,
       told.1,
-      held_in next grows.parts.logged call.group.0 call.stripe.0 me.0 told.0
-          (view_is told.0 (asked_view told.0 (stored_asked request told.0 told.1)))
+      held_in next grows.parts.logged call.group.0 call.view.0 call.stripe.0 me.0 told.0
+          (asked_in told.0 (stored_asked request told.0 told.1))
           (subst (λ (r : Replica). is_held told.0 r.log ≡ true) (sym now) told.2),
     )
     reply_says (Reply.Later x) told = (told.0, later_asked told.0 told.1, told.2)

@@ -1,7 +1,9 @@
 -- What the messages, the logs, the operations and the marks of a world say: the invariant behind the laws. The stamp of each phase of each
 -- brick's calls is remembered beside the world.
-use Rattle.std.proofs.Common.{◌≡◌, ℕ, ◌*◌, ◌<◌, ◌≤◌, ◌⊎◌, Bool, true, false, not, List, [], ◌∷◌, length, Option, Some, None}
-use Rattle.std.specs.Prelude.{slice_get}
+use Rattle.quorum.specs.Quorums.{IsWithinLimits}
+use Rattle.std.specs.List.{IsDistinct}
+use Rattle.std.proofs.Common.{◌≡◌, ℕ, ◌<◌, ◌≤◌, ◌⊎◌, Bool, true, false, not, List, [], ◌∷◌, length, Option, Some, None}
+use Rattle.std.specs.Prelude.{slice_get, nat_eq, map}
 use Rattle.fab_base.specs.declared.identities.BrickId.{BrickId}
 use Rattle.fab_base.specs.declared.stamps.Stamp.{Stamp}
 use Rattle.fab_base.specs.declared.asks.Op.{Op}
@@ -24,7 +26,7 @@ use Rattle.reg_model.specs.Marks.{life_of}
 use Rattle.reg_model.specs.Walk.{last_of}
 use Rattle.reg_model.specs.Registers.{after_op, read_of}
 use Rattle.fab_base.specs.Layouts.{Group, group_of, seat_in}
-use Rattle.protocol.specs.Views.{Views}
+use Rattle.protocol.specs.Views.{Views, group_in, view_of}
 use Rattle.protocol.specs.Settings.{Setting}
 use Rattle.protocol.specs.Replicas.{top_of, stamp_max, modified_block}
 use Rattle.protocol.specs.declared.phases.Phase.{Phase}
@@ -77,14 +79,15 @@ abbrev pub is_looked : Look → Stamp → Bool
 is_looked (Below bound) d = stamp_below d bound
 is_looked (At base) d = stamp_same d base
 
--- a quorum of the stripe's seats holds the version
+-- a quorum of the version's view holds it
 abbrev pub Stands : Setting → Views → World → ℕ → ℕ → Stamp → Type 0
 Stands setting views w g s v =
-    (group : Group) → group_of setting.layout g ≡ Some group → AtQuorum group (λ seat. w.held (brick_at group seat) g s v)
+    (group : Group) → group_in setting.layout views g (view_of v) ≡ Some group → AtQuorum group (λ seat. w.held (brick_at group seat) g s v)
 
--- no quorum holds a stamp of these, or ever will
+-- no quorum of its view holds a stamp of these, or ever will
 abbrev pub AreBlocked : Setting → Views → World → ℕ → ℕ → (Stamp → Type 0) → Type 0
-AreBlocked setting views w g s Q = (group : Group) → group_of setting.layout g ≡ Some group → (d : Stamp) → Q d → IsBlocked w g s group d
+AreBlocked setting views w g s Q =
+    (d : Stamp) (group : Group) → group_in setting.layout views g (view_of d) ≡ Some group → Q d → IsBlocked w g s group d
 
 -- the version is the first one, or an operation of this stripe made it
 abbrev pub IsMadeOrFirst : World → ℕ → ℕ → Stamp → Type 0
@@ -119,7 +122,7 @@ FloorsAtMost o group t = AtQuorum group (λ seat. not (stamp_below t (o.floor (b
 abbrev pub FloorsAtLeast : Operation → Group → Stamp → Type 0
 FloorsAtLeast o group t = AtQuorum group (λ seat. not (stamp_below (o.floor (brick_at group seat)) t))
 
--- a request or reply's call is that of an operation of brick i, in view 1
+-- a request or reply's call is that of an operation of brick i
 pub record IsCalled (w : World) (i : ℕ) (call : Call) (o : Operation) : Type 0 where
   pub is : IsOperation w (w.numbers i call.boot call.seq) o
   pub brick : o.brick.0 ≡ i
@@ -127,12 +130,11 @@ pub record IsCalled (w : World) (i : ℕ) (call : Call) (o : Operation) : Type 0
   pub seq : o.seq ≡ call.seq
   pub group : o.ask.group.0 ≡ call.group.0
   pub stripe : o.ask.stripe.0 ≡ call.stripe.0
-  pub view : call.view.0 ≡ 1
 
--- a block is the block of version t of a stripe at the seat of brick i
-abbrev pub IsBlockOf : Setting → Views → World → ℕ → ℕ → ℕ → Stamp → List ℕ → Type 0
-IsBlockOf setting views w g s i t block =
-    (group : Group) (seat : ℕ) → group_of setting.layout g ≡ Some group → seat_in group.members i ≡ Some seat
+-- a block is the block of version t of a stripe at the seat of brick i in view e
+abbrev pub IsBlockOf : Setting → Views → World → ℕ → ℕ → ℕ → ℕ → Stamp → List ℕ → Type 0
+IsBlockOf setting views w g e s i t block =
+    (group : Group) (seat : ℕ) → group_in setting.layout views g e ≡ Some group → seat_in group.members i ≡ Some seat
     → block ≡ setting.code.encode group.m (w.contents g s t) seat
 
 -- a coordinator is in a phase of its operation
@@ -152,15 +154,16 @@ pub record DescendsFrom (phase : Phase) (op : Op) (t : Stamp) : Type 0 where
   pub most : (bound : Stamp) → phase ≡ Descends bound → stamp_below t bound ≡ false
   pub lower : (bound : Stamp) → phase ≡ Descends bound → writes op ≡ false → stamp_below bound t ≡ true
 
--- a version that brick i keeps
-pub record VersionSays (setting : Setting) (views : Views) (w : World) (g s i : ℕ) (version : Version) : Type 0 where
+-- a version that brick i keeps in view e
+pub record VersionSays (setting : Setting) (views : Views) (w : World) (g e s i : ℕ) (version : Version) : Type 0 where
   pub made : IsMadeOrFirst w g s version.stamp
-  pub block : IsBlockOf setting views w g s i version.stamp version.block
+  pub block : IsBlockOf setting views w g e s i version.stamp version.block
 
--- a version that brick i told: its block, unless that was not wanted
-pub record ToldSays (setting : Setting) (views : Views) (w : World) (g s i : ℕ) (version : Version) : Type 0 where
+-- a version that brick i told of view e: its block, unless that was not wanted
+pub record ToldSays (setting : Setting) (views : Views) (w : World) (g e s i : ℕ) (version : Version) : Type 0 where
+  pub of : view_of version.stamp ≡ e
   pub made : IsMadeOrFirst w g s version.stamp
-  pub block : (version.block ≡ []) ⊎ IsBlockOf setting views w g s i version.stamp version.block
+  pub block : (version.block ≡ []) ⊎ IsBlockOf setting views w g e s i version.stamp version.block
 
 -- a request, of this phase of its call, to store version t, which its operation made
 pub record MakerSays (setting : Setting) (views : Views) (w : World) (stamps : Stamping) (from to : ℕ) (call : Call) (phase : Phase) (t : Stamp) : Type 0 where
@@ -169,13 +172,13 @@ pub record MakerSays (setting : Setting) (views : Views) (w : World) (stamps : S
   pub begun : IsBegun stamps from call.boot call.seq call.phase phase t
   pub made : operation.made ≡ true
   pub version : operation.version ≡ Some t
-  pub member : (group : Group) → group_of setting.layout call.group.0 ≡ Some group → (seat : ℕ) × (seat_in group.members to ≡ Some seat)
-  pub guarded : (group : Group) → group_of setting.layout call.group.0 ≡ Some group → IsGuarded w call.group.0 call.stripe.0 group t
+  pub member : (group : Group) → group_in setting.layout views call.group.0 call.view.0 ≡ Some group → (seat : ℕ) × (seat_in group.members to ≡ Some seat)
+  pub guarded : (group : Group) → group_in setting.layout views call.group.0 (view_of t) ≡ Some group → IsGuarded w call.group.0 call.stripe.0 group t
 
 -- a write of a version
 pub record WriteSays (setting : Setting) (views : Views) (w : World) (stamps : Stamping) (from to : ℕ) (call : Call) (t : Stamp) (block : List ℕ) : Type 0 where
   pub maker : MakerSays setting views w stamps from to call Stores t
-  pub is_block : IsBlockOf setting views w call.group.0 call.stripe.0 to t block
+  pub is_block : IsBlockOf setting views w call.group.0 call.view.0 call.stripe.0 to t block
 
 -- what the member at a seat is sent of a change makes of its block of the base its block of version t
 pub record ChangesBlock (setting : Setting) (w : World) (g s : ℕ) (t base : Stamp) (j : ℕ) (sent : List ℕ) (group : Group) (seat : ℕ) : Type 0 where
@@ -189,7 +192,7 @@ pub record ChangesBlock (setting : Setting) (w : World) (g s : ℕ) (t base : St
 pub record ModifySays (setting : Setting) (views : Views) (w : World) (stamps : Stamping) (from to : ℕ) (call : Call) (t base : Stamp) (j : ℕ) (sent : List ℕ) : Type 0 where
   pub maker : MakerSays setting views w stamps from to call (Modifies base j) t
   pub base_made : IsMadeOrFirst w call.group.0 call.stripe.0 base
-  pub changes : (group : Group) (seat : ℕ) → group_of setting.layout call.group.0 ≡ Some group → seat_in group.members to ≡ Some seat
+  pub changes : (group : Group) (seat : ℕ) → group_in setting.layout views call.group.0 call.view.0 ≡ Some group → seat_in group.members to ≡ Some seat
       → ChangesBlock setting w call.group.0 call.stripe.0 t base j sent group seat
 
 -- an order, of a phase of its call, that tells the version looked for
@@ -228,9 +231,10 @@ pub record WasCollected (w : World) (g s : ℕ) (c : Stamp) : Type 0 where
   pub group : call.group.0 ≡ g
   pub stripe : call.stripe.0 ≡ s
 
--- version d lies below one that was collected, which is not looked for, and is no higher than t
-pub record IsPassedOver (w : World) (g s : ℕ) (look : Look) (t d : Stamp) : Type 0 where
+-- version d lies below one of view e that was collected, which is not looked for, and is no higher than t
+pub record IsPassedOver (w : World) (g e s : ℕ) (look : Look) (t d : Stamp) : Type 0 where
   pub at : Stamp
+  pub of : view_of at ≡ e
   pub above : stamp_below d at ≡ true
   pub unlooked : is_looked look at ≡ false
   pub most : stamp_below t at ≡ false
@@ -255,8 +259,8 @@ pub record OrderedSays (w : World) (stamps : Stamping) (j i : ℕ) (call : Call)
   pub promised : stamp_below (top_in w call.group.0 call.stripe.0 j) stamp ≡ false
   pub floor : stamp_below stamp (operation.floor j) ≡ false
 
--- what brick j found, when it promised the stamp of a phase that looks for a version: each version looked for that it has held is at most that, or is
--- passed over
+-- what brick j found, when it promised the stamp of a phase that looks for a version: each version of the call's view that is looked for, and that it
+-- has held, is at most that, or is passed over
 pub record OrderedReadSays (setting : Setting) (views : Views) (w : World) (stamps : Stamping) (j i : ℕ) (call : Call) (found : Option Version) : Type 0 where
   pub operation : Operation
   pub called : IsCalled w i call operation
@@ -266,13 +270,13 @@ pub record OrderedReadSays (setting : Setting) (views : Views) (w : World) (stam
   pub begun : IsBegun stamps i call.boot call.seq call.phase phase stamp
   pub look_is : look_of phase stamp ≡ Some look
   pub below : (d : Stamp) → is_looked look d ≡ true → stamp_below d stamp ≡ true
-  pub view : stamp.view.0 ≡ 1
+  pub view : stamp.view.0 ≡ call.view.0
   pub promised : stamp_below (top_in w call.group.0 call.stripe.0 j) stamp ≡ false
   pub floor : stamp_below stamp (operation.floor j) ≡ false
-  pub newest : (d : Stamp) → w.held j call.group.0 call.stripe.0 d ≡ true → is_looked look d ≡ true
-      → IsWithin found d ⊎ IsPassedOver w call.group.0 call.stripe.0 look stamp d
+  pub newest : (d : Stamp) → view_of d ≡ call.view.0 → w.held j call.group.0 call.stripe.0 d ≡ true → is_looked look d ≡ true
+      → IsWithin found d ⊎ IsPassedOver w call.group.0 call.view.0 call.stripe.0 look stamp d
   pub held : (version : Version) → found ≡ Some version → w.held j call.group.0 call.stripe.0 version.stamp ≡ true
-  pub says : (version : Version) → found ≡ Some version → ToldSays setting views w call.group.0 call.stripe.0 j version
+  pub says : (version : Version) → found ≡ Some version → ToldSays setting views w call.group.0 call.view.0 call.stripe.0 j version
 
 -- what brick j found
 pub record FoundSays (setting : Setting) (views : Views) (w : World) (j i : ℕ) (call : Call) (order : Stamp) (version : Version) : Type 0 where
@@ -281,7 +285,7 @@ pub record FoundSays (setting : Setting) (views : Views) (w : World) (j i : ℕ)
   pub top : stamp_below (top_in w call.group.0 call.stripe.0 j) (stamp_max order version.stamp) ≡ false
   pub floor : stamp_below (stamp_max order version.stamp) (operation.floor j) ≡ false
   pub held : w.held j call.group.0 call.stripe.0 version.stamp ≡ true
-  pub says : ToldSays setting views w call.group.0 call.stripe.0 j version
+  pub says : ToldSays setting views w call.group.0 call.view.0 call.stripe.0 j version
 
 -- what a reply of brick `from` to brick `to` says
 abbrev pub ReplySays : Setting → Views → World → Stamping → BrickId → BrickId → Call → Reply → Type 0
@@ -307,8 +311,8 @@ PacketSays setting views w stamps packet = MessageSays setting views w stamps pa
 pub record HasVersion (setting : Setting) (views : Views) (w : World) (o : Operation) (v : Stamp) : Type 0 where
   pub made : IsMadeOrFirst w o.ask.group.0 o.ask.stripe.0 v
   pub reader : o.made ≡ false → writes o.ask.op ≡ false
-  pub guarded : (group : Group) → group_of setting.layout o.ask.group.0 ≡ Some group → IsGuarded w o.ask.group.0 o.ask.stripe.0 group v
-  pub floors : (group : Group) → group_of setting.layout o.ask.group.0 ≡ Some group → FloorsAtMost o group v
+  pub guarded : (group : Group) → group_in setting.layout views o.ask.group.0 (view_of v) ≡ Some group → IsGuarded w o.ask.group.0 o.ask.stripe.0 group v
+  pub floors : (group : Group) → group_in setting.layout views o.ask.group.0 (view_of v) ≡ Some group → FloorsAtMost o group v
 
 -- the operation made version v on a base, which it read back or modified
 pub record ReadsBack (setting : Setting) (views : Views) (w : World) (o : Operation) (v : Stamp) : Type 0 where
@@ -342,7 +346,7 @@ pub record OperationSays (setting : Setting) (views : Views) (w : World) (stamps
 pub record CountedSays (setting : Setting) (views : Views) (w : World) (i : ℕ) (c : Coordinator) (x : Counted) : Type 0 where
   pub sent : WasSent w (record { from = x.brick; to = record { 0 = i }; message = Message.Reply c.call x.reply })
   pub answers : answers_phase setting.layout.block c.stamp x.seat c.phase x.reply ≡ true
-  pub seat : (group : Group) → group_of setting.layout c.ask.group.0 ≡ Some group → seat_in group.members x.brick.0 ≡ Some x.seat
+  pub seat : seat_in c.group.members x.brick.0 ≡ Some x.seat
 
 -- each reply that counts
 abbrev pub EachCounted : (Counted → Type 0) → List Counted → Type 0
@@ -354,9 +358,10 @@ abbrev pub AreOnce : List Counted → Type 0
 AreOnce [] = Unit {0}
 AreOnce (x ∷ counted) = (has_seat x.seat counted ≡ false) × AreOnce counted
 
--- Where an operation has made its version on a base: a quorum has held the base, and the version's content is what it makes of the base's.
+-- Where an operation has made its version on a base: that is of its call's view, a quorum has held it, and the version's content is what it makes of the base's.
 pub record MadeOn (setting : Setting) (views : Views) (w : World) (c : Coordinator) (base : Stamp) : Type 0 where
   pub base_is : c.base ≡ Some base
+  pub of : view_of base ≡ c.call.view.0
   pub below : stamp_below base c.stamp ≡ true
   pub base_made : IsMadeOrFirst w c.ask.group.0 c.ask.stripe.0 base
   pub stands : Stands setting views w c.ask.group.0 c.ask.stripe.0 base
@@ -370,10 +375,11 @@ base_in (Modifies base j) = Some base
 base_in (Bases base) = Some base
 base_in phase = None
 
--- the open operation of brick i's call k. Its present phase is the last that was begun, and each member was sent its request; where it looks
+-- the open operation of brick i's call k. Its group is as its view's members keep it; its present phase is the last that was begun, and each member was sent its request; where it looks
 -- below a bound, which is above the first stamp, no quorum will ever hold a version from there up to its stamp; and where it stores, it stores
 -- the content of its version; and a stripe write orders with what it was given.
 pub record CallSays (setting : Setting) (views : Views) (w : World) (stamps : Stamping) (i k : ℕ) (c : Coordinator) : Type 0 where
+  pub group : group_in setting.layout views c.call.group.0 c.call.view.0 ≡ Some c.group
   pub begun : IsBegun stamps i (w.nodes i).boot k c.call.phase c.phase c.stamp
   pub last : (p : ℕ) → c.call.phase < p → stamps i (w.nodes i).boot k p ≡ None
   pub asked : (seat : ℕ) (member : BrickId) → slice_get c.group.members seat ≡ Some member
@@ -410,16 +416,23 @@ abbrev pub IsInOrder : Setting → Views → World → Type 0
 IsInOrder setting views w =
     (a b : ℕ) (earlier later : Operation) (u : Stamp) → IsOperation w a earlier → IsOperation w b later
     → earlier.ask.group.0 ≡ later.ask.group.0 → earlier.ask.stripe.0 ≡ later.ask.stripe.0 → earlier.version ≡ Some u
-    → ((group : Group) → group_of setting.layout later.ask.group.0 ≡ Some group → FloorsAtLeast later group u)
+    → ((group : Group) → group_in setting.layout views later.ask.group.0 (view_of u) ≡ Some group → FloorsAtLeast later group u)
     ⊎ (later.begin ≤ last_of (life_of w.marks a))
+
+-- nothing of view e that is below t was ever held
+abbrev pub IsBottom : World → ℕ → ℕ → ℕ → ℕ → Stamp → Type 0
+IsBottom w g e s i t = (d : Stamp) → view_of d ≡ e → stamp_below d t ≡ true → w.held i g s d ≡ true → ⊥
 
 -- The invariant.
 pub record Said (setting : Setting) (views : Views) (w : World) (stamps : Stamping) : Type 0 where
+  pub limits : (g e : ℕ) (group : Group) → group_in setting.layout views g e ≡ Some group → IsWithinLimits group.m (length group.members)
+  pub distinct : (g e : ℕ) (group : Group) → group_in setting.layout views g e ≡ Some group → IsDistinct nat_eq (map (λ member. member.0) group.members)
   pub stamps_say : StampsSay w stamps
   pub tops : (g e s i : ℕ) → IsKnown stamps (top_of (part_in w g e s i))
   pub first_held : (g s i : ℕ) → w.held i g s first_stamp ≡ true
-  pub logs : (g e s i k : ℕ) (version : Version) → slice_get (part_in w g e s i).log k ≡ Some version → VersionSays setting views w g s i version
-  pub lowest : (g e s i : ℕ) (x : Version) (log : List Version) → (part_in w g e s i).log ≡ x ∷ log → (x.stamp ≡ first_stamp) ⊎ WasCollected w g s x.stamp
+  pub logs : (g e s i k : ℕ) (version : Version) → slice_get (part_in w g e s i).log k ≡ Some version → VersionSays setting views w g e s i version
+  pub lowest : (g e s i : ℕ) (x : Version) (log : List Version) → (part_in w g e s i).log ≡ x ∷ log
+      → IsBottom w g e s i x.stamp ⊎ WasCollected w g s x.stamp
   pub held_made : (g s i : ℕ) (t : Stamp) → w.held i g s t ≡ true → IsMadeOrFirst w g s t
   pub packets : (k : ℕ) (packet : Packet) → slice_get w.packets k ≡ Some packet → PacketSays setting views w stamps packet
   pub operations : (n : ℕ) (o : Operation) → IsOperation w n o → OperationSays setting views w stamps n o

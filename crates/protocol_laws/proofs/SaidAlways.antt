@@ -1,4 +1,6 @@
 -- What is said is so in every world that a run reaches.
+use Rattle.protocol_laws.proofs.OwnStamps.{call_one}
+use Rattle.std.specs.Option.{option_map}
 use Rattle.protocol_laws.proofs.Blocking.{first_fits}
 use Rattle.std.proofs.Common.{◌≡◌, ℕ, ◌<◌, ◌≤◌, ◌+◌, inl, true, false, List, [], ◌∷◌, ◌++◌, length, replicate, Option, Some, None, refl, sym, ap, ◌∙◌, subst, ⊎_elim, arith, ◌⊎◌}
 use Rattle.std.specs.Prelude.{slice_get, nat_eq}
@@ -9,7 +11,7 @@ use Rattle.fab_base.specs.declared.identities.ViewNo.{ViewNo}
 use Rattle.fab_base.specs.declared.stamps.Stamp.{Stamp}
 use Rattle.fab_base.specs.declared.asks.Ask.{Ask}
 use Rattle.fab_base.specs.Stamps.{stamp_below, stamp_same, first_stamp}
-use Rattle.fab_base.proofs.StampOrder.{stamp_below_irrefl, stamp_same_refl, stamp_same_true}
+use Rattle.fab_base.proofs.StampOrder.{stamp_below_irrefl, stamp_same_refl, stamp_same_true, stamp_below_first}
 use Rattle.messages.specs.declared.calls.Call.{Call}
 use Rattle.messages.specs.declared.packets.Message.{Message}
 use Rattle.messages.specs.declared.packets.Packet.{Packet}
@@ -18,31 +20,31 @@ use Rattle.messages.specs.declared.requests.Version.{Version}
 use Rattle.messages.specs.declared.replies.Reply.{Reply}
 use Rattle.reg_model.specs.declared.marks.Mark.{Mark}
 use Rattle.reg_model.specs.declared.marks.Mark.TheVariants.{End, Crash}
-use Rattle.fab_base.specs.Layouts.{Group, group_of, seat_in}
+use Rattle.fab_base.specs.Layouts.{Group, group_of, seat_in, Layout}
 use Rattle.protocol.specs.Settings.{Setting, IsSound}
 use Rattle.protocol.specs.Replicas.{Reaction, first_replica, top_of, handle, is_held, Replica}
 use Rattle.protocol.specs.Coordinators.{Coordinator}
 use Rattle.protocol.specs.Nodes.{Node, NodeStep, put, with_known, with_replica, replica_at, reacted, full_at, reply_packets, absorbed, ticked, stopped, restarted, new_stamp, fresh_stamp, no_step, began, invoked, requested, known_after, replied_at, replied, received, group_at, view_at, seat_served}
 use Rattle.protocol.specs.Worlds.{World, Found, Before, After, Event, replies_with, first_world, zero_content, world_ticked, left_after, packet_during, world_stopped, world_found, world_started, may_begin, world_began, world_stepped, run, with_held, reached_during}
-use Rattle.protocol_laws.specs.Laws.{WasSent}
-use Rattle.protocol_laws.proofs.FirstViews.{group_first, view_first}
+use Rattle.protocol_laws.specs.Laws.{WasSent, Follows, RunFollows}
+use Rattle.protocol_laws.proofs.FirstViews.{group_first}
 use Rattle.protocol_laws.proofs.Books.{Books, IsCall}
 use Rattle.protocol_laws.proofs.Left.{IsLeft, Leaves, always_leaves, packet_was_sent}
-use Rattle.protocol_laws.proofs.Said.{Stamping, Said, IsSaid, IsStampOf, VersionSays, WasCollected, IsMadeOrFirst}
+use Rattle.protocol_laws.proofs.Said.{Stamping, Said, IsSaid, IsStampOf, VersionSays, WasCollected, IsMadeOrFirst, IsBottom}
 use Rattle.protocol_laws.proofs.BooksEvents.{known_grows, fresh_is, BeginFits, begin_fits, start_fits, books_found, books, books_beside}
 use Rattle.protocol.proofs.Tables.{get_one, get_kept, get_grown}
 use Rattle.reg_model.proofs.GrowingLives.{last_grows}
 use Rattle.protocol_laws.proofs.Stampings.{ages_within}
 use Rattle.protocol_laws.proofs.Reactions.{top_is, handle_after, handle_says, top_is_order}
 use Rattle.protocol_laws.proofs.Steps.{quiet, said_beside, said_added, said_idle}
-use Rattle.protocol_laws.proofs.Requests.{in_first, said_after_request, reply_packets_say}
-use Rattle.protocol.proofs.Served.{request_each, served_seat}
+use Rattle.protocol_laws.proofs.Requests.{said_after_request, reply_packets_say}
+use Rattle.protocol.proofs.Served.{request_each, served_seat, served_open}
 use Rattle.protocol_laws.proofs.Sends.{ticked_was_sent}
 use Rattle.protocol_laws.proofs.Replies.{said_known, said_after_reply}
 use Rattle.protocol_laws.proofs.Begins.{said_began}
-use Rattle.protocol.proofs.Events.{EventCases, world_handled, world_counting, always_where}
+use Rattle.protocol.proofs.Events.{EventCases, world_handled, world_counting, run_along}
 use Rattle.protocol_laws.proofs.StampViews.{StampViews, always_views}
-use Rattle.protocol.specs.Views.{Views, view_of}
+use Rattle.protocol.specs.Views.{Views, view_of, group_in, group_kept, kept_by}
 
 -- the world after a brick's step
 abbrev stepped : Setting → World → BrickId → NodeStep → World
@@ -53,75 +55,64 @@ nothing_said : (setting : Setting) (views : Views) (w : World) (stamps : Stampin
     → Said setting views (stepped setting w me (no_step (w.nodes me.0))) stamps
 nothing_said setting views w stamps me books said = said_known setting views w stamps me (w.nodes me.0).known books said (omega arith)
 
--- a call in a view
-abbrev in_view : Call → ℕ → Call
-in_view call v =
-    record { boot = call.boot; seq = call.seq; phase = call.phase; group = call.group; view = record { 0 = v }; stripe = call.stripe }
+-- what a brick has learnt of a group is what the assignment has
+group_learnt : (layout : Layout) (views : Views) (w : World) (i g : ℕ) → Follows layout views w
+    → group_in layout views g (view_at (w.nodes i) g) ≡ group_at layout (w.nodes i) g
+group_learnt layout views w i g follows = ap (λ (members : List BrickId). group_kept layout members g) (sym (follows.learnt i g))
 
 -- a brick handles a request at its seat
 module _ (setting : Setting) (views : Views) (w : World) (stamps : Stamping) (me from : BrickId) (call : Call) (request : Request) (books : Books setting w)
-    (stamped : StampViews setting.layout w) (said : Said setting views w stamps)
+    (stamped : StampViews setting.layout w) (follows : Follows setting.layout views w) (said : Said setting views w stamps)
     (sent : WasSent w (record { from = from; to = me; message = Message.Request call request })) (group : Group) (seat : ℕ) (here : group_at setting.layout (w.nodes me.0) call.group.0 ≡ Some group)
     (at : seat_served setting.layout me (w.nodes me.0) call request group ≡ Some seat)
     (view : call.view.0 ≡ view_at (w.nodes me.0) call.group.0) where
   abbrev full : Option ℕ
   full = full_at setting.layout.records (w.nodes me.0).live
 
-  abbrev reaction : Call → Reaction
-  reaction c = handle setting.code group.m full seat (replica_at (w.nodes me.0) c) request
+  abbrev reaction : Reaction
+  reaction = handle setting.code group.m full seat (replica_at (w.nodes me.0) call) request
 
   abbrev replies : List Packet
-  replies = reply_packets me from (in_first call) (reaction (in_first call)).reply
+  replies = reply_packets me from call reaction.reply
 
-  group_is : group_of setting.layout call.group.0 ≡ Some group
-  group_is = sym (group_first setting.layout (w.nodes me.0) call.group.0 (books.first me.0)) ∙ here
+  group_is : group_in setting.layout views call.group.0 call.view.0 ≡ Some group
+  group_is = ap (λ (e : ℕ). group_in setting.layout views call.group.0 e) view ∙ group_learnt setting.layout views w me.0 call.group.0 follows ∙ here
 
   seat_is : seat_in group.members me.0 ≡ Some seat
   seat_is = served_seat setting me (w.nodes me.0) call request group seat at
 
-  abbrev sent_in : ℕ → Type 0
-  sent_in v = WasSent w (record { from = from; to = me; message = Message.Request (in_view call v) request })
+  free : (w.nodes me.0).accepted call.group.0 ≡ false
+  free = served_open setting me (w.nodes me.0) call request group seat at
 
-  -- the call is of the first view
-  first_is : (P : ℕ → Type 0) → P 1 → P call.view.0
-  first_is P = subst P (sym (view ∙ view_first setting.layout (w.nodes me.0) call.group.0 (books.first me.0)))
-
-  handled_said : Said setting views (stepped setting w me (reacted me from (w.nodes me.0) call (reaction call))) stamps
+  handled_said : Said setting views (stepped setting w me (reacted me from (w.nodes me.0) call reaction)) stamps
   handled_said =
-      first_is (λ v. sent_in v → Said setting views (stepped setting w me (reacted me from (w.nodes me.0) (in_view call v) (reaction (in_view call v)))) stamps)
-      (λ sent.
-      let after = handle_after setting.code group.m seat full (replica_at (w.nodes me.0) (in_first call)) request in
-      said_after_request setting views w stamps me from call request books stamped group seat group_is seat_is said sent (reaction (in_first call)) replies after
-      (reply_packets_say setting views w stamps me from call request books stamped group seat group_is seat_is said sent (reaction (in_first call)) replies after
-      (reaction (in_first call)).reply
-      (handle_says setting.code group.m full seat (replica_at (w.nodes me.0) (in_first call)) request)))
-      sent
+      let after = handle_after setting.code group.m seat full (replica_at (w.nodes me.0) call) request in
+      said_after_request setting views w stamps me from call request books stamped group seat group_is seat_is view free said sent reaction replies after
+      (reply_packets_say setting views w stamps me from call request books stamped group seat group_is seat_is view free said sent reaction replies after
+      reaction.reply (handle_says setting.code group.m full seat (replica_at (w.nodes me.0) call) request))
 
-  kept_said : Said setting views (quiet w me (with_replica (w.nodes me.0) call (reaction call)) []) stamps
+  kept_said : Said setting views (quiet w me (with_replica (w.nodes me.0) call reaction) []) stamps
   kept_said =
-      first_is (λ v. sent_in v → Said setting views (quiet w me (with_replica (w.nodes me.0) (in_view call v) (reaction (in_view call v))) []) stamps)
-      (λ sent.
-      said_after_request setting views w stamps me from call request books stamped group seat group_is seat_is said sent (reaction (in_first call)) []
-      (handle_after setting.code group.m seat full (replica_at (w.nodes me.0) (in_first call)) request) (λ k packet at. cc))
-      sent
+      said_after_request setting views w stamps me from call request books stamped group seat group_is seat_is view free said sent reaction []
+      (handle_after setting.code group.m seat full (replica_at (w.nodes me.0) call) request) (λ k packet at. cc)
 
 -- a request is delivered
 request_said : (setting : Setting) (views : Views) (w : World) (stamps : Stamping) (me from : BrickId) (call : Call) (request : Request) → Books setting w → StampViews setting.layout w
-    → Said setting views w stamps → WasSent w (record { from = from; to = me; message = Message.Request call request })
+    → Follows setting.layout views w → Said setting views w stamps → WasSent w (record { from = from; to = me; message = Message.Request call request })
     → Said setting views (stepped setting w me (requested setting me from (w.nodes me.0) call request)) stamps
-request_said setting views w stamps me from call request books stamped said sent =
+request_said setting views w stamps me from call request books stamped follows said sent =
     request_each (λ step. Said setting views (stepped setting w me step) stamps) setting me from (w.nodes me.0) call request
     (nothing_said setting views w stamps me books said)
-    (handled_said setting views w stamps me from call request books stamped said sent)
+    (handled_said setting views w stamps me from call request books stamped follows said sent)
 
 -- a request is handled, and its reply is lost
 request_kept : (setting : Setting) (views : Views) (w : World) (stamps : Stamping) (me from : BrickId) (call : Call) (request : Request) → Books setting w → StampViews setting.layout w
-    → Said setting views w stamps → WasSent w (record { from = from; to = me; message = Message.Request call request })
+    → Follows setting.layout views w → Said setting views w stamps → WasSent w (record { from = from; to = me; message = Message.Request call request })
     → Said setting views (quiet w me (requested setting me from (w.nodes me.0) call request).node []) stamps
-request_kept setting views w stamps me from call request books stamped said sent =
+request_kept setting views w stamps me from call request books stamped follows said sent =
     request_each (λ step. Said setting views (quiet w me step.node []) stamps) setting me from (w.nodes me.0) call request
     (nothing_said setting views w stamps me books said)
-    (kept_said setting views w stamps me from call request books stamped said sent)
+    (kept_said setting views w stamps me from call request books stamped follows said sent)
 
 -- a fresh stamp is its brick's, and above all that it knows
 fresh_says : (setting : Setting) (w : World) (me : BrickId) (view : ViewNo) (now known : ℕ) (t : Stamp) → view.0 ≡ 1 → Books setting w
@@ -146,7 +137,7 @@ reply_said setting views w stamps me from now call reply sound books said sent =
         said_after_reply setting views sound w stamps me c (known_after (w.nodes me.0).known reply) books said is
         (known_grows (w.nodes me.0).known reply)
         (fresh_stamp me c.call.view now (w.nodes me.0).boot (known_after (w.nodes me.0).known reply))
-        (λ t new. fresh_says setting w me c.call.view now (known_after (w.nodes me.0).known reply) t (books.calls me.0 c.call.seq c is).call_view books
+        (λ t new. fresh_says setting w me c.call.view now (known_after (w.nodes me.0).known reply) t (call_one setting views w stamps books said me.0 c.call.seq c is) books
         (known_grows (w.nodes me.0).known reply) new) from call reply sent
 
     at_call : (z : Option Coordinator) → (w.nodes me.0).calls call.seq ≡ z
@@ -163,57 +154,58 @@ reply_said setting views w stamps me from now call reply sound books said sent =
 -- a message is delivered
 message_said : (setting : Setting) (views : Views) (w : World) (stamps : Stamping) (me from : BrickId) (now : ℕ) (message : Message) → IsSound setting
     → Books setting w → StampViews setting.layout w
-    → Said setting views w stamps → WasSent w (record { from = from; to = me; message = message })
+    → Follows setting.layout views w → Said setting views w stamps → WasSent w (record { from = from; to = me; message = message })
     → IsSaid setting views (stepped setting w me (received setting me now (w.nodes me.0) (record { from = from; to = me; message = message })))
 unfolding received
-message_said setting views w stamps me from now (Message.Request call request) sound books stamped said sent =
-    (stamps, request_said setting views w stamps me from call request books stamped said sent)
-message_said setting views w stamps me from now (Message.Reply call reply) sound books stamped said sent =
+message_said setting views w stamps me from now (Message.Request call request) sound books stamped follows said sent =
+    (stamps, request_said setting views w stamps me from call request books stamped follows said sent)
+message_said setting views w stamps me from now (Message.Reply call reply) sound books stamped follows said sent =
     reply_said setting views w stamps me from now call reply sound books said sent
-message_said setting views w stamps me from now message sound books stamped said sent = (stamps, nothing_said setting views w stamps me books said)
+message_said setting views w stamps me from now message sound books stamped follows said sent = (stamps, nothing_said setting views w stamps me books said)
 
 -- a message is handled, and no reply is sent
 absorbed_said : (setting : Setting) (views : Views) (w : World) (stamps : Stamping) (me from to : BrickId) (message : Message) → Books setting w → StampViews setting.layout w
-    → Said setting views w stamps → WasSent w (record { from = from; to = me; message = message })
+    → Follows setting.layout views w → Said setting views w stamps → WasSent w (record { from = from; to = me; message = message })
     → Said setting views (quiet w me (absorbed setting me (w.nodes me.0) (record { from = from; to = to; message = message })) []) stamps
 unfolding absorbed
-absorbed_said setting views w stamps me from to (Message.Request call request) books stamped said sent =
-    request_kept setting views w stamps me from call request books stamped said sent
-absorbed_said setting views w stamps me from to message books stamped said sent = nothing_said setting views w stamps me books said
+absorbed_said setting views w stamps me from to (Message.Request call request) books stamped follows said sent =
+    request_kept setting views w stamps me from call request books stamped follows said sent
+absorbed_said setting views w stamps me from to message books stamped follows said sent = nothing_said setting views w stamps me books said
 
 delivery_said : (setting : Setting) (views : Views) (w : World) (stamps : Stamping) (number : ℕ) (packet : Packet) → IsSound setting → Books setting w → StampViews setting.layout w
-    → Said setting views w stamps → WasSent w packet → IsSaid setting views (world_handled setting w number packet)
-delivery_said setting views w stamps number packet sound books stamped said sent =
+    → Follows setting.layout views w → Said setting views w stamps → WasSent w packet → IsSaid setting views (world_handled setting w number packet)
+delivery_said setting views w stamps number packet sound books stamped follows said sent =
     message_said setting views (world_counting setting w number packet) stamps packet.to packet.from (w.clocks packet.to.0) packet.message sound
     (books_beside setting w (replies_with setting w packet) (put w.reached number true) books)
     (record { nodes = stamped.nodes; after = stamped.after; packets = stamped.packets })
+    (record { limits = follows.limits; distinct = follows.distinct; learnt = follows.learnt; passed = follows.passed })
     (said_beside setting views w stamps w.clocks (replies_with setting w packet) (put w.reached number true) books said)
     sent
 
 -- what the store of a stopped brick may hold says what it should
 left_said : (setting : Setting) (views : Views) (w : World) (stamps : Stamping) (me : BrickId) (node : Node) → IsLeft setting w me.0 node → Books setting w → StampViews setting.layout w
-    → Said setting views w stamps → Said setting views (quiet w me node []) stamps
-left_said setting views w stamps me node left books stamped said = ⊎_elim
+    → Follows setting.layout views w → Said setting views w stamps → Said setting views (quiet w me node []) stamps
+left_said setting views w stamps me node left books stamped follows said = ⊎_elim
     (λ (same : node ≡ w.nodes me.0).
     subst (λ (z : Node). Said setting views (quiet w me z []) stamps) (sym same) (nothing_said setting views w stamps me books said))
     (λ (handled : (packet : Packet) × (packet.to ≡ me) × WasSent w packet × (node ≡ absorbed setting me (w.nodes me.0) packet)).
     let packet : Packet = handled.0 in
     subst (λ (z : Node). Said setting views (quiet w me z []) stamps) (sym handled.3)
-    (absorbed_said setting views w stamps me packet.from packet.to packet.message books stamped said
+    (absorbed_said setting views w stamps me packet.from packet.to packet.message books stamped follows said
     (subst (λ (to : BrickId). WasSent w (record { from = packet.from; to = to; message = packet.message })) handled.1 handled.2)))
     left
 
 -- so does the brick that starts with it
 found_said : (setting : Setting) (views : Views) (w : World) (stamps : Stamping) (me : BrickId) (found : Found) → w.up me.0 ≡ false → Leaves setting w → Books setting w → StampViews setting.layout w
-    → Said setting views w stamps → Said setting views (world_found w me found) stamps
-found_said setting views w stamps me Before down leaves books stamped said = said
-found_said setting views w stamps me After down leaves books stamped said =
+    → Follows setting.layout views w → Said setting views w stamps → Said setting views (world_found w me found) stamps
+found_said setting views w stamps me Before down leaves books stamped follows said = said
+found_said setting views w stamps me After down leaves books stamped follows said =
     subst (λ (l : List Packet). Said setting views (record w {
       nodes = put w.nodes me.0 (w.after me.0);
       held = with_held w.held me.0 (w.after me.0);
       packets = l;
     }) stamps) (append-nil w.packets)
-    (left_said setting views w stamps me (w.after me.0) (leaves me.0 down) books stamped said)
+    (left_said setting views w stamps me (w.after me.0) (leaves me.0 down) books stamped follows said)
 
 -- a brick's clock ticks
 ticked_said : (setting : Setting) (views : Views) (w : World) (stamps : Stamping) (me : BrickId) → Books setting w → Said setting views w stamps
@@ -256,23 +248,24 @@ started_said setting views w stamps me openings books said some =
     (λ k p n answer at. at)
 
 -- an operation is invoked
-invoked_said : (setting : Setting) (views : Views) (w : World) (stamps : Stamping) (me : BrickId) (ask : Ask) → Books setting w → Said setting views w stamps
-    → may_begin setting w me ask ≡ true → IsSaid setting views (world_began w me ask (invoked setting me (w.clocks me.0) (w.nodes me.0) ask))
+invoked_said : (setting : Setting) (views : Views) (w : World) (stamps : Stamping) (me : BrickId) (ask : Ask) → Books setting w → Follows setting.layout views w
+    → Said setting views w stamps → may_begin setting w me ask ≡ true → IsSaid setting views (world_began w me ask (invoked setting me (w.clocks me.0) (w.nodes me.0) ask))
 unfolding invoked
-invoked_said setting views w stamps me ask books said may =
+invoked_said setting views w stamps me ask books follows said may =
     let fits : BeginFits setting ask = begin_fits setting w me ask may in
+    let here : group_at setting.layout (w.nodes me.0) ask.group.0 ≡ Some fits.group
+    = group_first setting.layout (w.nodes me.0) ask.group.0 (books.first me.0) ∙ fits.group_is in
     subst (λ (z : Option Group). IsSaid setting views (world_began w me ask (began setting me (w.clocks me.0) (w.nodes me.0) ask z)))
-    (sym (group_first setting.layout (w.nodes me.0) ask.group.0 (books.first me.0) ∙ fits.group_is))
-    (said_began setting views w stamps me ask fits.group books said fits.group_is)
+    (sym here) (said_began setting views w stamps me ask fits.group books said (group_learnt setting.layout views w me.0 ask.group.0 follows ∙ here))
 
 -- every event keeps the invariant
-said_cases : (setting : Setting) (views : Views) → IsSound setting → (w : World) → Leaves setting w × Books setting w × StampViews setting.layout w → IsSaid setting views w
+said_cases : (setting : Setting) (views : Views) → IsSound setting → (w : World) → Leaves setting w × Books setting w × Follows setting.layout views w × StampViews setting.layout w → IsSaid setting views w
     → EventCases setting w (IsSaid setting views)
 said_cases setting views sound w known said =
     let books : Books setting w = known.1 in
     record {
-      begins = λ brick ask may. invoked_said setting views w said.0 brick ask books said.1 may;
-      handles = λ number packet at up. delivery_said setting views w said.0 number packet sound books known.2 said.1 (packet_was_sent w number packet at);
+      begins = λ brick ask may. invoked_said setting views w said.0 brick ask books known.2 said.1 may;
+      handles = λ number packet at up. delivery_said setting views w said.0 number packet sound books known.3 known.2 said.1 (packet_was_sent w number packet at);
       sets = λ brick time is. (said.0, said_beside setting views w said.0 (put w.clocks brick.0 time) w.replies w.reached books said.1);
       ticks = λ brick up. (said.0, ticked_said setting views w said.0 brick books said.1);
       stops = λ brick during up. (said.0, stopped_said setting views w said.0 brick during books said.1);
@@ -280,7 +273,7 @@ said_cases setting views sound w known said =
           (let fits = start_fits setting w brick openings may in (
             said.0,
             started_said setting views (world_found w brick found) said.0 brick openings (books_found setting w brick found fits.0 known.0 books)
-                (found_said setting views w said.0 brick found fits.0 known.0 books known.2 said.1) fits.1,
+                (found_said setting views w said.0 brick found fits.0 known.0 books known.3 known.2 said.1) fits.1,
           ));
     }
 
@@ -290,25 +283,34 @@ first_top block =
     top_is (first_replica block) (record { stamp = first_stamp; block = replicate block 0 }) refl
     ∙ cond-false (stamp_below first_stamp first_stamp) first_stamp first_stamp (stamp_below_irrefl first_stamp)
 
-said_first : (setting : Setting) (views : Views) → IsSound setting → IsSaid setting views (first_world setting.layout)
-said_first setting views sound = (
+-- the zero bytes of a group are those of it as any members keep it
+zero_kept : (block : ℕ) (members : List BrickId) (z : Option Group) → zero_content block (option_map (kept_by members) z) ≡ zero_content block z
+zero_kept block members None = refl
+zero_kept block members (Some group) = refl
+
+said_first : (setting : Setting) (views : Views) → IsSound setting → Follows setting.layout views (first_world setting.layout)
+    → IsSaid setting views (first_world setting.layout)
+said_first setting views sound follows = (
   (λ i b k p. None),
   record {
+    limits = follows.limits;
+    distinct = follows.distinct;
     stamps_say = record { are = λ i b k p t is. cc; begun = λ i b k p t is. cc; apart = λ i b k l p q t is its. cc };
     tops = λ g e s i. inl (cond_both (nat_eq e 1) (first_replica setting.layout.block) _ (λ (r : Replica). top_of r ≡ first_stamp)
         (λ one. first_top setting.layout.block) (λ other. top_is_order _ refl));
     first_held = λ g s i. or_left (stamp_same first_stamp first_stamp) false (stamp_same_refl first_stamp);
     logs = λ g e s i k version.
         cond_both (nat_eq e 1) (first_replica setting.layout.block) _
-        (λ (r : Replica). slice_get r.log k ≡ Some version → VersionSays setting views (first_world setting.layout) g s i version)
+        (λ (r : Replica). slice_get r.log k ≡ Some version → VersionSays setting views (first_world setting.layout) g e s i version)
         (λ one is.
         let same : record { stamp = first_stamp; block = replicate setting.layout.block 0 } ≡ version
         = get_one (record { stamp = first_stamp; block = replicate setting.layout.block 0 }) version k is in
-        subst (λ (z : Version). VersionSays setting views (first_world setting.layout) g s i z) same (record {
+        subst (λ (z : Version). VersionSays setting views (first_world setting.layout) g e s i z) same (record {
           made = inl refl;
           block = λ group seat group_is at.
-              sym (sound.zero_blocks group.m (length group.members) seat (sound.limits g group group_is))
-              ∙ ap (λ (z : Option Group). setting.code.encode group.m (zero_content setting.layout.block z) seat) (sym group_is);
+              sym (sound.zero_blocks group.m (length group.members) seat (follows.limits g e group group_is))
+              ∙ ap (λ (z : Option Group). setting.code.encode group.m (zero_content setting.layout.block z) seat) (sym group_is)
+              ∙ ap (λ (l : List ℕ). setting.code.encode group.m l seat) (zero_kept setting.layout.block (views g e) (group_of setting.layout g));
         }))
         (λ other is. absurd (let never : None ≡ Some version = is in cc));
     packets = λ k packet is. cc;
@@ -319,9 +321,10 @@ said_first setting views sound = (
     first = λ g s. refl;
     lowest = λ g e s i x log.
         cond_both (nat_eq e 1) (first_replica setting.layout.block) _
-        (λ (r : Replica). r.log ≡ x ∷ log → (x.stamp ≡ first_stamp) ⊎ WasCollected (first_world setting.layout) g s x.stamp)
+        (λ (r : Replica). r.log ≡ x ∷ log → IsBottom (first_world setting.layout) g e s i x.stamp ⊎ WasCollected (first_world setting.layout) g s x.stamp)
         (λ one is.
-        let same : record { stamp = first_stamp; block = replicate setting.layout.block 0 } ≡ x = cc in inl (ap (λ (z : Version). z.stamp) (sym same)))
+        let same : record { stamp = first_stamp; block = replicate setting.layout.block 0 } ≡ x = cc in
+        inl (λ d of less held. false≢true (sym (stamp_below_first d) ∙ subst (λ (z : Version). stamp_below d z.stamp ≡ true) (sym same) less)))
         (λ other is. absurd (let never : [] ≡ x ∷ log = is in cc));
     held_made = λ g s i t.
         cond_both (nat_eq (view_of t) 1) (first_replica setting.layout.block) _
@@ -335,9 +338,11 @@ said_first setting views sound = (
   },
 )
 
--- the invariant holds in every world that a run reaches
-pub always_said : (setting : Setting) (views : Views) (events : List Event) → IsSound setting → IsSaid setting views (run setting events (first_world setting.layout))
-always_said setting views events sound =
-    always_where (IsSaid setting views) (λ w. Leaves setting w × Books setting w × StampViews setting.layout w) setting
-    (λ more. (always_leaves setting more, books setting more, always_views setting more))
-    (said_first setting views sound) (said_cases setting views sound) events
+-- the invariant holds in every world that a run reaches, for every assignment of members to views that it follows
+pub always_said : (setting : Setting) (views : Views) (events : List Event) → IsSound setting → RunFollows setting views events
+    → IsSaid setting views (run setting events (first_world setting.layout))
+always_said setting views events sound follows =
+    run_along (IsSaid setting views) (λ w. Leaves setting w × Books setting w × Follows setting.layout views w × StampViews setting.layout w) setting
+    (said_cases setting views sound) events (first_world setting.layout)
+    (λ earlier later is. (always_leaves setting earlier, books setting earlier, follows earlier later is, always_views setting earlier))
+    (said_first setting views sound (follows [] events refl))

@@ -12,11 +12,11 @@ use Rattle.messages.specs.declared.packets.Packet.{Packet}
 use Rattle.messages.specs.declared.requests.Look.{Look}
 use Rattle.messages.specs.declared.requests.Look.TheVariants.{Below, At}
 use Rattle.messages.specs.declared.requests.Request.{Request}
-use Rattle.fab_base.specs.Layouts.{Group, group_of, seat_in}
+use Rattle.fab_base.specs.Layouts.{Group, seat_in}
 use Rattle.fab_base.proofs.Seats.{seat_of_member}
 use Rattle.fab_base.proofs.StampOrder.{stamp_same_true}
 use Rattle.std.proofs.lemmas.Option.{same_Some}
-use Rattle.protocol.specs.Views.{Views}
+use Rattle.protocol.specs.Views.{Views, group_in, view_of}
 use Rattle.protocol.specs.Settings.{Setting, IsSound}
 use Rattle.protocol.specs.declared.phases.Counted.{Counted}
 use Rattle.protocol.specs.declared.phases.Phase.{Phase}
@@ -129,7 +129,6 @@ module _ (setting : Setting) (views : Views) (sound : IsSound setting) (w : Worl
     seq = its.seq;
     group = ap (λ a. a.group.0) (sym its.ask) ∙ ap (λ g. g.0) (sym its.call_group);
     stripe = ap (λ a. a.stripe.0) (sym its.ask) ∙ ap (λ s. s.0) (sym its.call_stripe);
-    view = its.call_view;
   }
 
   -- an order that tells a version
@@ -149,11 +148,11 @@ module _ (setting : Setting) (views : Views) (sound : IsSound setting) (w : Worl
 
   -- a member's seat
   seat_of : (k : ℕ) (member : BrickId) → slice_get c.group.members k ≡ Some member → seat_in c.group.members member.0 ≡ Some k
-  seat_of k member at = seat_of_member c.group.members k member (sound.distinct c.ask.group.0 c.group its.group_is) at
+  seat_of k member at = seat_of_member c.group.members k member (said.distinct c.call.group.0 c.call.view.0 c.group says.group) at
 
   -- a group of the call is the operation's
-  group_same : (other : Group) → group_of setting.layout c.call.group.0 ≡ Some other → c.group ≡ other
-  group_same other other_is = same_Some c.group other (sym its.group_is ∙ ap (λ g. group_of setting.layout g.0) (sym its.call_group) ∙ other_is)
+  group_same : (other : Group) → group_in setting.layout views c.call.group.0 c.call.view.0 ≡ Some other → c.group ≡ other
+  group_same other other_is = same_Some c.group other (sym says.group ∙ other_is)
 
   -- what concerns the stripe that is asked concerns the call's
   of_call : (P : ℕ → ℕ → Type 0) → P c.ask.group.0 c.ask.stripe.0 → P c.call.group.0 c.call.stripe.0
@@ -175,7 +174,8 @@ module _ (setting : Setting) (views : Views) (sound : IsSound setting) (w : Worl
           (stays_guarded setting views w next stamps later books grows c.ask.group.0 c.ask.stripe.0 other t
           (subst (λ a. IsGuarded w a.group.0 a.stripe.0 other t) (sym its.ask)
           (((said.operations (number_of w me.0 c.call.seq) o its.operation_is).version t again.version).guarded other
-          (ap (λ a. group_of setting.layout a.group.0) (sym its.ask) ∙ ap (λ g. group_of setting.layout g.0) (sym its.call_group) ∙ other_is))));
+          (ap (λ a. group_in setting.layout views a.group.0 (view_of t)) (sym its.ask)
+          ∙ ap (λ g. group_in setting.layout views g.0 (view_of t)) (sym its.call_group) ∙ other_is))));
     };
     is_block = λ other j other_is at_j.
         let place : k ≡ j = same_Some k j (sym (seat_of k member at) ∙ (ap (λ (z : Group). seat_in z.members member.0) (group_same other other_is) ∙ at_j)) in
@@ -226,6 +226,7 @@ module _ (setting : Setting) (views : Views) (sound : IsSound setting) (w : Worl
       let on : MadeOn setting views next c b = stays_made_on setting views w next stamps later books grows c b ok.2 in
       subst (λ (z : Stamp). MadeOn setting views next d z) at (record {
         base_is = ok.1 ∙ on.base_is;
+        of = on.of;
         below = subst (λ (z : Stamp). stamp_below b z ≡ true) (sym ok.0) on.below;
         base_made = on.base_made;
         stands = on.stands;
@@ -237,6 +238,7 @@ module _ (setting : Setting) (views : Views) (sound : IsSound setting) (w : Worl
 
   d_says : CallSays setting views next later me.0 c.call.seq d
   d_says = record {
+    group = says.group;
     begun = subst (λ (b : ℕ). IsBegun later me.0 b c.call.seq (c.call.phase + 1) phase t) (sym boot_now) begun_now;
     last = λ p less.
         subst (λ (b : ℕ). later me.0 b c.call.seq p ≡ None) (sym boot_now)

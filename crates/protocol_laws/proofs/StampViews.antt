@@ -92,7 +92,7 @@ view_same : (e : ℕ) (t : Stamp) → 1 ≤ e → t.view.0 ≡ e → view_of t �
 view_same e t some is = omega (arith, some, is)
 
 -- what a request to the part in the learnt view asks at is of that view
-asked_view : (layout : Layout) (node : Node) (call : Call) (request : Request) → NodeViews layout node → RequestIsOf call request
+pub asked_view : (layout : Layout) (node : Node) (call : Call) (request : Request) → NodeViews layout node → RequestIsOf call request
     → call.view.0 ≡ view_at node call.group.0 → (t : Stamp) → stamp_asked request ≡ Some t → view_of t ≡ call.view.0
 asked_view layout node call request has asks view t is =
     let some = has.views call.group.0 in view_same call.view.0 t (omega (arith, view, some)) (asks t is)

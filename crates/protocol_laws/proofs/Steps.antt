@@ -1,5 +1,5 @@
 -- What an event owes to the invariant: only what is new.
-use Rattle.std.proofs.lemmas.Bool.{or_left, or_cases, or_right}
+use Rattle.std.proofs.lemmas.Bool.{or_left, or_cases, or_right, false≢true}
 use Rattle.std.proofs.Common.{◌≡◌, ◌≢◌, ℕ, ◌+◌, ◌≤◌, ◌⊎◌, inl, inr, true, false, List, ◌++◌, length, zero, suc, Bool, Some, None, [], ◌∷◌, refl, sym, ap, ◌∙◌, subst, ⊎_elim, arith}
 use Rattle.std.specs.Prelude.{slice_get, ◌||◌}
 use Rattle.fab_base.specs.declared.identities.BrickId.{BrickId}
@@ -16,9 +16,9 @@ use Rattle.reg_model.specs.declared.marks.Mark.TheVariants.{End}
 use Rattle.reg_model.specs.Marks.{life_of}
 use Rattle.reg_model.specs.Walk.{last_of}
 use Rattle.fab_base.proofs.StampOrder.{stamp_below_irrefl}
-use Rattle.fab_base.specs.Layouts.{Group, group_of}
+use Rattle.fab_base.specs.Layouts.{Group}
 use Rattle.protocol.specs.Settings.{Setting}
-use Rattle.protocol.specs.Views.{Views, view_of}
+use Rattle.protocol.specs.Views.{Views, view_of, group_in}
 use Rattle.protocol.specs.Replicas.{Replica, top_of, is_held}
 use Rattle.protocol.specs.declared.phases.Counted.{Counted}
 use Rattle.protocol.specs.Coordinators.{Coordinator, request_of}
@@ -26,9 +26,9 @@ use Rattle.protocol.specs.Nodes.{Node, put, to_members, phase_packets, top_at}
 use Rattle.protocol.specs.Worlds.{World, Operation, with_held}
 use Rattle.protocol_laws.specs.Laws.{WasSent, part_in, top_in}
 use Rattle.protocol_laws.proofs.Books.{Books, IsOperation, IsCall}
-use Rattle.protocol_laws.proofs.Logs.{LogAscends, IsKept, held_stands}
-use Rattle.protocol_laws.proofs.Blocking.{PartsStay, LogsFit, LogsStay, NewIsLogged, parts_from}
-use Rattle.protocol_laws.proofs.Said.{Stamping, Said, StampsSay, IsKnown, VersionSays, PacketSays, OperationSays, CallSays, EndShows, IsInOrder, FloorsAtLeast, WasCollected, IsMadeOrFirst}
+use Rattle.protocol_laws.proofs.Logs.{LogAscends, IsKept, held_stands, under_held, nothing_kept}
+use Rattle.protocol_laws.proofs.Blocking.{PartsStay, LogsFit, LogsStay, NewIsLogged, parts_from, was_kept}
+use Rattle.protocol_laws.proofs.Said.{Stamping, Said, StampsSay, IsKnown, VersionSays, PacketSays, OperationSays, CallSays, EndShows, IsInOrder, FloorsAtLeast, WasCollected, IsMadeOrFirst, IsBottom}
 use Rattle.protocol.proofs.Tables.{put_each, get_kept, get_grown, get_added, put_same}
 use Rattle.protocol_laws.proofs.Stampings.{StampsGrow, Ages, ages_within, stamps_same, stays_known, stamps_stay}
 use Rattle.protocol_laws.proofs.Growth.{Grows, continues_same, stays_version, stays_packet, stays_operation, stays_call, stays_end, stays_collected, stays_made}
@@ -48,9 +48,9 @@ pub record Owes (setting : Setting) (views : Views) (w next : World) (stamps lat
   pub stamps_say : StampsSay next later
   pub tops : (g e s i : ℕ) → (top_of (part_in next g e s i) ≡ top_of (part_in w g e s i)) ⊎ IsKnown later (top_of (part_in next g e s i))
   pub logs : (g e s i k : ℕ) (version : Version) → slice_get (part_in next g e s i).log k ≡ Some version
-      → ((j : ℕ) × (slice_get (part_in w g e s i).log j ≡ Some version)) ⊎ VersionSays setting views next g s i version
+      → ((j : ℕ) × (slice_get (part_in w g e s i).log j ≡ Some version)) ⊎ VersionSays setting views next g e s i version
   pub lowest : (g e s i : ℕ) (x : Version) (log : List Version) → (part_in next g e s i).log ≡ x ∷ log
-      → ((more : List Version) × ((part_in w g e s i).log ≡ x ∷ more)) ⊎ WasCollected next g s x.stamp
+      → ((more : List Version) × ((part_in w g e s i).log ≡ x ∷ more)) ⊎ (((part_in w g e s i).log ≡ []) ⊎ WasCollected next g s x.stamp)
   pub packets : (k : ℕ) (packet : Packet) → slice_get next.packets k ≡ Some packet
       → (slice_get w.packets k ≡ Some packet) ⊎ PacketSays setting views next later packet
   pub operations : (n : ℕ) (o : Operation) → IsOperation next n o → IsOperation w n o ⊎ OperationSays setting views next later n o
@@ -64,6 +64,8 @@ pub record Owes (setting : Setting) (views : Views) (w next : World) (stamps lat
 pub said_after : (setting : Setting) (views : Views) (w next : World) (stamps later : Stamping) → Books setting w → Said setting views w stamps
     → Grows w next stamps later → Owes setting views w next stamps later → Said setting views next later
 said_after setting views w next stamps later books said grows owes = record {
+  limits = said.limits;
+  distinct = said.distinct;
   stamps_say = owes.stamps_say;
   first_held = λ g s i. grows.parts.held g s i first_stamp (said.first_held g s i);
   tops = λ g e s i. ⊎_elim
@@ -74,10 +76,14 @@ said_after setting views w next stamps later books said grows owes = record {
   logs = logs;
   lowest = λ g e s i x log is. ⊎_elim
       (λ (old : (more : List Version) × ((part_in w g e s i).log ≡ x ∷ more)). ⊎_elim
-      (λ (first : x.stamp ≡ first_stamp). inl first)
+      (λ (bottom : IsBottom w g e s i x.stamp). inl (bottom_stays g e s i x log is bottom))
       (λ (was : WasCollected w g s x.stamp). inr (stays_collected w next grows.sent g s x.stamp was))
       (said.lowest g e s i x old.0 old.1))
-      (λ (new : WasCollected next g s x.stamp). inr new)
+      (⊎_elim
+      (λ (none : (part_in w g e s i).log ≡ []).
+      inl (bottom_stays g e s i x log is (λ d of less was.
+      nothing_kept d (subst (λ (l : List Version). IsKept d l) none (was_kept w said.logged g e s i d of was)))))
+      (λ (new : WasCollected next g s x.stamp). inr new))
       (owes.lowest g e s i x log is);
   held_made = λ g s i t held. ⊎_elim
       (λ (was : w.held i g s t ≡ true). stays_made setting views w next stamps later books grows g s t (said.held_made g s i t was))
@@ -108,11 +114,22 @@ said_after setting views w next stamps later books said grows owes = record {
   logged = grows.parts.logged;
 }
   where
-    logs : (g e s i k : ℕ) (version : Version) → slice_get (part_in next g e s i).log k ≡ Some version → VersionSays setting views next g s i version
+    -- what comes to be held is in a log, and not below the lowest there
+    bottom_stays : (g e s i : ℕ) (x : Version) (log : List Version) → (part_in next g e s i).log ≡ x ∷ log → IsBottom w g e s i x.stamp
+        → IsBottom next g e s i x.stamp
+    bottom_stays g e s i x log is bottom d of less held = ⊎_elim
+        (λ (was : w.held i g s d ≡ true). bottom d of less was)
+        (λ (new : is_held d (part_in next g (view_of d) s i).log ≡ true).
+        let there : is_held d (x ∷ log) ≡ true = ap (λ (l : List Version). is_held d l) (sym is) ∙ ap (λ (v : ℕ). is_held d (part_in next g v s i).log) (sym of) ∙ new in
+        let rises : LogAscends (x ∷ log) = subst (λ (l : List Version). LogAscends l) is (grows.parts.logged.ascends g e s i) in
+        false≢true (sym (stamp_below_irrefl d) ∙ under_held d d (x ∷ log) rises less there))
+        (grows.fresh i g s d held)
+
+    logs : (g e s i k : ℕ) (version : Version) → slice_get (part_in next g e s i).log k ≡ Some version → VersionSays setting views next g e s i version
     logs g e s i k version is = ⊎_elim
         (λ (old : (j : ℕ) × (slice_get (part_in w g e s i).log j ≡ Some version)).
-        stays_version setting views w next stamps later books grows g s i version (said.logs g e s i old.0 version old.1))
-        (λ (new : VersionSays setting views next g s i version). new)
+        stays_version setting views w next stamps later books grows g e s i version (said.logs g e s i old.0 version old.1))
+        (λ (new : VersionSays setting views next g e s i version). new)
         (owes.logs g e s i k version is)
 
 -- one brick comes no less far than before, keeps what it kept, takes nothing new below what it had come to, and its logs go on ascending
@@ -304,9 +321,10 @@ pub record QuietOwes (setting : Setting) (views : Views) (w : World) (stamps lat
   pub stamps_other : (i b k : ℕ) → i ≢ me.0 → KeepsStamps stamps later i b k
   pub tops : (g e s : ℕ) → (top_of (node.replicas g e s) ≡ top_of ((w.nodes me.0).replicas g e s)) ⊎ IsKnown later (top_of (node.replicas g e s))
   pub logs : (g e s k : ℕ) (version : Version) → slice_get (node.replicas g e s).log k ≡ Some version
-      → ((j : ℕ) × (slice_get ((w.nodes me.0).replicas g e s).log j ≡ Some version)) ⊎ VersionSays setting views (quiet w me node more) g s me.0 version
+      → ((j : ℕ) × (slice_get ((w.nodes me.0).replicas g e s).log j ≡ Some version)) ⊎ VersionSays setting views (quiet w me node more) g e s me.0 version
   pub lowest : (g e s : ℕ) (x : Version) (log : List Version) → (node.replicas g e s).log ≡ x ∷ log
-      → ((rest : List Version) × (((w.nodes me.0).replicas g e s).log ≡ x ∷ rest)) ⊎ WasCollected (quiet w me node more) g s x.stamp
+      → ((rest : List Version) × (((w.nodes me.0).replicas g e s).log ≡ x ∷ rest))
+      ⊎ ((((w.nodes me.0).replicas g e s).log ≡ []) ⊎ WasCollected (quiet w me node more) g s x.stamp)
   pub calls : (k : ℕ) (c : Coordinator) → node.calls k ≡ Some c
       → (((w.nodes me.0).calls k ≡ Some c) × KeepsStamps stamps later me.0 (w.nodes me.0).boot k)
       ⊎ CallSays setting views (quiet w me node more) later me.0 k c
@@ -323,11 +341,12 @@ said_quiet setting views w stamps later me node more books said grow owes =
           w.nodes me.0 node (owes.tops g e s) (λ j other. inl refl) i;
       logs = λ g e s i k version.
           put_each (λ j x. slice_get (x.replicas g e s).log k ≡ Some version
-          → ((l : ℕ) × (slice_get ((w.nodes j).replicas g e s).log l ≡ Some version)) ⊎ VersionSays setting views (quiet w me node more) g s j version)
+          → ((l : ℕ) × (slice_get ((w.nodes j).replicas g e s).log l ≡ Some version)) ⊎ VersionSays setting views (quiet w me node more) g e s j version)
           w.nodes me.0 node (owes.logs g e s k version) (λ j other is. inl (k, is)) i;
       lowest = λ g e s i x log.
           put_each (λ j y. (y.replicas g e s).log ≡ x ∷ log
-          → ((rest : List Version) × (((w.nodes j).replicas g e s).log ≡ x ∷ rest)) ⊎ WasCollected (quiet w me node more) g s x.stamp)
+          → ((rest : List Version) × (((w.nodes j).replicas g e s).log ≡ x ∷ rest))
+          ⊎ ((((w.nodes j).replicas g e s).log ≡ []) ⊎ WasCollected (quiet w me node more) g s x.stamp))
           w.nodes me.0 node (owes.lowest g e s x log) (λ j other is. inl (log, is)) i;
       packets = λ k packet is. ⊎_elim
           (λ (old : slice_get w.packets k ≡ Some packet). inl old)
@@ -447,7 +466,7 @@ said_idle setting views w stamps me node after up past marks reached books said 
           (λ j other is. inl (is, refl, (λ p. refl))) i;
       ends = λ k p n answer is. inl (ends k p n answer is);
       order = λ a b earlier later u earlier_is later_is groups stripes version. ⊎_elim
-          (λ (floors : (group : Group) → group_of setting.layout later.ask.group.0 ≡ Some group → FloorsAtLeast later group u). inl floors)
+          (λ (floors : (group : Group) → group_in setting.layout views later.ask.group.0 (view_of u) ≡ Some group → FloorsAtLeast later group u). inl floors)
           (λ (before : later.begin ≤ last_of (life_of w.marks a)). inr (omega (arith, before, lasts a)))
           (said.order a b earlier later u earlier_is later_is groups stripes version);
     })

@@ -13,8 +13,8 @@ use Rattle.fab_base.proofs.StampOrder.{stamp_same_refl, stamp_same_true}
 use Rattle.messages.specs.declared.packets.Packet.{Packet}
 use Rattle.reg_model.specs.Marks.{life_of}
 use Rattle.reg_model.specs.Walk.{last_of}
-use Rattle.fab_base.specs.Layouts.{Group, group_of, seat_in}
-use Rattle.protocol.specs.Views.{Views}
+use Rattle.fab_base.specs.Layouts.{Group, seat_in}
+use Rattle.protocol.specs.Views.{Views, group_in, view_of}
 use Rattle.protocol.specs.Settings.{Setting, IsSound, are_bytes}
 use Rattle.quorum.specs.Quorums.{IsWithinLimits}
 use Rattle.reg_model.specs.Registers.{block_of, with_block, after_op}
@@ -36,7 +36,7 @@ use Rattle.protocol_laws.proofs.Stampings.{ComesFrom, StampsGrow, Ages, ages_wit
 use Rattle.protocol_laws.proofs.Steps.{KeepsStamps, ages_by, phase_asked}
 use Rattle.protocol_laws.proofs.Growth.{Grows, stays_guarded, stays_made, stays_standing, stay_blocked, stays_operation}
 use Rattle.protocol_laws.proofs.Operated.{operated, OperatedKeeps, operated_grows, said_operated}
-use Rattle.protocol_laws.proofs.OwnStamps.{not_made_yet}
+use Rattle.protocol_laws.proofs.OwnStamps.{not_made_yet, call_by, own_in, m_is}
 
 -- an open operation may happen up to one past the last mark
 pub open_until : (setting : Setting) (w : World) (i k : ℕ) (c : Coordinator) → Books setting w → IsCall w i k c
@@ -70,6 +70,7 @@ made_content setting w c base = content_on setting.layout.block (w.contents c.as
 pub record SendsChange (setting : Setting) (views : Views) (w : World) (c : Coordinator) (base : Option Stamp) (phase : Phase) (content : List ℕ) : Type 0 where
   pub version : Stamp
   pub base_is : base ≡ Some version
+  pub of : view_of version ≡ c.call.view.0
   pub j : ℕ
   pub bytes : List ℕ
   pub phase_is : phase ≡ Modifies version j
@@ -77,8 +78,7 @@ pub record SendsChange (setting : Setting) (views : Views) (w : World) (c : Coor
   pub below : stamp_below version c.stamp ≡ true
   pub made : IsMadeOrFirst w c.ask.group.0 c.ask.stripe.0 version
   pub stands : Stands setting views w c.ask.group.0 c.ask.stripe.0 version
-  pub formed : (group : Group) → group_of setting.layout c.ask.group.0 ≡ Some group
-      → IsContent group.m setting.layout.block (w.contents c.ask.group.0 c.ask.stripe.0 version)
+  pub formed : IsContent c.group.m setting.layout.block (w.contents c.ask.group.0 c.ask.stripe.0 version)
   pub delta_is : content
       ≡ setting.code.delta (block_of setting.layout.block j (w.contents c.ask.group.0 c.ask.stripe.0 version)) bytes
 
@@ -93,9 +93,6 @@ module _ (setting : Setting) (views : Views) (sound : IsSound setting) (w : Worl
   -- its group, and its members
   abbrev group : Group
   group = c.group
-
-  group_is : group_of setting.layout c.ask.group.0 ≡ Some group
-  group_is = (books.calls me.0 c.call.seq c is).group_is
 
   abbrev its : CallBooks setting w me.0 c.call.seq c
   its = books.calls me.0 c.call.seq c is
@@ -233,17 +230,18 @@ module _ (setting : Setting) (views : Views) (sound : IsSound setting) (w : Worl
   boot_now : (next.nodes me.0).boot ≡ boot
   boot_now = ap (λ (x : Node). x.boot) (put_same w.nodes me.0 node)
 
-  its_group : group_of setting.layout o.ask.group.0 ≡ Some group
-  its_group = ap (λ a. group_of setting.layout a.group.0) (sym its.ask) ∙ group_is
-
   call_group : c.ask.group.0 ≡ c.call.group.0
   call_group = ap (λ g. g.0) (sym its.call_group)
 
   call_stripe : c.ask.stripe.0 ≡ c.call.stripe.0
   call_stripe = ap (λ s. s.0) (sym its.call_stripe)
 
-  same_group : (other : Group) → group_of setting.layout c.ask.group.0 ≡ Some other → group ≡ other
-  same_group other other_is = same_Some group other (sym group_is ∙ other_is)
+  -- its group is that of its stamp's view
+  same_group : (g : ℕ) → g ≡ c.ask.group.0 → (other : Group) → group_in setting.layout views g (view_of c.stamp) ≡ Some other → group ≡ other
+  same_group g at = call_by setting views w stamps books said me.0 c.call.seq c is g c.stamp at (own_in setting views w stamps books said me.0 c.call.seq c is)
+
+  asked_group : o.ask.group.0 ≡ c.ask.group.0
+  asked_group = ap (λ a. a.group.0) (sym its.ask)
 
   module _ (unmade : (o.version ≡ None) × (o.made ≡ false)) where
     -- no version of its stamp was made
@@ -310,10 +308,10 @@ module _ (setting : Setting) (views : Views) (sound : IsSound setting) (w : Worl
     module _ (guarded : IsGuarded w c.ask.group.0 c.ask.stripe.0 group c.stamp) (floors : FloorsAtMost o group c.stamp)
         (makes : MakesVersion setting views w c base) (formed : IsContent group.m setting.layout.block given)
         (sends : SendsVersion setting views w c base phase content) where
-      guarded_by : (other : Group) → group_of setting.layout c.ask.group.0 ≡ Some other → IsGuarded next c.ask.group.0 c.ask.stripe.0 other c.stamp
-      guarded_by other other_is =
+      guarded_by : (other : Group) → group ≡ other → IsGuarded next c.ask.group.0 c.ask.stripe.0 other c.stamp
+      guarded_by other same =
           stays_guarded setting views w next stamps later books grows c.ask.group.0 c.ask.stripe.0 other c.stamp
-          (subst (λ (z : Group). IsGuarded w c.ask.group.0 c.ask.stripe.0 z c.stamp) (same_group other other_is) guarded)
+          (subst (λ (z : Group). IsGuarded w c.ask.group.0 c.ask.stripe.0 z c.stamp) same guarded)
 
       -- the content that an operation makes of its base's
       given_on : (v : Stamp) → base ≡ Some v → given ≡ after_op setting.layout.block c.ask.op (w.contents c.ask.group.0 c.ask.stripe.0 v)
@@ -370,8 +368,8 @@ module _ (setting : Setting) (views : Views) (sound : IsSound setting) (w : Worl
                 subst (λ (t : Stamp). IsContent other.m setting.layout.block (contents o.ask.group.0 o.ask.stripe.0 t)) same
                 (subst (λ (a : Ask). IsContent other.m setting.layout.block (contents a.group.0 a.stripe.0 c.stamp)) its.ask
                 (subst (λ (l : List ℕ). IsContent other.m setting.layout.block l) (sym given_now)
-                (subst (λ (z : Group). IsContent z.m setting.layout.block given)
-                (same_group other (ap (λ a. group_of setting.layout a.group.0) its.ask ∙ other_is)) formed)));
+                (subst (λ (m : ℕ). IsContent m setting.layout.block given)
+                (sym (m_is setting views w stamps books said me.0 c.call.seq c is o.ask.group.0 other asked_group other_is)) formed)));
             stands = λ v has how. ⊎_elim
                 (λ (isnt : true ≡ false). absurd (true≢false isnt))
                 (λ (answered : o.answered ≡ true). absurd (true≢false (sym answered ∙ its.unanswered)))
@@ -383,24 +381,24 @@ module _ (setting : Setting) (views : Views) (sound : IsSound setting) (w : Worl
                   reader = λ isnt. absurd (true≢false isnt);
                   guarded = λ other other_is.
                       subst (λ (a : Ask). IsGuarded next a.group.0 a.stripe.0 other c.stamp) its.ask
-                      (guarded_by other (ap (λ a. group_of setting.layout a.group.0) its.ask ∙ other_is));
+                      (guarded_by other (same_group o.ask.group.0 asked_group other other_is));
                   floors = λ other other_is.
                       subst (λ (z : Group). FloorsAtMost o z c.stamp)
-                      (same_group other (ap (λ a. group_of setting.layout a.group.0) its.ask ∙ other_is)) floors;
+                      (same_group o.ask.group.0 asked_group other other_is) floors;
                 });
             answered = λ answered writes. refl;
           }
 
       -- the seat of a member
       seat_of : (k : ℕ) (member : BrickId) → slice_get group.members k ≡ Some member → seat_in group.members member.0 ≡ Some k
-      seat_of k member at = seat_of_member group.members k member (sound.distinct c.ask.group.0 group group_is) at
+      seat_of k member at = seat_of_member group.members k member (said.distinct c.call.group.0 c.call.view.0 group says.group) at
 
       -- the group of the call, and a seat in it
-      call_group_is : (other : Group) → group_of setting.layout c.call.group.0 ≡ Some other → group ≡ other
-      call_group_is other other_is = same_group other (ap (group_of setting.layout) call_group ∙ other_is)
+      call_group_is : (other : Group) → group_in setting.layout views c.call.group.0 c.call.view.0 ≡ Some other → group ≡ other
+      call_group_is other other_is = same_Some group other (sym says.group ∙ other_is)
 
       seat_same : (k j : ℕ) (member : BrickId) (other : Group) → slice_get group.members k ≡ Some member
-          → group_of setting.layout c.call.group.0 ≡ Some other → seat_in other.members member.0 ≡ Some j → k ≡ j
+          → group_in setting.layout views c.call.group.0 c.call.view.0 ≡ Some other → seat_in other.members member.0 ≡ Some j → k ≡ j
       seat_same k j member other at other_is at_j =
           same_Some k j (sym (seat_of k member at) ∙ (ap (λ (z : Group). seat_in z.members member.0) (call_group_is other other_is) ∙ at_j))
 
@@ -421,7 +419,6 @@ module _ (setting : Setting) (views : Views) (sound : IsSound setting) (w : Worl
           seq = its.seq;
           group = ap (λ a. a.group.0) (sym its.ask) ∙ call_group;
           stripe = ap (λ a. a.stripe.0) (sym its.ask) ∙ call_stripe;
-          view = its.call_view;
         };
         begun = subst (λ (b : ℕ). IsBegun later me.0 b c.call.seq (c.call.phase + 1) phase c.stamp) (sym its.call_boot) begun_now;
         made = refl;
@@ -429,7 +426,7 @@ module _ (setting : Setting) (views : Views) (sound : IsSound setting) (w : Worl
         member = λ other other_is.
             (k, subst (λ (z : Group). seat_in z.members member.0 ≡ Some k) (call_group_is other other_is) (seat_of k member at));
         guarded = λ other other_is.
-            of_call (λ g s. IsGuarded next g s other c.stamp) (guarded_by other (ap (group_of setting.layout) call_group ∙ other_is));
+            of_call (λ g s. IsGuarded next g s other c.stamp) (guarded_by other (same_group c.call.group.0 (sym call_group) other other_is));
       }
 
       -- a write to a member
@@ -459,19 +456,20 @@ module _ (setting : Setting) (views : Views) (sound : IsSound setting) (w : Worl
         after = with_block size change.j change.bytes before
 
         before_formed : IsContent group.m size before
-        before_formed = change.formed group group_is
+        before_formed = change.formed
 
         -- the write's block is one of m, and is a block
         asked_fits : (change.j < group.m) × (length change.bytes ≡ size) × (are_bytes change.bytes ≡ true)
         asked_fits =
             let o_books : OperationBooks setting w n o = books.operations n o its.operation_is in
-            let same : o_books.group ≡ group = same_Some o_books.group group (sym o_books.group_is ∙ its_group) in
+            let same : o_books.group.m ≡ group.m
+            = m_is setting views w stamps books said me.0 c.call.seq c is o.ask.group.0 o_books.group asked_group o_books.group_is in
             let op : o.ask.op ≡ WriteBlock change.j change.bytes = ap (λ a. a.op) (sym its.ask) ∙ change.op_is in
             let has : has_block group.m (WriteBlock change.j change.bytes) ≡ true
-            = subst (λ (z : Group). has_block z.m (WriteBlock change.j change.bytes) ≡ true) same
+            = subst (λ (m : ℕ). has_block m (WriteBlock change.j change.bytes) ≡ true) same
             (subst (λ (x : Op). has_block o_books.group.m x ≡ true) op o_books.block_fits) in
             let long : has_length group.m size (WriteBlock change.j change.bytes) ≡ true
-            = subst (λ (z : Group). has_length z.m size (WriteBlock change.j change.bytes) ≡ true) same
+            = subst (λ (m : ℕ). has_length m size (WriteBlock change.j change.bytes) ≡ true) same
             (subst (λ (x : Op). has_length o_books.group.m size x ≡ true) op o_books.length_fits) in
             let parts = and_parts (are_bytes change.bytes) (nat_eq (length change.bytes) size) long in
             (ltb-true change.j group.m has, eqb-true (length change.bytes) size parts.1, parts.0)
@@ -483,7 +481,7 @@ module _ (setting : Setting) (views : Views) (sound : IsSound setting) (w : Worl
         given_after = given_on change.version change.base_is ∙ ap (λ (x : Op). after_op size x before) change.op_is
 
         limits : IsWithinLimits group.m (length group.members)
-        limits = sound.limits c.ask.group.0 group group_is
+        limits = said.limits c.call.group.0 c.call.view.0 group says.group
 
         -- a seat's block of the base becomes that of the version
         changes_seat : (seat : ℕ) → seat < length group.members
@@ -570,6 +568,7 @@ module _ (setting : Setting) (views : Views) (sound : IsSound setting) (w : Worl
         made_on_base : MadeOn setting views next d change.version
         made_on_base = record {
           base_is = change.base_is;
+          of = change.of;
           below = change.below;
           base_made = stays_made setting views w next stamps later books grows c.ask.group.0 c.ask.stripe.0 change.version change.made;
           stands = stays_standing setting views w next stamps later books grows c.ask.group.0 c.ask.stripe.0 change.version change.stands;
@@ -626,6 +625,7 @@ module _ (setting : Setting) (views : Views) (sound : IsSound setting) (w : Worl
 
       d_says : CallSays setting views next later me.0 c.call.seq d
       d_says = record {
+        group = says.group;
         begun = subst (λ (b : ℕ). IsBegun later me.0 b c.call.seq (c.call.phase + 1) phase c.stamp) (sym boot_now) begun_now;
         last = λ p less.
             subst (λ (b : ℕ). later me.0 b c.call.seq p ≡ None) (sym boot_now)

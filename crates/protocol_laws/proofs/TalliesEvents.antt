@@ -1,4 +1,5 @@
 -- Every event keeps the history of replies.
+use Rattle.protocol_laws.proofs.ViewLaws.{follows_layout}
 use Rattle.std.proofs.Common.{◌≡◌, ◌≢◌, ℕ, ◌+◌, ◌≤◌, inl, ⊎_elim, true, false, ap, Option, Some, None, List, [], ◌∷◌, ◌++◌, length, refl, sym, ◌∙◌, subst, arith, Bool}
 use Rattle.std.specs.Prelude.{slice_get}
 use Rattle.std.proofs.lemmas.Bool.{cases_eq}
@@ -366,5 +367,5 @@ tallied setting events sound =
   where
     shows : (more : List Event) → MessagesShow (run setting more (first_world setting.layout))
     shows more =
-        let said : IsSaid setting (layout_views setting.layout) (run setting more (first_world setting.layout)) = always_said setting (layout_views setting.layout) more sound in
+        let said : IsSaid setting (layout_views setting.layout) (run setting more (first_world setting.layout)) = always_said setting (layout_views setting.layout) more sound (follows_layout setting more sound) in
         messages_show setting (layout_views setting.layout) (run setting more (first_world setting.layout)) said.0 (books setting more) said.1

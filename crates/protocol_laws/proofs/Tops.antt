@@ -87,3 +87,8 @@ view_above node g t free view =
 pub time_rises : (a b : Stamp) → a.view.0 ≡ b.view.0 → stamp_below a b ≡ false → b.time ≤ a.time
 unfolding stamp_below
 time_rises a b view above = grind (arith, nat_tests)
+
+-- what is at or above a stamp of a view, and below another, is of it
+pub view_between : (b d t : Stamp) (e : ℕ) → view_of b ≡ e → view_of t ≡ e → stamp_below d b ≡ false → stamp_below d t ≡ true → view_of d ≡ e
+unfolding stamp_below
+view_between b d t e low high above below = grind (arith, nat_tests)

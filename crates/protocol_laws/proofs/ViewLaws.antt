@@ -1,14 +1,13 @@
 -- The laws of members and quorums, for every assignment of members to views that a world follows.
-use Rattle.std.proofs.Common.{◌≡◌, ◌≢◌, ℕ, ◌≤◌, ◌⊎◌, inl, inr, Bool, true, not, ◌&&◌, List, [], ◌∷◌, ◌++◌, length, Some, None, refl, sym, ap, ◌∙◌, subst, ⊎_elim, arith}
+use Rattle.std.proofs.Common.{◌≡◌, ℕ, ◌⊎◌, inl, inr, Bool, true, not, ◌&&◌, List, [], ◌∷◌, ◌++◌, length, Some, None, refl, sym, ap, ◌∙◌, subst, ⊎_elim, arith}
 use Rattle.std.specs.Prelude.{slice_get}
-use Rattle.std.proofs.lemmas.Bool.{and_parts, cases_eq, false≢true, not-true}
+use Rattle.std.proofs.lemmas.Bool.{and_parts, not-true}
 use Rattle.std.proofs.lemmas.Option.{same_Some}
 use Rattle.fab_base.specs.declared.identities.BrickId.{BrickId}
 use Rattle.fab_base.specs.declared.stamps.Stamp.{Stamp}
 use Rattle.fab_base.specs.declared.asks.Op.TheVariants.{WriteStripe}
-use Rattle.fab_base.specs.Stamps.{stamp_below, first_stamp}
-use Rattle.fab_base.proofs.StampOrder.{stamp_below_first}
-use Rattle.fab_base.specs.Layouts.{Layout, Group, group_of, seat_in, brick_at}
+use Rattle.fab_base.specs.Stamps.{stamp_below}
+use Rattle.fab_base.specs.Layouts.{Layout, Group, group_of, brick_at}
 use Rattle.fab_base.proofs.Seats.{seat_within, brick_at_seat}
 use Rattle.messages.specs.declared.calls.Call.{Call}
 use Rattle.messages.specs.declared.packets.Message.TheVariants as Message
@@ -18,83 +17,52 @@ use Rattle.messages.specs.declared.replies.Reply.{Reply}
 use Rattle.quorum.specs.Quorums.{IsWithinLimits}
 use Rattle.quorum.proofs.Counts.{count_monotone}
 use Rattle.protocol.specs.Settings.{Setting}
-use Rattle.protocol.specs.Views.{Views, layout_views, view_of, members_of, group_in, group_kept}
+use Rattle.protocol.specs.Views.{Views, layout_views, view_of, group_in}
 use Rattle.protocol.specs.Replicas.{is_held}
-use Rattle.protocol.specs.declared.phases.Phase.{Phase}
 use Rattle.protocol.specs.declared.phases.Phase.TheVariants.{Modifies, Stores}
 use Rattle.protocol.specs.Coordinators.{told_in}
 use Rattle.protocol.specs.Nodes.{view_at}
 use Rattle.protocol.specs.Worlds.{World, Event, first_world, run, Operation}
-use Rattle.protocol_laws.specs.Laws.{part_in, top_in, Follows, EveryRunFollowsTheLayout, IsGuarded, IsBlocked, RequestSent, OneContent, BasesAreNewest, WritesAreGuarded, NoEventLowers, IsLost, NeverSurfaces, CollectsStand, IsHeldByQuorum, DropsOnlyOlder, NothingFalls}
-use Rattle.protocol_laws.proofs.Parts.{part_of}
-use Rattle.protocol_laws.proofs.FirstViews.{own_members, view_first, view_below, others_empty, IsInFirst}
-use Rattle.protocol_laws.proofs.Books.{Books}
+use Rattle.protocol_laws.specs.Laws.{part_in, top_in, EveryRunFollowsTheLayout, IsBlocked, RequestSent, OneContent, BasesAreNewest, WritesAreGuarded, NoEventLowers, IsLost, NeverSurfaces, CollectsStand, IsHeldByQuorum, DropsOnlyOlder, NothingFalls}
+use Rattle.protocol_laws.proofs.FirstViews.{own_members, view_first}
 use Rattle.protocol_laws.proofs.BooksEvents.{books}
-use Rattle.protocol_laws.proofs.Logs.{below_above, IsUnder, nothing_kept, IsKept, place_held}
+use Rattle.protocol_laws.proofs.Logs.{below_above, IsUnder, IsKept, place_held}
 use Rattle.protocol_laws.proofs.Blocking.{was_kept, passes_by, passes, blocked_by, blocked_stays, blocked_never_stands, count_split}
-use Rattle.protocol_laws.proofs.Said.{Stamping, Said, IsMadeOrFirst, IsBlockOf, ToldSays, MakerSays, WriteSays, ModifySays, RequestSays, ReplySays, WritesWhole, ReadsBack, WasCollected, Stands, CollectSays}
-use Rattle.protocol_laws.proofs.OwnStamps.{made_view}
+use Rattle.protocol_laws.proofs.Said.{Stamping, Said, IsBlockOf, ToldSays, MakerSays, WriteSays, ModifySays, RequestSays, ReplySays, WritesWhole, ReadsBack, WasCollected, Stands, CollectSays, IsBottom}
 use Rattle.protocol_laws.proofs.Falls.{parts_stay}
 
-module _ (setting : Setting) (w : World) (first : (i : ℕ) → IsInFirst setting.layout (w.nodes i)) where
-  module _ (views : Views) (follows : Follows setting.layout views w) where
-    -- the assignment has the layout's members in view 1
-    views_first : (g : ℕ) → views g 1 ≡ members_of (group_of setting.layout g)
-    views_first g =
-        ap (λ (e : ℕ). views g e) (sym (view_first setting.layout (w.nodes 0) g (first 0)))
-        ∙ sym (follows.learnt 0 g)
-        ∙ ap (λ l. (l g).view.members) (first 0).learnt
-
-    pub group_first : (g e : ℕ) (group : Group) → e ≡ 1 → group_in setting.layout views g e ≡ Some group → group_of setting.layout g ≡ Some group
-    group_first g e group is found =
-        sym (own_members (group_of setting.layout g))
-        ∙ ap (λ (members : List BrickId). group_kept setting.layout members g) (sym (ap (λ (x : ℕ). views g x) is ∙ views_first g)) ∙ found
-
-module _ (setting : Setting) (views : Views) (w : World) (stamps : Stamping) (books : Books setting w) (said : Said setting views w stamps)
-    (follows : Follows setting.layout views w) where
-  first : (i : ℕ) → IsInFirst setting.layout (w.nodes i)
-  first = books.first
-
+module _ (setting : Setting) (views : Views) (w : World) (stamps : Stamping) (said : Said setting views w stamps) where
   -- what a request that was sent says
   sent_says : (call : Call) (from to : BrickId) (request : Request) → RequestSent w call from to request
       → RequestSays setting views w stamps from.0 to.0 call request
   sent_says call from to request sent = said.packets sent.0 (record { from = from; to = to; message = Message.Request call request }) sent.1
 
-  -- the version that a reply tells has its content, and its call is of view 1
+  -- the version that a reply tells has its content
   found_says : (from to : BrickId) (call : Call) (reply : Reply) (version : Version) → ReplySays setting views w stamps from to call reply
-      → told_in reply ≡ Some version → ToldSays setting views w call.group.0 call.stripe.0 from.0 version × (call.view.0 ≡ 1)
+      → told_in reply ≡ Some version → ToldSays setting views w call.group.0 call.view.0 call.stripe.0 from.0 version
   found_says from to call (Reply.Found order (Some found)) version says told =
       let same : found ≡ version = same_Some found version told in
-      (subst (λ (z : Version). ToldSays setting views w call.group.0 call.stripe.0 from.0 z) same says.says, says.called.view)
-  found_says from to call (Reply.OrderedRead found) version says told = (says.says version told, says.called.view)
+      subst (λ (z : Version). ToldSays setting views w call.group.0 call.view.0 call.stripe.0 from.0 z) same says.says
+  found_says from to call (Reply.OrderedRead found) version says told = says.says version told
   found_says from to call reply version says told = cc
-
-  -- a member is sent a request to store a version at its seat
-  stored_at : (call : Call) (from to : BrickId) (phase : Phase) (t : Stamp) (group : Group) → MakerSays setting views w stamps from.0 to.0 call phase t
-      → group_in setting.layout views call.group.0 call.view.0 ≡ Some group
-      → (group_of setting.layout call.group.0 ≡ Some group) × ((k : ℕ) × (seat_in group.members to.0 ≡ Some k))
-  stored_at call from to phase t group says found =
-      let group_is : group_of setting.layout call.group.0 ≡ Some group
-      = group_first setting w first views follows call.group.0 call.view.0 group says.called.view found in
-      (group_is, says.member group group_is)
 
   pub one_content : OneContent setting views w
   one_content = record {
     sent = λ call from to t block group found sent.
         let says : WriteSays setting views w stamps from.0 to.0 call t block = sent_says call from to (Request.Write t block) sent in
-        let at = stored_at call from to Stores t group says.maker found in (
-          at.1.0,
-          seat_within group to.0 at.1.0 at.1.1,
-          brick_at_seat group to.0 at.1.0 at.1.1,
-          says.is_block group at.1.0 at.0 at.1.1,
+        let at = says.maker.member group found in (
+          at.0,
+          seat_within group to.0 at.0 at.1,
+          brick_at_seat group to.0 at.0 at.1,
+          says.is_block group at.0 found at.1,
         );
     changed = λ call from to t base j delta group found sent.
         let says : ModifySays setting views w stamps from.0 to.0 call t base j delta = sent_says call from to (Request.Modify t base j delta) sent in
-        let at = stored_at call from to (Modifies base j) t group says.maker found in
-        let change = says.changes group at.1.0 at.0 at.1.1 in (
-          at.1.0,
-          seat_within group to.0 at.1.0 at.1.1,
-          brick_at_seat group to.0 at.1.0 at.1.1,
+        let at = says.maker.member group found in
+        let change = says.changes group at.0 found at.1 in (
+          at.0,
+          seat_within group to.0 at.0 at.1,
+          brick_at_seat group to.0 at.0 at.1,
           (change.delta, change.sent_is, change.is),
         );
     found = λ call from to seat reply version group found at sent told.
@@ -102,73 +70,35 @@ module _ (setting : Setting) (views : Views) (w : World) (stamps : Stamping) (bo
         (said.packets sent.0 (record { from = from; to = to; message = Message.Reply call reply }) sent.1) told in
         ⊎_elim
         (λ (none : version.block ≡ []). inl none)
-        (λ (whole : IsBlockOf setting views w call.group.0 call.stripe.0 from.0 version.stamp version.block).
-        inr (whole group seat (group_first setting w first views follows call.group.0 call.view.0 group says.1 found) at))
-        says.0.block;
-    kept = λ g e s i seat k version group found seat_is at. ⊎_elim
-        (λ (one : e ≡ 1).
-        (said.logs g e s i k version at).block group seat
-        (group_first setting w first views follows g e group one found) seat_is)
-        (λ (other : e ≢ 1).
-        absurd (let never : slice_get [] k ≡ Some version
-        = ap (λ (l : List Version). slice_get l k) (sym (others_empty setting.layout (w.nodes i) g e s (first i) other)) ∙ at in
-        none_there k version never))
-        (cases_eq e 1);
+        (λ (whole : IsBlockOf setting views w call.group.0 call.view.0 call.stripe.0 from.0 version.stamp version.block).
+        inr (whole group seat found at))
+        says.block;
+    kept = λ g e s i seat k version group found seat_is at. (said.logs g e s i k version at).block group seat found seat_is;
   }
-    where
-      none_there : (k : ℕ) (version : Version) → slice_get [] k ≡ Some version → ⊥
-      none_there k version is = let never : ⊥ = cc in never
-
-  -- a stamp under which a member is asked to store is guarded
-  stored_guarded : (call : Call) (from to : BrickId) (phase : Phase) (t : Stamp) (group : Group) → MakerSays setting views w stamps from.0 to.0 call phase t
-      → group_in setting.layout views call.group.0 (view_of t) ≡ Some group → IsGuarded w call.group.0 call.stripe.0 group t
-  stored_guarded call from to phase t group says found =
-      let view : view_of t ≡ 1 = made_view setting views w stamps books said call.group.0 call.stripe.0 t (inr (
-        w.numbers from.0 call.boot call.seq,
-        says.operation,
-        says.called.is,
-        says.called.group,
-        says.called.stripe,
-        says.made,
-        says.version,
-      )) in
-      says.guarded group (group_first setting w first views follows call.group.0 (view_of t) group view found)
 
   pub writes_guarded : WritesAreGuarded setting views w
   writes_guarded call from to (Request.Write z block) t group found sent stores =
       let says : WriteSays setting views w stamps from.0 to.0 call z block = sent_says call from to (Request.Write z block) sent in
-      stored_guarded call from to Stores t group
-      (subst (λ (u : Stamp). MakerSays setting views w stamps from.0 to.0 call Stores u) (same_Some z t stores) says.maker) found
+      (subst (λ (u : Stamp). MakerSays setting views w stamps from.0 to.0 call Stores u) (same_Some z t stores) says.maker).guarded group found
   writes_guarded call from to (Request.Modify z base j delta) t group found sent stores =
       let says : ModifySays setting views w stamps from.0 to.0 call z base j delta = sent_says call from to (Request.Modify z base j delta) sent in
-      stored_guarded call from to (Modifies base j) t group
-      (subst (λ (u : Stamp). MakerSays setting views w stamps from.0 to.0 call (Modifies base j) u) (same_Some z t stores) says.maker) found
+      (subst (λ (u : Stamp). MakerSays setting views w stamps from.0 to.0 call (Modifies base j) u) (same_Some z t stores) says.maker).guarded group found
   writes_guarded call from to request t group found sent stores = cc
 
-  -- a version that was collected is of view 1, and a quorum has held it
-  collected_stands : (g s : ℕ) (c : Stamp) → WasCollected w g s c → (view_of c ≡ 1) × Stands setting views w g s c
+  -- a quorum has held a version that was collected
+  collected_stands : (g s : ℕ) (c : Stamp) → WasCollected w g s c → Stands setting views w g s c
   collected_stands g s c was =
       let says : CollectSays w was.from.0 was.call c = sent_says was.call was.from was.to (Request.Collect c) was.sent in
-      let n : ℕ = w.numbers was.from.0 was.call.boot was.call.seq in
       let o : Operation = says.operation in
-      let group : o.ask.group.0 ≡ g = says.called.group ∙ was.group in
-      let stripe : o.ask.stripe.0 ≡ s = says.called.stripe ∙ was.stripe in (
-        made_view setting views w stamps books said g s c (inr (n, o, says.called.is, group, stripe, says.made, says.version)),
-        subst (λ (h : ℕ). Stands setting views w h s c) group
-            (subst (λ (r : ℕ). Stands setting views w o.ask.group.0 r c) stripe
-            ((said.operations n o says.called.is).stands c says.version (inr says.answered))),
-      )
-
-  stands_in : (g s : ℕ) (c : Stamp) (group : Group) → WasCollected w g s c → group_in setting.layout views g (view_of c) ≡ Some group
-      → IsHeldByQuorum w g s group c
-  stands_in g s c group was found =
-      let stands = collected_stands g s c was in stands.1 group (group_first setting w first views follows g (view_of c) group stands.0 found)
+      subst (λ (h : ℕ). Stands setting views w h s c) (says.called.group ∙ was.group)
+      (subst (λ (r : ℕ). Stands setting views w o.ask.group.0 r c) (says.called.stripe ∙ was.stripe)
+      ((said.operations (w.numbers was.from.0 was.call.boot was.call.seq) o says.called.is).stands c says.version (inr says.answered)))
 
   -- what members were told to drop lies below a version that a quorum has held
   pub collects_stand : CollectsStand setting views w
   collects_stand call from to c group found sent =
-      stands_in call.group.0 call.stripe.0 c group
-      (record { call = call; from = from; to = to; sent = sent; group = refl; stripe = refl }) found
+      collected_stands call.group.0 call.stripe.0 c
+      (record { call = call; from = from; to = to; sent = sent; group = refl; stripe = refl }) group found
 
   -- a version is in a log, or a later one is that a quorum has held
   abbrev IsKeptOrOlder : ℕ → ℕ → Stamp → List Version → Type 0
@@ -179,30 +109,23 @@ module _ (setting : Setting) (views : Views) (w : World) (stamps : Stamping) (bo
 
   -- and so does what they dropped
   pub drops_older : DropsOnlyOlder setting views w
-  drops_older g s i t held = ⊎_elim
-      (λ (one : view_of t ≡ 1).
-      subst (λ (e : ℕ). IsKeptOrOlder g s t (part_in w g e s i).log) (sym one)
-      (by_log (part_of w g s i).log refl (was_kept w said.logged g s i t one held)))
-      (λ (other : view_of t ≢ 1).
-      absurd (nothing_kept t (subst (λ (l : List Version). IsKept t l) (others_empty setting.layout (w.nodes i) g (view_of t) s (first i) other)
-      (said.logged.kept i g s t held))))
-      (cases_eq (view_of t) 1)
+  drops_older g s i t held = by_log (part_in w g (view_of t) s i).log refl (was_kept w said.logged g (view_of t) s i t refl held)
     where
-      by_log : (log : List Version) → (part_of w g s i).log ≡ log → IsKept t (part_of w g s i).log → IsKeptOrOlder g s t (part_of w g s i).log
+      by_log : (log : List Version) → (part_in w g (view_of t) s i).log ≡ log → IsKept t (part_in w g (view_of t) s i).log
+          → IsKeptOrOlder g s t (part_in w g (view_of t) s i).log
       by_log log is (inl there) = inl there
       by_log [] is (inr under) = absurd (subst (λ (l : List Version). IsUnder t l) is under)
       by_log (x ∷ rest) is (inr under) =
           let less : stamp_below t x.stamp ≡ true = subst (λ (l : List Version). IsUnder t l) is under in
           ⊎_elim
-          (λ (lowest : x.stamp ≡ first_stamp).
-          absurd (false≢true (sym (stamp_below_first t) ∙ subst (λ (z : Stamp). stamp_below t z ≡ true) lowest less)))
+          (λ (bottom : IsBottom w g (view_of t) s i x.stamp). absurd (bottom t refl less held))
           (λ (was : WasCollected w g s x.stamp). inr (
             x.stamp,
-            place_held (part_of w g s i).log 0 x (ap (λ (l : List Version). slice_get l 0) is),
+            place_held (part_in w g (view_of t) s i).log 0 x (ap (λ (l : List Version). slice_get l 0) is),
             less,
-            (λ group found. stands_in g s x.stamp group was found),
+            (λ group found. collected_stands g s x.stamp was group found),
           ))
-          (said.lowest g 1 s i x rest is)
+          (said.lowest g (view_of t) s i x rest is)
 
   -- an operation's base is the one that it read back
   pub bases_newest : BasesAreNewest setting views w
@@ -216,15 +139,9 @@ module _ (setting : Setting) (views : Views) (w : World) (stamps : Stamping) (bo
       → stamp_below z d ≡ true → stamp_below d t ≡ true → IsBlocked w o.ask.group.0 o.ask.stripe.0 group d)) same (
         back.op,
         back.below,
-        (λ d group found above less.
-            let view : view_of d ≡ 1 = view_below d t (made_most t (inr (n, o, is, refl, refl, made, version))) less in
-            back.blocked group (group_first setting w first views follows o.ask.group.0 (view_of d) group view found) d (above, less)),
+        (λ d group found above less. back.blocked d group found (above, less)),
       ))
       ((said.operations n o is).maker t made version)
-    where
-      made_most : (u : Stamp) → IsMadeOrFirst w o.ask.group.0 o.ask.stripe.0 u → u.view.0 ≤ 1
-      made_most u is_made =
-          let view : view_of u ≡ 1 = made_view setting views w stamps books said o.ask.group.0 o.ask.stripe.0 u is_made in omega arith
 
 -- every run follows the layout's members: no brick has learnt others
 pub follows_layout : EveryRunFollowsTheLayout
