@@ -1,4 +1,7 @@
 -- What is known of the world in which an operation begins to run alone holds in every world that a run reaches.
+use Rattle.protocol_laws.proofs.Reactions.{top_is, top_is_order}
+use Rattle.protocol_laws.proofs.StampViews.{StampViews, PartIsOf, always_views}
+use Rattle.protocol_laws.proofs.FirstWorlds.{AreInFirst, always_in_first}
 use Rattle.fab_base.proofs.StampOrder.{stamp_neither_below, stamp_below_first}
 use Rattle.protocol_laws.proofs.ViewLaws.{layout_group, follows_layout}
 use Rattle.protocol.specs.Calms.{IsCalm}
@@ -6,9 +9,9 @@ use Rattle.protocol.specs.declared.phases.Phase.{Phase}
 use Rattle.fab_base.specs.declared.asks.Op.{Op}
 use Rattle.calm_laws.proofs.Calmness.{ends_alone}
 use Rattle.protocol.specs.Views.{view_of, layout_views}
-use Rattle.std.proofs.Common.{◌≡◌, ◌≢◌, ℕ, suc, ◌+◌, ◌≤◌, ◌<◌, ◌⊎◌, inl, inr, true, false, List, [], ◌∷◌, length, Some, refl, sym, ap, ◌∙◌, subst, ⊎_elim, arith}
+use Rattle.std.proofs.Common.{◌≡◌, ◌≢◌, ℕ, suc, ◌+◌, ◌≤◌, ◌<◌, ◌⊎◌, inl, inr, true, false, List, [], ◌∷◌, length, Some, refl, sym, ap, ◌∙◌, subst, ⊎_elim, arith, Option, None}
 use Rattle.std.specs.Prelude.{slice_get}
-use Rattle.std.proofs.lemmas.Bool.{cases_Bool, cases_eq}
+use Rattle.std.proofs.lemmas.Bool.{cases_Bool, cases_eq, cond_both}
 use Rattle.std.proofs.lemmas.Option.{same_Some}
 use Rattle.fab_base.specs.declared.identities.BrickId.{BrickId}
 use Rattle.fab_base.specs.declared.asks.Ask.{Ask}
@@ -21,7 +24,7 @@ use Rattle.messages.specs.declared.requests.Request.TheVariants as Request
 use Rattle.fab_base.specs.declared.asks.Op.TheVariants.{ReadBlock, WriteBlock, ReadStripe, WriteStripe}
 use Rattle.quorum.specs.Quorums.{count, quorum_of}
 use Rattle.protocol.specs.Settings.{Setting, IsSound}
-use Rattle.protocol.specs.Replicas.{Replica, is_held, top_of}
+use Rattle.protocol.specs.Replicas.{Replica, is_held, top_of, newest_of}
 use Rattle.protocol.specs.Coordinators.{Coordinator}
 use Rattle.protocol.specs.Nodes.{has_block, has_length, replica_at, phase_packets, first_phase}
 use Rattle.protocol.specs.Worlds.{World, Operation, first_world, number_of, run, is_brick, Event}
@@ -29,10 +32,10 @@ use Rattle.protocol_laws.proofs.Books.{Books, CallBooks, OperationBooks, IsOpera
 use Rattle.protocol_laws.proofs.BooksEvents.{books}
 use Rattle.protocol_laws.proofs.Blocking.{was_kept}
 use Rattle.protocol_laws.proofs.FirstViews.{group_first, others_empty}
-use Rattle.protocol_laws.proofs.Logs.{IsKept, IsUnder, held_stands, nothing_kept, LogAscends}
-use Rattle.protocol_laws.proofs.Said.{Stamping, Said, Stands, WasCollected, IsMadeOrFirst, IsKnown, IsStamped, IsBottom}
+use Rattle.protocol_laws.proofs.Logs.{IsKept, IsUnder, held_stands, nothing_kept, LogAscends, newest_stands}
+use Rattle.protocol_laws.proofs.Said.{Stamping, Said, Stands, WasCollected, IsMadeOrFirst, IsStamped, IsBottom}
 use Rattle.protocol_laws.proofs.SaidAlways.{always_said}
-use Rattle.protocol_laws.proofs.OwnStamps.{not_made_yet, call_one}
+use Rattle.protocol_laws.proofs.OwnStamps.{not_made_yet}
 use Rattle.protocol_laws.proofs.Parts.{part_of}
 use Rattle.calm_laws.specs.Laws.{EncodesBlocks, CalmOperationsEnd, most_records}
 use Rattle.calm_laws.proofs.Known.{Known, KnownCall, KnownMessages, KnownLogs, repeated}
@@ -42,7 +45,7 @@ use Rattle.calm_laws.proofs.Lives.{CountsLives, always_count, log_within}
 
 module _ (setting : Setting) (sound : IsSound setting) (encodes : EncodesBlocks setting) (small : setting.layout.records ≤ most_records) (w : World)
     (stamps : Stamping) (books : Books setting w) (said : Said setting (layout_views setting.layout) w stamps) (n : ℕ) (o : Operation) (c : Coordinator) (is : IsOperation w n o)
-    (at : IsOpenAt w n c) (fresh : IsFresh setting w n c) (numbered : IsNumbered w) (counts : (i : ℕ) → CountsLives setting.layout (w.nodes i)) where
+    (at : IsOpenAt w n c) (first : AreInFirst setting w) (in_views : StampViews setting.layout w) (fresh : IsFresh setting w n c) (numbered : IsNumbered w) (counts : (i : ℕ) → CountsLives setting.layout (w.nodes i)) where
   -- the operation is the one that is open
   same : at.operation ≡ o
   same = same_Some at.operation o (sym at.operation_is ∙ is)
@@ -70,14 +73,14 @@ module _ (setting : Setting) (sound : IsSound setting) (encodes : EncodesBlocks 
   ask = its.ask ∙ ap (λ (z : Operation). z.ask) the_operation
 
   -- the layout's members keep its group, in view 1
-  call_group : group_of setting.layout c.call.group.0 ≡ Some c.group
-  call_group = sym (layout_group setting.layout c.call.group.0 c.call.view.0) ∙ (said.calls o.brick.0 o.seq c call).group
-
   asked_group : group_of setting.layout c.ask.group.0 ≡ Some c.group
-  asked_group = ap (λ g. group_of setting.layout g.0) (sym its.call_group) ∙ call_group
+  asked_group = ((first o.brick.0).calls o.seq c call).group
+
+  call_group : group_of setting.layout c.call.group.0 ≡ Some c.group
+  call_group = ap (λ g. group_of setting.layout g.0) its.call_group ∙ asked_group
 
   view : c.call.view.0 ≡ 1
-  view = call_one setting (layout_views setting.layout) w stamps books said o.brick.0 o.seq c call
+  view = ((first o.brick.0).calls o.seq c call).view
 
   group_same : its_books.group ≡ c.group
   group_same = same_Some its_books.group c.group (sym its_books.group_is ∙ ap (λ (a : Ask). group_of setting.layout a.group.0) (sym ask) ∙ asked_group)
@@ -93,7 +96,7 @@ module _ (setting : Setting) (sound : IsSound setting) (encodes : EncodesBlocks 
     view = view;
     stripe = its.call_stripe;
     group_is = asked_group;
-    groups = λ i. group_first setting.layout (w.nodes i) c.ask.group.0 (books.first i) ∙ asked_group;
+    groups = λ i. group_first setting.layout (w.nodes i) c.ask.group.0 (first i).brick ∙ asked_group;
     within = subst (λ (a : Ask). a.stripe.0 < c.group.stripes) (sym ask) (subst (λ (z : Group). o.ask.stripe.0 < z.stripes) group_same its_books.stripe);
     block_fits =
         subst (λ (a : Ask). has_block c.group.m a.op ≡ true) (sym ask)
@@ -163,7 +166,7 @@ module _ (setting : Setting) (sound : IsSound setting) (encodes : EncodesBlocks 
       (λ (one : view_of t ≡ 1). one)
       (λ (other : view_of t ≢ 1).
       absurd (nothing_kept t (subst (λ (l : List Version). IsKept t l)
-      (others_empty setting.layout (w.nodes i) c.call.group.0 (view_of t) c.call.stripe.0 (books.first i) other)
+      (others_empty setting.layout (w.nodes i) c.call.group.0 (view_of t) c.call.stripe.0 (first i).brick other)
       (said.logged.kept i c.call.group.0 c.call.stripe.0 t held))))
       (cases_eq (view_of t) 1)
 
@@ -180,7 +183,7 @@ module _ (setting : Setting) (sound : IsSound setting) (encodes : EncodesBlocks 
         (was_kept w said.logged c.call.group.0 1 c.call.stripe.0 i t (held_view i t held) held);
     top_view = λ i.
         subst (λ (r : Replica). (top_of r).view.0 ≤ 1) (sym (part i))
-        (known_most (top_of (part_of w c.call.group.0 c.call.stripe.0 i)) (said.tops c.call.group.0 1 c.call.stripe.0 i));
+        (part_most (part_of w c.call.group.0 c.call.stripe.0 i) ((in_views.nodes i).parts c.call.group.0 1 c.call.stripe.0));
     unheld = λ i. ⊎_elim
         (λ (held : is_held c.stamp (replica_at (w.nodes i) c.call).log ≡ true). absurd (not_yet i (subst (λ (r : Replica). is_held c.stamp r.log ≡ true) (part i) held)))
         (λ (isnt : is_held c.stamp (replica_at (w.nodes i) c.call).log ≡ false). isnt)
@@ -203,9 +206,21 @@ module _ (setting : Setting) (sound : IsSound setting) (encodes : EncodesBlocks 
       below t [] under = absurd under
       below t (x ∷ log) under = under
 
-      known_most : (t : Stamp) → IsKnown stamps t → t.view.0 ≤ 1
-      known_most t (inl first) = subst (λ (z : Stamp). z.view.0 ≤ 1) (sym first) (omega arith)
-      known_most t (inr (j, b, l, p, stamped)) = let one = (said.stamps_say.are j b l p t stamped).view in omega (arith, one)
+      -- a part of view 1 comes to no stamp of a later one
+      part_most : (part : Replica) → PartIsOf 1 part → (top_of part).view.0 ≤ 1
+      part_most part of = by (newest_of part.log) refl
+        where
+          order_most : part.order.view.0 ≤ 1
+          order_most = ⊎_elim
+              (λ (first : part.order ≡ first_stamp). omega (arith, ap (λ (z : Stamp). z.view.0) first)) (λ (one : part.order.view.0 ≡ 1). omega (arith, one)) of.order
+
+          by : (z : Option Version) → newest_of part.log ≡ z → (top_of part).view.0 ≤ 1
+          by None none = subst (λ (t : Stamp). t.view.0 ≤ 1) (sym (top_is_order part none)) order_most
+          by (Some version) is =
+              let stands = newest_stands part.log version is in
+              let one : view_of version.stamp ≡ 1 = of.log stands.0 version stands.1 in
+              subst (λ (t : Stamp). t.view.0 ≤ 1) (sym (top_is part version is))
+              (cond_both (stamp_below part.order version.stamp) version.stamp part.order (λ (z : Stamp). z.view.0 ≤ 1) (λ less. omega (arith, one)) (λ isnt. order_most))
 
       stripe_within : c.call.stripe.0 < c.group.stripes
       stripe_within =
@@ -250,7 +265,7 @@ known_of setting events n bricks sound encodes small calm =
     let always = always_fresh setting events in
     let at : IsOpenAt w n calm.coordinator = opens_at w n calm.coordinator calm.open_is in
     let fresh : IsFresh setting w n calm.coordinator = always.1 n calm.coordinator calm.open_is calm.untouched in
-    known setting sound encodes small w said.0 (books setting events) said.1 n calm.operation calm.coordinator calm.is at fresh always.0
+    known setting sound encodes small w said.0 (books setting events) said.1 n calm.operation calm.coordinator calm.is at (always_in_first setting events) (always_views setting events) fresh always.0
     (always_count setting events)
 
 -- so it ends

@@ -11,7 +11,7 @@ use Rattle.messages.specs.declared.packets.Message.{Message}
 use Rattle.messages.specs.declared.packets.Packet.{Packet}
 use Rattle.protocol.specs.Settings.{Setting}
 use Rattle.protocol.specs.Coordinators.{Coordinator, request_of}
-use Rattle.protocol.specs.Nodes.{Node, NodeStep, put, began_in, new_coordinator, top_at}
+use Rattle.protocol.specs.Nodes.{Node, NodeStep, put, began_in, new_coordinator, top_at, view_at}
 use Rattle.protocol.specs.Worlds.{World, Operation, world_began, is_brick, is_up}
 use Rattle.protocol.specs.Calms.{operation_of}
 use Rattle.protocol_laws.proofs.Books.{Books, IsOperation}
@@ -94,6 +94,7 @@ module _ (setting : Setting) (w : World) (books : Books setting w) (numbered : I
       made = false;
       base = None;
       answered = false;
+      view = view_at (w.nodes brick.0) ask.group.0;
       floor = λ j. top_at (w.nodes j) ask.group.0 ask.stripe.0;
     }
 

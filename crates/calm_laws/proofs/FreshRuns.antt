@@ -1,7 +1,6 @@
 -- Every run has numbers that are operations', and fresh operations where no message reached.
-use Rattle.protocol_laws.proofs.FirstViews.{group_first}
-use Rattle.protocol_laws.proofs.BooksEvents.{BeginFits, books, begin_fits}
-use Rattle.std.proofs.Common.{◌≡◌, not, List, Option, Some, None, refl, sym, ◌∙◌, subst, arith, is_some, true}
+use Rattle.protocol_laws.proofs.BooksEvents.{BeginFits, books, begin_fits, group_there, fits_at}
+use Rattle.std.proofs.Common.{◌≡◌, not, List, Option, Some, None, refl, sym, subst, arith, is_some, true}
 use Rattle.std.proofs.lemmas.Bool.{and_parts}
 use Rattle.fab_base.specs.Layouts.{Group}
 use Rattle.protocol.specs.Settings.{Setting}
@@ -30,9 +29,9 @@ invoked_kept setting w books holds brick ask may =
     let fits : BeginFits setting ask = begin_fits setting w brick ask may in
     let up = (and_parts (is_up setting.layout w brick) (not (is_some (refusal_of setting.layout (w.nodes brick.0) ask))) may).0 in
     subst (λ (found : Option Group). IsFresh setting (world_began w brick ask (began setting brick (w.clocks brick.0) (w.nodes brick.0) ask found)))
-    (sym (group_first setting.layout (w.nodes brick.0) ask.group.0 (books.first brick.0) ∙ fits.group_is)) (
-      began_numbered setting w books holds.0 holds.1 brick ask fits.group up,
-      began_fresh setting w books holds.0 holds.1 brick ask fits.group up,
+    (sym (fits_at setting (w.nodes brick.0) ask fits)) (
+      began_numbered setting w books holds.0 holds.1 brick ask (group_there (w.nodes brick.0) ask fits.group) up,
+      began_fresh setting w books holds.0 holds.1 brick ask (group_there (w.nodes brick.0) ask fits.group) up,
     )
 
 -- every event keeps both

@@ -1,4 +1,5 @@
 -- What holds of what a brick keeps, and is ended by no request, holds in every run.
+use Rattle.protocol_laws.proofs.FirstWorlds.{AreInFirst, always_in_first}
 use Rattle.std.proofs.Common.{◌≡◌, ℕ, false, List, Option, Some, None, refl, sym, subst, ⊎_elim}
 use Rattle.fab_base.specs.declared.identities.BrickId.{BrickId}
 use Rattle.fab_base.specs.Layouts.{Group}
@@ -12,8 +13,7 @@ use Rattle.protocol.specs.Nodes.{Node, put, requested, replied, replied_at, rece
 use Rattle.protocol.specs.Settings.{Setting}
 use Rattle.protocol.specs.Worlds.{World, Event, Found, Before, After, first_world, world_found, run}
 use Rattle.protocol_laws.specs.Laws.{WasSent}
-use Rattle.protocol_laws.proofs.Books.{Books}
-use Rattle.protocol_laws.proofs.BooksEvents.{books, start_fits}
+use Rattle.protocol_laws.proofs.BooksEvents.{start_fits}
 use Rattle.protocol_laws.proofs.FirstViews.{IsInFirst}
 use Rattle.protocol_laws.proofs.Left.{IsLeft, Leaves, always_leaves}
 use Rattle.protocol.proofs.Tables.{put_each}
@@ -92,7 +92,7 @@ module _ (setting : Setting) (P : Node → Type 0) (same : IsOfParts P) (request
       in_group (Some group) = same node (began setting me now node ask (Some group)).node refl refl holds
 
   -- every event keeps it
-  have_cases : (w : World) → Leaves setting w × Books setting w → AllHave w → EventCases setting w AllHave
+  have_cases : (w : World) → Leaves setting w × AreInFirst setting w → AllHave w → EventCases setting w AllHave
   unfolding stopped restarted
   have_cases w known all = record {
     begins = λ brick ask may.
@@ -100,7 +100,7 @@ module _ (setting : Setting) (P : Node → Type 0) (same : IsOfParts P) (request
         (invoked_keeps brick (w.clocks brick.0) (w.nodes brick.0) ask (all brick.0));
     handles = λ number packet at up.
         have_by w packet.to.0 (step_on setting w packet).node all
-        (message_keeps (w.clocks packet.to.0) packet.from packet.to (w.nodes packet.to.0) packet.message (known.1.first packet.to.0) (all packet.to.0));
+        (message_keeps (w.clocks packet.to.0) packet.from packet.to (w.nodes packet.to.0) packet.message (known.1 packet.to.0).brick (all packet.to.0));
     sets = λ brick time is. all;
     ticks = λ brick up. all;
     stops = λ brick during up.
@@ -116,10 +116,10 @@ module _ (setting : Setting) (P : Node → Type 0) (same : IsOfParts P) (request
       of brick Before down = all
       of brick After down =
           have_by w brick.0 (w.after brick.0) all
-          (left_keeps w brick.0 (w.after brick.0) (known.1.first brick.0) (known.0 brick.0 down) all)
+          (left_keeps w brick.0 (w.after brick.0) (known.1 brick.0).brick (known.0 brick.0 down) all)
 
   -- what holds of a fresh brick holds always
   pub always_kept : P (first_node setting.layout) → (events : List Event) (i : ℕ) → P ((run setting events (first_world setting.layout)).nodes i)
   always_kept fresh =
-      always_where AllHave (λ w. Leaves setting w × Books setting w) setting (λ events. (always_leaves setting events, books setting events))
+      always_where AllHave (λ w. Leaves setting w × AreInFirst setting w) setting (λ events. (always_leaves setting events, always_in_first setting events))
       (λ i. fresh) have_cases

@@ -24,12 +24,12 @@ use Rattle.reg_model.specs.Registers.{block_of, read_of}
 use Rattle.reg_model.specs.Strict.{OpFits}
 use Rattle.protocol.specs.Settings.{are_bytes}
 use Rattle.protocol.specs.Nodes.{has_block, has_length}
-use Rattle.protocol.specs.Views.{layout_views}
+use Rattle.protocol.specs.Views.{layout_views, views_in}
 use Rattle.protocol.specs.Worlds.{World, Operation, Event, zero_content, first_world, run}
 use Rattle.protocol_laws.specs.Laws.{Laws, Evidence}
 use Rattle.protocol_laws.specs.Marked as law
 use Rattle.protocol_laws.proofs.BooksEvents as books
-use Rattle.protocol_laws.proofs.EveryRun.{every_layout_run}
+use Rattle.protocol_laws.proofs.EveryRun.{every_views_run}
 use Rattle.reg_model.proofs.GrowingLives.{life_of-append, life_onward}
 use Rattle.protocol_laws.proofs.Said.{Stamping, Said, IsMadeOrFirst}
 use Rattle.protocol_laws.proofs.SaidAlways.{always_said}
@@ -151,8 +151,8 @@ module _ (layout : Layout) (is : IsLayout layout) where
     w = run (coding layout) events (first_world layout)
 
     -- the laws of the disk
-    pub laws : Laws (coding layout) (layout_views layout) w
-    laws = every_layout_run (coding layout) events (coding_is_sound layout is)
+    pub laws : Laws (coding layout) (views_in layout w.packets) w
+    laws = every_views_run (coding layout) events (coding_is_sound layout is)
 
     -- each operation that begins fits, and each brick that stops is the layout's
     stands : AllStand (coding layout) w.marks

@@ -12,7 +12,7 @@ use Rattle.stripe_code.specs.Codes.{coding}
 use Rattle.reg_model.specs.declared.marks.Mark.{Mark}
 use Rattle.reg_model.specs.Marks.{Life, life_of, begun_numbers, position_of, stripe_marks}
 use Rattle.reg_model.specs.Strict.{IsStrict}
-use Rattle.protocol.specs.Views.{layout_views}
+use Rattle.protocol.specs.Views.{views_in}
 use Rattle.protocol.specs.Worlds.{World, Event, first_world}
 use Rattle.protocol.specs.Happenings.{happenings_of}
 use Rattle.protocol_laws.specs.Laws.{Laws}
@@ -92,7 +92,7 @@ module _ (layout : Layout) (is : IsLayout layout) (schedule : List (List ℕ)) (
   printed = schedule_printed layout schedule steps are
 
   -- the laws of the disk
-  laws : Laws (coding layout) (layout_views layout) w
+  laws : Laws (coding layout) (views_in layout w.packets) w
   laws = marking.laws layout is events timely
 
   -- the marks among the printed lines are the world's

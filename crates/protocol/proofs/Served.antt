@@ -1,5 +1,5 @@
 -- What a brick does with a request: it ignores it, or changes its part of the call's stripe in the view that it has learnt.
-use Rattle.std.proofs.Common.{◌≡◌, ℕ, ◌⊎◌, not, ◌&&◌, nat_lt, Option, Some, None, refl, false}
+use Rattle.std.proofs.Common.{◌≡◌, ℕ, not, ◌&&◌, nat_lt, Option, Some, None, refl, false}
 use Rattle.std.specs.Prelude.{nat_eq}
 use Rattle.std.proofs.lemmas.Bool.{cond_both, eqb-true, and_parts, not-true}
 use Rattle.fab_base.specs.declared.identities.BrickId.{BrickId}

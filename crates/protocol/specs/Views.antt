@@ -1,6 +1,8 @@
 -- Views: the lists of members that keep a group, one after another, by number from 1 (Saito 2004, section 5).
-use Rattle.std.specs.Prelude.{ℕ, true, Bool, nat_lt, if◌then◌else◌, List, [], Option, Some, None, max}
-use Rattle.std.specs.Option.{option_map}
+use Rattle.messages.specs.declared.packets.Packet.{Packet}
+use Rattle.messages.specs.declared.packets.Message.{Message}
+use Rattle.std.specs.Prelude.{ℕ, true, Bool, nat_lt, if◌then◌else◌, List, [], Option, Some, None, max, ◌∷◌, nat_eq, ◌&&◌}
+use Rattle.std.specs.Option.{option_map, unwrap_or}
 use Rattle.fab_base.specs.declared.identities.BrickId.{BrickId}
 use Rattle.fab_base.specs.declared.member_lists.View.{View}
 use Rattle.fab_base.specs.declared.stamps.Stamp.{Stamp}
@@ -48,3 +50,22 @@ group_kept layout members g = option_map (kept_by members) (group_of layout g)
 -- the group of a number in a view
 abbrev pub group_in : Layout → Views → ℕ → ℕ → Option Group
 group_in layout views g e = group_kept layout (views g e) g
+
+-- what a message names as view e of group g, if it teaches that
+abbrev pub learn_in : ℕ → ℕ → Message → Option View
+learn_in g e (Message.Learn group view) = if nat_eq group.0 g && nat_eq view.number.0 e then Some view else None
+learn_in g e message = None
+
+-- what the first of these messages names that teaches it
+abbrev pub first_learn : ℕ → ℕ → List Packet → Option View
+first_learn g e [] = None
+first_learn g e (packet ∷ packets) = either_view (learn_in g e packet.message) (first_learn g e packets)
+  where
+    either_view : Option View → Option View → Option View
+    either_view None later = later
+    either_view (Some view) later = Some view
+
+-- the members that a group has in a view: in a later view than 1 those that the first of these messages names that teaches it, else the layout's
+abbrev pub views_in : Layout → List Packet → Views
+views_in layout packets g e =
+    if nat_lt 1 e then unwrap_or (option_map (λ (view : View). view.members) (first_learn g e packets)) (layout_views layout g e) else layout_views layout g e

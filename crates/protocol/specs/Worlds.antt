@@ -20,7 +20,7 @@ use Rattle.protocol.specs.Settings.{Setting}
 use Rattle.protocol.specs.Views.{view_of}
 use Rattle.protocol.specs.Replicas.{fresh_replica, is_held}
 use Rattle.protocol.specs.Coordinators.{Counted, Coordinator, counts_at}
-use Rattle.protocol.specs.Nodes.{Node, NodeStep, Told, Made, Seen, Answered, top_at, put, first_node, refusal_of, invoked, received, absorbed, ticked, stopped, restarted, may_open}
+use Rattle.protocol.specs.Nodes.{Node, NodeStep, Told, Made, Seen, Answered, view_at, top_at, put, first_node, refusal_of, invoked, received, absorbed, ticked, stopped, restarted, may_open}
 
 -- Which of two a store is found to hold, when its brick starts: what it held before the handling that the brick's stop cut short, or what that
 -- handling would have kept.
@@ -42,8 +42,8 @@ pub data Event : Type 0 where
 
 -- What is known of an operation, by number: its coordinator, how often the store of that had been opened, its
 -- call number, where it begins, what it asks, the version that it made or read, whether it made it, and on
--- which base, whether it was answered; and, for the proof alone, how far each brick's part of the stripe had
--- come when it began.
+-- which base, whether it was answered; and, for the proof alone, the view of its group that it runs in, and how far
+-- each brick's part of the stripe had come when it began.
 pub record Operation : Type 0 where
   pub brick : BrickId
   pub boot : ℕ
@@ -54,6 +54,7 @@ pub record Operation : Type 0 where
   pub made : Bool
   pub base : Option Stamp
   pub answered : Bool
+  pub view : ℕ
   pub floor : ℕ → Stamp
 
 -- The whole disk: its bricks, which of them are up, and what their clocks read; every message that was ever
@@ -139,6 +140,7 @@ world_began w brick ask step =
         made = false;
         base = None;
         answered = false;
+        view = view_at (w.nodes brick.0) ask.group.0;
         floor = λ i. top_at (w.nodes i) ask.group.0 ask.stripe.0;
       }));
       numbers = with_number w.numbers brick.0 step.node (w.begun + 1);

@@ -1,5 +1,5 @@
 -- A brick begins an operation, with a stamp that no part of any stripe has.
-use Rattle.std.proofs.Common.{◌≡◌, ℕ, ◌+◌, ◌≤◌, ◌⊎◌, inl, inr, false, [], ◌∷◌, length, Option, Some, None, refl, sym, ap, ◌∙◌, subst, ⊎_elim, arith}
+use Rattle.std.proofs.Common.{◌≡◌, ℕ, ◌+◌, ◌≤◌, ◌⊎◌, inl, inr, false, [], ◌∷◌, length, Option, Some, None, refl, sym, ap, ◌∙◌, subst, ⊎_elim, arith, ◌<◌}
 use Rattle.std.specs.Prelude.{slice_get}
 use Rattle.std.proofs.lemmas.Bool.{false≢true}
 use Rattle.std.proofs.lemmas.List.{length-append}
@@ -22,15 +22,14 @@ use Rattle.protocol.specs.declared.phases.Phase.TheVariants.{Looks, LooksAt, Ord
 use Rattle.protocol.specs.Coordinators.{Coordinator, request_of}
 use Rattle.protocol.specs.Nodes.{Node, put, first_phase, new_coordinator, opened, began_in, phase_packets, top_at, view_at, view_floor}
 use Rattle.protocol.specs.Worlds.{World, Operation, world_began}
-use Rattle.protocol_laws.proofs.FirstViews.{view_first}
 use Rattle.protocol_laws.proofs.Books.{Books, IsOperation}
-use Rattle.protocol_laws.proofs.Said.{Begun, Stamping, Said, IsSaid, IsBegun, IsStamped, IsKnown, IsStampOf, IsCalled, FitsPhase, FloorsAtLeast, RequestSays, PacketSays, OperationSays, CallSays, IsInOrder, DescendsFrom, base_in}
+use Rattle.protocol_laws.proofs.Said.{Begun, Stamping, Said, IsSaid, IsBegun, IsStamped, IsKnown, IsStampOf, IsCalled, FitsPhase, RequestSays, PacketSays, OperationSays, CallSays, IsInOrder, DescendsFrom, base_in, FloorsAbove}
 use Rattle.protocol.proofs.Tables.{put_each, put_same, get_grown, get_one, sent_to_member}
 use Rattle.reg_model.proofs.GrowingLives.{last_grows}
 use Rattle.protocol_laws.proofs.Growth.{Grows, continues_same}
 use Rattle.protocol_laws.proofs.Steps.{KeepsStamps, parts_kept, sent_by, ages_by, calls_by, phase_asked, said_after, new_none, part_same}
 use Rattle.protocol_laws.proofs.Stampings.{ComesFrom, ages_within, stays_known, later_unknown, with_stamp, stamp_now, stamps_other, stamp_last, stamps_grow, stamps_say}
-use Rattle.protocol_laws.specs.Laws.{IsGuarded, part_in}
+use Rattle.protocol_laws.specs.Laws.{IsGuarded, part_in, Follows}
 use Rattle.protocol_laws.proofs.Tops.{top_cases, floor_time}
 
 -- an operation fits its first phase
@@ -55,7 +54,7 @@ is_first ReadStripe = tt
 is_first (WriteStripe bytes) = tt
 
 module _ (setting : Setting) (views : Views) (w : World) (stamps : Stamping) (me : BrickId) (ask : Ask) (group : Group) (books : Books setting w)
-    (said : Said setting views w stamps)
+    (some : 1 ≤ view_at (w.nodes me.0) ask.group.0) (follows : Follows setting.layout views w) (said : Said setting views w stamps)
     (group_is : group_in setting.layout views ask.group.0 (view_at (w.nodes me.0) ask.group.0) ≡ Some group) where
   -- the brick before
   abbrev old : Node
@@ -93,12 +92,13 @@ module _ (setting : Setting) (views : Views) (w : World) (stamps : Stamping) (me
         made = false;
         base = None;
         answered = false;
+        view = view_at (w.nodes me.0) ask.group.0;
         floor = λ i. top_at (w.nodes i) ask.group.0 ask.stripe.0;
       }
 
   -- the new stamp is the brick's, and nobody knows it
   own : IsStampOf node me.0 c.call.boot c.stamp
-  own = record { view = view_first setting.layout (w.nodes me.0) ask.group.0 (books.first me.0); boot = refl; booted = omega arith; brick = refl; positive = omega arith; bounded = λ now. omega arith }
+  own = record { view = some; boot = refl; booted = omega arith; brick = refl; positive = omega arith; bounded = λ now. omega arith }
 
   unknown : IsKnown stamps c.stamp → ⊥
   unknown = later_unknown w stamps said.stamps_say node me.0 c.stamp own (omega arith)
@@ -182,6 +182,7 @@ module _ (setting : Setting) (views : Views) (w : World) (stamps : Stamping) (me
   operation_says : OperationSays setting views next later (w.begun + 1) new
   operation_says = record {
     begin = grows.marks;
+    view = (some, grows.parts.views me.0 ask.group.0);
     floors = λ i. grows.parts.tops ask.group.0 ask.stripe.0 i;
     floors_known = λ i. ⊎_elim
         (λ (known : IsKnown stamps (new.floor i)). inl (stays_known stamps later grows.grow (new.floor i) known))
@@ -288,35 +289,37 @@ module _ (setting : Setting) (views : Views) (w : World) (stamps : Stamping) (me
       })))
       (λ j other at. inl (at, stamps_other stamps me.0 c.call.boot c.call.seq c.call.phase first me.0 c.call.boot j (λ brick same. other same))) k
 
-  -- a version that was there is guarded when the operation begins
-  floors_at_least : (a : ℕ) (earlier : Operation) (u : Stamp) → IsOperation w a earlier → earlier.ask.group.0 ≡ ask.group.0
-      → earlier.ask.stripe.0 ≡ ask.stripe.0 → earlier.version ≡ Some u
-      → (z : Group) → group_in setting.layout views ask.group.0 (view_of u) ≡ Some z → FloorsAtLeast new z u
-  floors_at_least a earlier u is groups stripes version z z_is =
-      let guarded = ((said.operations a earlier is).version u version).guarded z
-      (ap (λ (g : ℕ). group_in setting.layout views g (view_of u)) groups ∙ z_is) in
-      subst (λ (s : ℕ). IsGuarded w ask.group.0 s z u) stripes
-      (subst (λ (g : ℕ). IsGuarded w g earlier.ask.stripe.0 z u) groups guarded)
+  -- once a version was there, the bricks have come as far when the operation begins
+  floors_above : (a : ℕ) (earlier : Operation) (u : Stamp) → IsOperation w a earlier → earlier.ask.group.0 ≡ ask.group.0
+      → earlier.ask.stripe.0 ≡ ask.stripe.0 → earlier.version ≡ Some u → FloorsAbove setting views new u
+  floors_above a earlier u is groups stripes version =
+      let says = said.operations a earlier is in
+      let has = says.version u version in
+      record {
+        own = λ z z_is.
+            let guarded = has.guarded z (ap (λ (g : ℕ). group_in setting.layout views g (view_of u)) groups ∙ z_is) in
+            subst (λ (s : ℕ). IsGuarded w ask.group.0 s z u) stripes
+            (subst (λ (g : ℕ). IsGuarded w g earlier.ask.stripe.0 z u) groups guarded);
+        before = λ e z least less z_is.
+            follows.passed earlier.brick.0 ask.group.0 e ask.stripe.0 z least
+            (subst (λ (g : ℕ). e < view_at (w.nodes earlier.brick.0) g) groups (let of = has.of in let most = says.view.1 in omega (arith, of, most, less))) z_is;
+      }
 
   in_order : IsInOrder setting views next
   in_order a b earlier late u earlier_is late_is groups stripes version =
       put_each (λ i x. x ≡ Some earlier
-      → ((other : Group) → group_in setting.layout views late.ask.group.0 (view_of u) ≡ Some other → FloorsAtLeast late other u)
-      ⊎ (late.begin ≤ last_of (life_of next.marks i))) w.operations (w.begun + 1) (Some new)
+      → FloorsAbove setting views late u ⊎ (late.begin ≤ last_of (life_of next.marks i))) w.operations (w.begun + 1) (Some new)
       (λ is. let same : new ≡ earlier = cc in let none : None ≡ Some u = ap (λ (z : Operation). z.version) same ∙ version in cc)
       (λ i other is.
       put_each (λ j x. x ≡ Some late
-      → ((other : Group) → group_in setting.layout views late.ask.group.0 (view_of u) ≡ Some other → FloorsAtLeast late other u)
-      ⊎ (late.begin ≤ last_of (life_of next.marks i))) w.operations (w.begun + 1) (Some new)
+      → FloorsAbove setting views late u ⊎ (late.begin ≤ last_of (life_of next.marks i))) w.operations (w.begun + 1) (Some new)
       (λ its.
       let same : new ≡ late = cc in
-      inl (λ z z_is.
-      subst (λ (y : Operation). FloorsAtLeast y z u) same
-      (floors_at_least i earlier u is (groups ∙ ap (λ (y : Operation). y.ask.group.0) (sym same))
-      (stripes ∙ ap (λ (y : Operation). y.ask.stripe.0) (sym same)) version z
-      (ap (λ (y : Operation). group_in setting.layout views y.ask.group.0 (view_of u)) same ∙ z_is))))
+      inl (subst (λ (y : Operation). FloorsAbove setting views y u) same
+      (floors_above i earlier u is (groups ∙ ap (λ (y : Operation). y.ask.group.0) (sym same))
+      (stripes ∙ ap (λ (y : Operation). y.ask.stripe.0) (sym same)) version)))
       (λ j apart its. ⊎_elim
-      (λ (floors : (z : Group) → group_in setting.layout views late.ask.group.0 (view_of u) ≡ Some z → FloorsAtLeast late z u). inl floors)
+      (λ (floors : FloorsAbove setting views late u). inl floors)
       (λ (before : late.begin ≤ last_of (life_of w.marks i)). inr (omega (arith, before, lasts i)))
       (said.order i j earlier late u is its groups stripes version))
       b late_is)

@@ -1,4 +1,5 @@
 -- What no quorum holds, or ever will: it stays so.
+use Rattle.protocol.specs.Nodes.{view_at}
 use Rattle.protocol.specs.Settings.{Setting}
 use Rattle.std.proofs.Common.{◌≡◌, ℕ, zero, suc, ◌+◌, ◌-◌, ◌/◌, ◌<◌, ◌≤◌, ◌⊎◌, inl, inr, Bool, true, false, not, ◌&&◌, length, refl, sym, ap, ◌∙◌, ⊎_elim, arith, subst, nat_eq}
 use Rattle.std.proofs.lemmas.Bool.{cases_Bool, and_from, and_parts, not-true, not_from_false, false≢true, cond_both}
@@ -38,8 +39,13 @@ held_in w fit g e s i t view held = fit.held i g s t (ap (λ (x : ℕ). is_held 
 pub was_kept : (w : World) → LogsFit w → (g e s i : ℕ) (t : Stamp) → view_of t ≡ e → w.held i g s t ≡ true → IsKept t (part_in w g e s i).log
 was_kept w fit g e s i t view held = subst (λ (x : ℕ). IsKept t (part_in w g x s i).log) view (fit.kept i g s t held)
 
--- from one world to the next no part falls, what a log kept it goes on keeping, what is new is at or above the part's stamps, and logs go on ascending
+-- no brick learns a view before the one that it has learnt
+abbrev pub ViewsRise : World → World → Type 0
+ViewsRise w next = (i g : ℕ) → view_at (w.nodes i) g ≤ view_at (next.nodes i) g
+
+-- from one world to the next no view and no part falls, what a log kept it goes on keeping, what is new is at or above the part's stamps, and logs go on ascending
 pub record LogsStay (w next : World) : Type 0 where
+  pub views : ViewsRise w next
   pub tops : NeverFalls w next
   pub orders : OrdersRise w next
   pub kept : (g e s i : ℕ) (t : Stamp) → IsKept t (part_in w g e s i).log → IsKept t (part_in next g e s i).log
@@ -53,6 +59,7 @@ NewIsLogged w next =
 
 -- no part falls, what bricks have held they have held, what they come to hold is at or above their parts' stamps, and logs go on fitting that
 pub record PartsStay (w next : World) : Type 0 where
+  pub views : ViewsRise w next
   pub tops : NeverFalls w next
   pub orders : OrdersRise w next
   pub held : (g s i : ℕ) (t : Stamp) → w.held i g s t ≡ true → next.held i g s t ≡ true
@@ -66,6 +73,7 @@ pub parts_from : (w next : World) → LogsStay w next → LogsFit w → ((i g s 
     → NewIsLogged w next → ((i g s : ℕ) (t : Stamp) → is_held t (part_in next g (view_of t) s i).log ≡ true → next.held i g s t ≡ true)
     → PartsStay w next
 parts_from w next stay fit more new noted = record {
+  views = stay.views;
   tops = stay.tops;
   orders = stay.orders;
   held = λ g s i t held. more i g s t held;
@@ -90,6 +98,7 @@ parts_from w next stay fit more new noted = record {
 -- and so through two steps
 pub parts_then : (w mid next : World) → PartsStay w mid → PartsStay mid next → PartsStay w next
 parts_then w mid next first second = record {
+  views = λ i g. (let one = first.views i g in let two = second.views i g in omega (arith, one, two));
   tops = λ g s i. stamp_not_below_trans (top_in w g s i) (top_in mid g s i) (top_in next g s i)
       (first.tops g s i) (second.tops g s i);
   orders = λ g e s i. (let one = first.orders g e s i in let two = second.orders g e s i in omega (arith, one, two));

@@ -13,7 +13,6 @@ use Rattle.protocol.specs.declared.phases.Phase.TheVariants.{Looks, LooksAt, Ord
 use Rattle.protocol.specs.Coordinators.{Coordinator, most_rounds}
 use Rattle.protocol.specs.Nodes.{has_block, has_length}
 use Rattle.protocol.specs.Worlds.{World, Operation, number_of}
-use Rattle.protocol_laws.proofs.FirstViews.{IsInFirst}
 
 -- the replies that have counted, by operation and phase
 abbrev pub Replies : Type 0
@@ -102,7 +101,7 @@ pub record CallBooks (setting : Setting) (w : World) (i k : ℕ) (c : Coordinato
   pub call_boot : c.call.boot ≡ (w.nodes i).boot
   pub call_seq : c.call.seq ≡ k
   pub call_group : c.call.group ≡ c.ask.group
-  pub call_view : 1 ≤ c.call.view.0
+  pub call_view : operation.view ≡ c.call.view.0
   pub call_stripe : c.call.stripe ≡ c.ask.stripe
   pub rounds : (1 ≤ c.round) × (c.round ≤ most_rounds)
   pub in_round : InRound c c.phase
@@ -115,7 +114,6 @@ pub record Books (setting : Setting) (w : World) : Type 0 where
   pub well_formed : IsWellFormed w.marks
   pub places : (k : ℕ) (mark : Mark) → slice_get w.marks k ≡ Some mark → position_of mark ≡ k
   pub boots : (i : ℕ) → 1 ≤ (w.nodes i).boot
-  pub first : (i : ℕ) → IsInFirst setting.layout (w.nodes i)
   pub all_begun : (n : ℕ) → 1 ≤ n → n ≤ w.begun → (o : Operation) × IsOperation w n o
   pub operations : (n : ℕ) (o : Operation) → IsOperation w n o → OperationBooks setting w n o
   pub calls : (i k : ℕ) (c : Coordinator) → IsCall w i k c → CallBooks setting w i k c

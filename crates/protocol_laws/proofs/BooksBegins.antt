@@ -1,4 +1,5 @@
 -- The books of a world where an operation began.
+use Rattle.protocol.specs.Views.{kept_by}
 use Rattle.std.proofs.Common.{◌≡◌, ◌≢◌, ℕ, ◌+◌, ◌<◌, ◌≤◌, ⊎_elim, true, false, Option, Some, None, refl, sym, ap, ◌∙◌, subst, arith, length}
 use Rattle.std.proofs.lemmas.Option.{same_Some}
 use Rattle.std.proofs.lemmas.Bool.{cases_eq}
@@ -11,9 +12,8 @@ use Rattle.reg_model.specs.Marks.{Life, Unended, life_of, IsOpen}
 use Rattle.fab_base.specs.Layouts.{Group, group_of}
 use Rattle.protocol.specs.Settings.{Setting}
 use Rattle.protocol.specs.Coordinators.{Coordinator}
-use Rattle.protocol.specs.Nodes.{Node, put, has_length, first_phase, new_coordinator, opened, began_in, top_at, has_block}
+use Rattle.protocol.specs.Nodes.{Node, put, has_length, first_phase, new_coordinator, opened, began_in, top_at, has_block, view_at}
 use Rattle.protocol.specs.Worlds.{World, Operation, number_of, world_began}
-use Rattle.protocol_laws.proofs.FirstViews.{IsInFirst, view_first}
 use Rattle.protocol_laws.proofs.Books.{Books, OperationBooks, CallBooks, IsOperation, IsCall, IsUnmade, MadeInPhase, InRound}
 use Rattle.protocol_laws.proofs.BooksKept.{operation_kept, call_kept, cases_call}
 use Rattle.reg_model.proofs.GrowingLives.{Stays, Stays-push, Stays-before, life_of-begin}
@@ -53,7 +53,7 @@ module _ (setting : Setting) (w : World) (brick : BrickId) (now : ℕ) (ask : As
   k = node.seq + 1
 
   abbrev c : Coordinator
-  c = new_coordinator group brick now node ask
+  c = new_coordinator (kept_by (node.learnt ask.group.0).view.members group) brick now node ask
 
   abbrev n : ℕ
   n = w.begun + 1
@@ -69,6 +69,7 @@ module _ (setting : Setting) (w : World) (brick : BrickId) (now : ℕ) (ask : As
     made = false;
     base = None;
     answered = false;
+    view = view_at (w.nodes i) ask.group.0;
     floor = λ j. top_at (w.nodes j) ask.group.0 ask.stripe.0;
   }
 
@@ -176,7 +177,7 @@ module _ (setting : Setting) (w : World) (brick : BrickId) (now : ℕ) (ask : As
     call_boot = sym (same_boots i);
     call_seq = refl;
     call_group = refl;
-    call_view = (let one = view_first setting.layout node ask.group.0 (books.first i) in omega (arith, one));
+    call_view = refl;
     call_stripe = refl;
     rounds = (omega arith, omega arith);
     in_round = fresh_round c ask.op refl refl;
@@ -196,8 +197,6 @@ module _ (setting : Setting) (w : World) (brick : BrickId) (now : ℕ) (ask : As
         well_formed = well_formed_begin w.marks (length w.marks) n brick ask books.well_formed places
             (numbers_below w.marks w.begun (λ m life is. (books.lives m life is).1));
         places = places;
-        first = λ j. put_each (λ (x : ℕ) (y : Node). IsInFirst setting.layout y) w.nodes i (opened node c)
-            (record { learnt = (books.first i).learnt; accepted = (books.first i).accepted; others = (books.first i).others }) (λ x other. books.first x) j;
         boots = λ j. (let e : (later.nodes j).boot ≡ (w.nodes j).boot = same_boots j in omega (arith, books.boots j));
         all_begun = λ m low high. ⊎_elim
             (λ (mine : m ≡ n). (o, subst (λ (x : ℕ). IsOperation later x o) (sym mine) operation_is))

@@ -18,7 +18,7 @@ use Rattle.protocol.specs.Coordinators.{Coordinator}
 use Rattle.protocol.specs.Nodes.{Node, has_length, no_calls, stopped, has_block}
 use Rattle.protocol.specs.Worlds.{World, Operation, is_answer, number_of, world_stopped}
 use Rattle.protocol_laws.proofs.Books.{Books, OperationBooks, CallBooks, IsOperation, IsCall}
-use Rattle.protocol_laws.proofs.BooksKept.{KeepsNumbers, first_kept, operation_stays, operation_kept, call_kept, number_at, calls_apart, cases_call, keeps_all}
+use Rattle.protocol_laws.proofs.BooksKept.{KeepsNumbers, operation_stays, operation_kept, call_kept, number_at, calls_apart, cases_call, keeps_all}
 use Rattle.reg_model.proofs.GrowingLives.{Stays, Stays-push, Stays-before, Stays-crash, lived_before_crash, cases_open, unended_not_answered, with_ending, life_of-end, life_of-crash}
 use Rattle.reg_model.proofs.AddedMarks.{Places-push, well_formed_end, well_formed_crash}
 use Rattle.protocol.proofs.Puts.{put_other}
@@ -149,7 +149,6 @@ module _ (setting : Setting) (w : World) (i k : ℕ) (c : Coordinator) (before o
       record {
         well_formed = well_formed_end w.marks (length w.marks) (number_of w i k) answer books.well_formed places was_open;
         places = places;
-        first = λ j. first_kept setting.layout (w.nodes j) (nodes j) (ended.keeps j) (books.first j);
         boots = λ j. (let e : (nodes j).boot ≡ (w.nodes j).boot = (ended.keeps j).boot in omega (arith, books.boots j));
         all_begun = λ n low high. ⊎_elim
             (λ (mine : n ≡ number_of w i k). (o, subst (λ (m : ℕ). IsOperation later m o) (sym mine) ended.operation_is))
@@ -318,7 +317,6 @@ module _ (setting : Setting) (w : World) (brick : BrickId) (during : Option ℕ)
       record {
         well_formed = well_formed_crash w.marks (length w.marks) brick books.well_formed places;
         places = places;
-        first = λ j. first_kept setting.layout (w.nodes j) (shut.nodes j) (stopped_keeps j) (books.first j);
         boots = λ j. (let e : (shut.nodes j).boot ≡ (w.nodes j).boot = (stopped_keeps j).boot in omega (arith, books.boots j));
         all_begun = books.all_begun;
         operations = λ n o is. ⊎_elim

@@ -1,4 +1,6 @@
 -- Every event keeps the books.
+use Rattle.std.specs.Option.{option_map}
+use Rattle.protocol.specs.Views.{kept_by}
 use Rattle.std.proofs.Common.{◌≡◌, ◌≢◌, ℕ, ◌+◌, ◌-◌, ◌<◌, ◌≤◌, ◌⊎◌, inl, inr, ◌^◌, Bool, true, false, not, ◌&&◌, cond, is_some, Option, Some, None, refl, sym, ap, ◌∙◌, subst, arith, List, [], ◌++◌, ⊎_elim}
 use Rattle.std.specs.Prelude.{nat_lt, max}
 use Rattle.std.proofs.lemmas.Option.{same_Some}
@@ -21,11 +23,10 @@ use Rattle.protocol.specs.declared.phases.Phase.{Phase}
 use Rattle.protocol.specs.declared.phases.Phase.TheVariants.{Looks, LooksAt, Orders, OrdersAt, Recovers, Descends, Modifies, Bases, Stores}
 use Rattle.protocol.specs.declared.phases.Counted.{Counted}
 use Rattle.protocol.specs.Coordinators.{Coordinator, Next, Ignores, Waits, Sends, Makes, Ends, most_rounds, with_reply, once_full, counted_at, counts_at, on_reply}
-use Rattle.protocol.specs.Nodes.{Node, NodeStep, put, no_step, has_block, has_length, refusal_in, refusal_of, began, invoked, with_replica, replica_at, full_at, reply_packets, requested, absorbed, ticked, may_open, has_later_time, next_time, new_stamp, fresh_stamp, known_after, with_call, with_known, carried_out, phase_packets, collect_packets, sending, replied_at, replied, received}
+use Rattle.protocol.specs.Nodes.{Node, NodeStep, put, no_step, has_block, has_length, refusal_in, refusal_of, began, invoked, with_replica, replica_at, full_at, reply_packets, requested, absorbed, ticked, may_open, has_later_time, next_time, new_stamp, fresh_stamp, known_after, with_call, with_known, carried_out, phase_packets, collect_packets, sending, replied_at, replied, received, group_at}
 use Rattle.protocol.specs.Worlds.{World, world_found, Operation, Found, Before, After, Found, Before, After, Event, is_answer, first_world, is_brick, is_up, may_begin, number_of, may_start, world_found, world_began, world_stepped, with_made, with_seen, with_answer, with_content, replies_with, run, with_held}
 use Rattle.protocol_laws.specs.Laws.{WasSent}
 use Rattle.protocol.proofs.Served.{request_each}
-use Rattle.protocol_laws.proofs.FirstViews.{group_first}
 use Rattle.protocol_laws.proofs.Left.{IsLeft, Leaves, always_leaves, found_down}
 use Rattle.protocol_laws.proofs.Books.{Replies, version_after, Books, CallBooks, IsCall, IsUnmade, MadeInPhase, InRound, IsMade}
 use Rattle.protocol_laws.proofs.BooksKept.{KeepsNumbers, keeps_all, keeps_known, keeps_with_call, keeps_replica}
@@ -346,6 +347,7 @@ module _ (setting : Setting) (w : World) (replies : Replies) (me : BrickId) (now
     made = mine.operation.made;
     base = mine.operation.base;
     answered = is_answer answer;
+    view = mine.operation.view;
     floor = mine.operation.floor;
   }
 
@@ -388,7 +390,7 @@ module _ (setting : Setting) (w : World) (replies : Replies) (me : BrickId) (now
         stamp = stamp_stays known (Some d) d.stamp fits.stamp grows;
         rounds = subst (λ (x : ℕ). (1 ≤ x) × (x ≤ most_rounds)) (sym fits.round) mine.rounds;
         in_round = round_same c d c.phase d.phase (ap (λ (x : Call). x.phase) fits.call) fits.round fits.phase mine.in_round;
-        same_ask = record { brick = refl; boot = refl; seq = refl; begin = refl; ask = refl; answered = refl };
+        same_ask = record { brick = refl; boot = refl; seq = refl; begin = refl; ask = refl; view = refl; answered = refl };
         made = made_same c d mine.operation c.phase d.phase fits.stamp fits.base fits.phase mine.made;
         keeps = keeps_call known node.busy (Some d) grows;
         call_is = call_put known node.busy (Some d);
@@ -407,7 +409,7 @@ module _ (setting : Setting) (w : World) (replies : Replies) (me : BrickId) (now
         stamp = stamp_sends d fits.how;
         rounds = rounds_sends d fits.how;
         in_round = round_next fresh then' d fits (round_same c then' c.phase c.phase refl refl refl mine.in_round);
-        same_ask = record { brick = refl; boot = refl; seq = refl; begin = refl; ask = refl; answered = refl };
+        same_ask = record { brick = refl; boot = refl; seq = refl; begin = refl; ask = refl; view = refl; answered = refl };
         made = made_sends d fits.how;
         keeps = keeps_call time node.busy (Some d) (omega arith);
         call_is = call_put time node.busy (Some d);
@@ -426,6 +428,7 @@ module _ (setting : Setting) (w : World) (replies : Replies) (me : BrickId) (now
         made = true;
         base = d.base;
         answered = mine.operation.answered;
+        view = mine.operation.view;
         floor = mine.operation.floor;
       } in
       books_turned setting w i k c d mine.operation o (put w.nodes i (with_call node known node.busy k (Some d))) (with_held w.held i (with_call node known node.busy k (Some d)))
@@ -438,7 +441,7 @@ module _ (setting : Setting) (w : World) (replies : Replies) (me : BrickId) (now
         stamp = stamp_stays known (Some d) d.stamp fits.stamp grows;
         rounds = subst (λ (x : ℕ). (1 ≤ x) × (x ≤ most_rounds)) (sym fits.round) mine.rounds;
         in_round = round_made d fits.phase;
-        same_ask = record { brick = refl; boot = refl; seq = refl; begin = refl; ask = refl; answered = refl };
+        same_ask = record { brick = refl; boot = refl; seq = refl; begin = refl; ask = refl; view = refl; answered = refl };
         made = made_now d o fits.phase (refl, refl, refl);
         keeps = keeps_call known node.busy (Some d) grows;
         call_is = call_put known node.busy (Some d);
@@ -554,6 +557,14 @@ begin_fits setting w brick ask may =
     let fits = not_refused setting.layout.block (w.nodes brick.0) ask (group_of setting.layout ask.group.0) none in
     record { group = fits.0; group_is = fits.1; stripe = fits.2; block_fits = fits.3; length_fits = fits.4 }
 
+-- as the members of the view keep it that a brick has learnt
+abbrev pub group_there : Node → Ask → Group → Group
+group_there node ask group = kept_by (node.learnt ask.group.0).view.members group
+
+pub fits_at : (setting : Setting) (node : Node) (ask : Ask) (fits : BeginFits setting ask)
+    → group_at setting.layout node ask.group.0 ≡ Some (group_there node ask fits.group)
+fits_at setting node ask fits = ap (option_map (kept_by (node.learnt ask.group.0).view.members)) fits.group_is
+
 -- it begins at a brick that is up
 pub begin_up : (setting : Setting) (w : World) (brick : BrickId) (ask : Ask) → may_begin setting w brick ask ≡ true → w.up brick.0 ≡ true
 begin_up setting w brick ask may =
@@ -568,7 +579,7 @@ unfolding invoked
 books_invoked setting w brick now ask books may =
     let fits : BeginFits setting ask = begin_fits setting w brick ask may in
     subst (λ (found : Option Group). Books setting (world_began w brick ask (began setting brick now (w.nodes brick.0) ask found)))
-    (sym (group_first setting.layout (w.nodes brick.0) ask.group.0 (books.first brick.0) ∙ fits.group_is))
+    (sym (fits_at setting (w.nodes brick.0) ask fits))
     (books_began setting w brick now ask fits.group books fits.block_fits fits.group_is fits.stripe
     (begin_up setting w brick ask may) fits.length_fits)
 
@@ -579,7 +590,7 @@ KeepsCalls node later = KeepsNumbers node later × ((l : ℕ) → later.calls l 
 keeps_itself : (node : Node) → KeepsCalls node node
 keeps_itself node = (keeps_all node, λ l. refl)
 
-requested_keeps : (setting : Setting) (me from : BrickId) (node : Node) (call : Call) (request : Request)
+pub requested_keeps : (setting : Setting) (me from : BrickId) (node : Node) (call : Call) (request : Request)
     → KeepsCalls node (requested setting me from node call request).node
 requested_keeps setting me from node call request =
     request_each (λ (step : NodeStep). KeepsCalls node step.node) setting me from node call request (keeps_itself node)
@@ -654,7 +665,6 @@ books_first setting = record {
   };
   places = λ k mark is. absurd (let never : None ≡ Some mark = is in cc);
   boots = λ i. omega arith;
-  first = λ i. record { learnt = refl; accepted = refl; others = λ g e s other. refl };
   all_begun = λ n low high. absurd (omega arith);
   operations = λ n o is. absurd (let never : None ≡ Some o = is in cc);
   calls = λ i k c is. absurd (let never : None ≡ Some c = is in cc);

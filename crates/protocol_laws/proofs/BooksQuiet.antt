@@ -13,12 +13,11 @@ use Rattle.protocol.specs.declared.phases.Counted.{Counted}
 use Rattle.protocol.specs.Coordinators.{Coordinator}
 use Rattle.protocol.specs.Nodes.{Node, put, no_calls, restarted}
 use Rattle.protocol.specs.Worlds.{World, Operation, number_of, known_in, world_started}
-use Rattle.protocol_laws.proofs.FirstViews.{IsInFirst}
 use Rattle.protocol_laws.proofs.Books.{Books, OperationBooks, CallBooks, IsCall}
-use Rattle.protocol_laws.proofs.BooksKept.{KeepsNumbers, first_kept, operation_stays, operation_kept, call_kept}
+use Rattle.protocol_laws.proofs.BooksKept.{KeepsNumbers, operation_stays, operation_kept, call_kept}
 use Rattle.reg_model.proofs.GrowingLives.{Stays-refl}
 use Rattle.protocol.proofs.Puts.{put_other}
-use Rattle.protocol.proofs.Tables.{put_each, put_same}
+use Rattle.protocol.proofs.Tables.{put_same}
 
 -- the world with other bricks, clocks, packets and counted replies, of which other packets were delivered
 abbrev pub quiet_world : World → (ℕ → Node) → (ℕ → ℕ → ℕ → Stamp → Bool) → (ℕ → ℕ) → List Packet → (ℕ → ℕ → List Counted) → (ℕ → Bool) → World
@@ -50,7 +49,6 @@ books_quiet setting w nodes held clocks packets replies reached books keeps call
     record {
       well_formed = books.well_formed;
       places = books.places;
-      first = λ i. first_kept setting.layout (w.nodes i) (nodes i) (keeps i) (books.first i);
       boots = λ i. (let e : (nodes i).boot ≡ (w.nodes i).boot = (keeps i).boot in omega (arith, books.boots i));
       all_begun = books.all_begun;
       operations = λ n o is. (let mine : OperationBooks setting w n o = books.operations n o is in
@@ -177,8 +175,6 @@ module _ (setting : Setting) (w : World) (brick : BrickId) (openings : ℕ) (boo
   books_started = record {
     well_formed = books.well_formed;
     places = books.places;
-    first = λ j. put_each (λ (x : ℕ) (y : Node). IsInFirst setting.layout y) w.nodes i node
-        (record { learnt = (books.first i).learnt; accepted = (books.first i).accepted; others = (books.first i).others }) (λ x other. books.first x) j;
     boots = λ j. ⊎_elim
         (λ (mine : j ≡ i). let boot : (later.nodes j).boot ≡ (w.nodes i).boot + openings = ap (λ (x : ℕ). (later.nodes x).boot) mine
         ∙ own_boot in omega arith)

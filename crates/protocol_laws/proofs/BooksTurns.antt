@@ -12,7 +12,7 @@ use Rattle.protocol.specs.Coordinators.{Coordinator, most_rounds}
 use Rattle.protocol.specs.Nodes.{Node}
 use Rattle.protocol.specs.Worlds.{World, Operation, number_of}
 use Rattle.protocol_laws.proofs.Books.{Books, OperationBooks, CallBooks, IsOperation, IsCall, MadeInPhase, InRound}
-use Rattle.protocol_laws.proofs.BooksKept.{KeepsNumbers, first_kept, operation_kept, call_kept, number_at, calls_apart, cases_call}
+use Rattle.protocol_laws.proofs.BooksKept.{KeepsNumbers, operation_kept, call_kept, number_at, calls_apart, cases_call}
 use Rattle.protocol_laws.proofs.Outcomes.{SameOperation}
 use Rattle.reg_model.proofs.GrowingLives.{Stays-refl}
 
@@ -23,6 +23,7 @@ pub record SameAsk (o later : Operation) : Type 0 where
   pub seq : later.seq ≡ o.seq
   pub begin : later.begin ≡ o.begin
   pub ask : later.ask ≡ o.ask
+  pub view : later.view ≡ o.view
   pub answered : later.answered ≡ o.answered
 
 -- a stamp of an operation and its boot in view e, whose brick knows this time
@@ -117,7 +118,7 @@ module _ (setting : Setting) (w : World) (i k : ℕ) (c d : Coordinator) (before
         call_boot = turned.same.boot ∙ call.call_boot ∙ sym (turned.keeps i).boot;
         call_seq = turned.same.seq ∙ call.call_seq;
         call_group = turned.same.group ∙ call.call_group ∙ sym (ap (λ a. a.group) turned.same.ask);
-        call_view = subst (λ v. 1 ≤ v.0) (sym turned.same.view) call.call_view;
+        call_view = turned.same_ask.view ∙ ap (λ (x : Operation). x.view) (sym same_before) ∙ call.call_view ∙ ap (λ v. v.0) (sym turned.same.view);
         call_stripe = turned.same.stripe ∙ call.call_stripe ∙ sym (ap (λ a. a.stripe) turned.same.ask);
         rounds = turned.rounds;
         in_round = turned.in_round;
@@ -175,7 +176,6 @@ module _ (setting : Setting) (w : World) (i k : ℕ) (c d : Coordinator) (before
   books_turned = record {
     well_formed = books.well_formed;
     places = books.places;
-    first = λ j. first_kept setting.layout (w.nodes j) (nodes j) (turned.keeps j) (books.first j);
     boots = λ j. (let e : (nodes j).boot ≡ (w.nodes j).boot = (turned.keeps j).boot in omega (arith, books.boots j));
     all_begun = λ n low high. ⊎_elim
         (λ (mine : n ≡ number_of w i k). (o, subst (λ (m : ℕ). IsOperation later m o) (sym mine) turned.operation_is))

@@ -62,6 +62,7 @@ module _ (setting : Setting) (views : Views) (w : World) (stamps : Stamping) (me
         made = o.made;
         base = o.base;
         answered = is_answer answer;
+        view = o.view;
         floor = o.floor;
       }
 
@@ -131,6 +132,7 @@ module _ (setting : Setting) (views : Views) (w : World) (stamps : Stamping) (me
       seq = refl;
       begin = refl;
       ask = refl;
+      view = refl;
       floor = refl;
       version = keeps_version;
       made = λ v has. refl;
@@ -162,7 +164,7 @@ module _ (setting : Setting) (views : Views) (w : World) (stamps : Stamping) (me
     ended_has : (v : Stamp) → version_after o.version seen ≡ Some v → HasVersion setting views next ended v
     ended_has v has =
         let old : HasVersion setting views next o v = stays_has_version setting views w next stamps stamps books grows o v (has_version v has) in
-        record { made = old.made; reader = old.reader; guarded = old.guarded; floors = old.floors }
+        record { made = old.made; of = old.of; reader = old.reader; guarded = old.guarded; floors = old.floors }
 
     -- the version of an operation that made one
     was_version : (v : Stamp) → o.made ≡ true → version_after o.version seen ≡ Some v → o.version ≡ Some v
@@ -189,6 +191,7 @@ module _ (setting : Setting) (views : Views) (w : World) (stamps : Stamping) (me
         = stays_operation setting views w next stamps stamps books grows n o its.operation_is (said.operations n o its.operation_is) in
         record {
           begin = old.begin;
+          view = old.view;
           floors = old.floors;
           floors_known = old.floors_known;
           fresh = old.fresh;

@@ -2,7 +2,7 @@
 use Rattle.std.proofs.Common.{List, [], sym}
 use Rattle.std.proofs.lemmas.List.{append-nil}
 use Rattle.protocol.specs.Settings.{Setting, IsSound}
-use Rattle.protocol.specs.Views.{Views, layout_views}
+use Rattle.protocol.specs.Views.{Views, views_in}
 use Rattle.protocol.specs.Worlds.{World, Event, first_world, run}
 use Rattle.protocol_laws.specs.Laws.{Follows, RefusalsWereTrue, WritesWereGuarded, Laws, EveryRunKeepsTheLaws}
 use Rattle.protocol_laws.proofs.Books.{Books}
@@ -13,7 +13,7 @@ use Rattle.protocol_laws.proofs.Numbers.{IsNumbered, always_numbered}
 use Rattle.protocol_laws.proofs.QuorumFacts.{QuorumFacts, facts}
 use Rattle.protocol_laws.proofs.Said.{Stamping, Said}
 use Rattle.protocol_laws.proofs.SaidAlways.{always_said}
-use Rattle.protocol_laws.proofs.ViewLaws.{follows_layout, one_content, writes_guarded, bases_newest, collects_stand, drops_older}
+use Rattle.protocol_laws.proofs.ViewLaws.{follows_its_views, one_content, writes_guarded, bases_newest, collects_stand, drops_older}
 use Rattle.protocol_laws.proofs.Tallies.{Tallied}
 use Rattle.protocol_laws.proofs.TalliesEvents.{tallied}
 use Rattle.reg_model.proofs.StripeLives.{well_formed_stripe, numbers_from_one}
@@ -56,11 +56,12 @@ every_run setting views events sound follows =
     laws setting views w said.0 (books setting events) said.1 (follows events [] (sym (append-nil events)))
     (writes_were_guarded setting views events sound follows)
     (facts setting views sound w said.0 (books setting events) said.1)
-    (tallied setting events sound)
+    (tallied setting views events sound follows)
     (always_numbered setting events)
     (refusals_true setting events)
 
--- for the layout's members
-pub every_layout_run : (setting : Setting) (events : List Event) → IsSound setting
-    → Laws setting (layout_views setting.layout) (run setting events (first_world setting.layout))
-every_layout_run setting events sound = every_run setting (layout_views setting.layout) events sound (follows_layout setting events sound)
+-- for the members that its messages teach
+pub every_views_run : (setting : Setting) (events : List Event) → IsSound setting
+    → (let w = run setting events (first_world setting.layout) in Laws setting (views_in setting.layout w.packets) w)
+every_views_run setting events sound =
+    every_run setting (views_in setting.layout (run setting events (first_world setting.layout)).packets) events sound (follows_its_views setting events sound)

@@ -46,6 +46,7 @@ pub record Continues (o p : Operation) : Type 0 where
   pub seq : p.seq ≡ o.seq
   pub begin : p.begin ≡ o.begin
   pub ask : p.ask ≡ o.ask
+  pub view : p.view ≡ o.view
   pub floor : p.floor ≡ o.floor
   pub version : (v : Stamp) → o.version ≡ Some v → p.version ≡ Some v
   pub made : (v : Stamp) → o.version ≡ Some v → p.made ≡ o.made
@@ -60,6 +61,7 @@ continues_same o = record {
   seq = refl;
   begin = refl;
   ask = refl;
+  view = refl;
   floor = refl;
   version = λ v is. is;
   made = λ v is. refl;
@@ -402,6 +404,7 @@ module _ (setting : Setting) (views : Views) (w next : World) (stamps later : St
   pub stays_has_version : (o : Operation) (v : Stamp) → HasVersion setting views w o v → HasVersion setting views next o v
   stays_has_version o v has = record {
     made = stays_made o.ask.group.0 o.ask.stripe.0 v has.made;
+    of = has.of;
     reader = has.reader;
     guarded = λ group is. stays_guarded o.ask.group.0 o.ask.stripe.0 group v (has.guarded group is);
     floors = has.floors;
@@ -433,6 +436,7 @@ module _ (setting : Setting) (views : Views) (w next : World) (stamps later : St
   pub stays_operation : (n : ℕ) (o : Operation) → IsOperation w n o → OperationSays setting views w stamps n o → OperationSays setting views next later n o
   stays_operation n o is says = record {
     begin = omega (arith, says.begin, grows.marks);
+    view = (says.view.0, (let rises = grows.parts.views o.brick.0 o.ask.group.0 in let was = says.view.1 in omega (arith, rises, was)));
     floors = λ i. stays_above o.ask.group.0 o.ask.stripe.0 i (o.floor i) (says.floors i);
     floors_known = λ i. ⊎_elim
         (λ (known : IsKnown stamps (o.floor i)). inl (stays_known stamps later grows.grow (o.floor i) known))

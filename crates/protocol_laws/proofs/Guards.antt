@@ -1,6 +1,6 @@
 -- A request to store a version is sent while a quorum takes nothing below it, and while its operation is open: an event that sends one lowers and raises no
 -- brick, and sends it for a call that is open.
-use Rattle.std.proofs.Common.{◌≡◌, ℕ, not, List, [], ◌∷◌, ◌++◌, length, Option, Some, None, refl, sym, ap, ◌∙◌, subst, arith, append_assoc}
+use Rattle.std.proofs.Common.{◌≡◌, ℕ, not, List, [], ◌∷◌, ◌++◌, length, Option, Some, None, refl, sym, ap, ◌∙◌, subst, arith}
 use Rattle.std.specs.Prelude.{slice_get}
 use Rattle.fab_base.specs.declared.identities.BrickId.{BrickId}
 use Rattle.fab_base.specs.declared.asks.Ask.{Ask}
@@ -29,7 +29,7 @@ use Rattle.protocol_laws.specs.Laws.{top_in, stamp_stored, IsGuarded, RunFollows
 use Rattle.protocol_laws.proofs.Books.{Books, CallBooks, IsCall}
 use Rattle.protocol_laws.proofs.BooksEvents.{books}
 use Rattle.protocol_laws.proofs.Outcomes.{NextFits, once_full_fits}
-use Rattle.protocol_laws.proofs.SaidAlways.{always_said}
+use Rattle.protocol_laws.proofs.SaidAlways.{always_said, follows_front}
 use Rattle.protocol_laws.proofs.Sendings.{Adds, adds_none, SentAt, sent_at}
 use Rattle.protocol_laws.proofs.Tops.{KeepsPlaces, top_same}
 use Rattle.protocol_laws.proofs.ViewLaws.{writes_guarded}
@@ -239,6 +239,6 @@ writes_were_guarded setting views events sound follows k call from to request t 
         ≡ Some (record { from = from; to = to; message = Message.Request call request })
         → IsGuarded (run setting upto (first_world setting.layout)) call.group.0 call.stripe.0 group t
     guarded_there upto later is there =
-        let said = always_said setting views upto sound (λ earlier rest at. follows earlier (rest ++ later) (is ∙ ap (λ (l : List Event). l ++ later) at ∙ append_assoc earlier rest later)) in
+        let said = always_said setting views upto sound (follows_front setting views events upto later follows is) in
         writes_guarded setting views (run setting upto (first_world setting.layout)) said.0 said.1 call from to
         request t group found (k, there) stores

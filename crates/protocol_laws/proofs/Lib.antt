@@ -17,6 +17,7 @@ pub mod Entries
 pub mod EveryRun
 pub mod Falls
 pub mod FirstViews
+pub mod FirstWorlds
 pub mod Growth
 pub mod Guards
 pub mod Left

@@ -1,4 +1,5 @@
 -- One operation changes, with messages and marks beside it.
+use Rattle.fab_base.specs.declared.asks.Ask.{Ask}
 use Rattle.std.proofs.Common.{◌≡◌, ◌≢◌, ℕ, ◌≤◌, ◌⊎◌, inl, inr, List, ◌++◌, length, Some, refl, sym, ap, ◌∙◌, subst, ⊎_elim, arith}
 use Rattle.std.specs.Prelude.{slice_get}
 use Rattle.fab_base.specs.declared.identities.BrickId.{BrickId}
@@ -9,15 +10,14 @@ use Rattle.reg_model.specs.declared.marks.Mark.{Mark}
 use Rattle.reg_model.specs.declared.marks.Mark.TheVariants.{End}
 use Rattle.reg_model.specs.Marks.{life_of}
 use Rattle.reg_model.specs.Walk.{last_of}
-use Rattle.fab_base.specs.Layouts.{Group}
-use Rattle.protocol.specs.Views.{Views, group_in, view_of}
+use Rattle.protocol.specs.Views.{Views}
 use Rattle.protocol.specs.Settings.{Setting}
 use Rattle.protocol.specs.Replicas.{top_of, Replica}
 use Rattle.protocol.specs.Coordinators.{Coordinator}
 use Rattle.protocol.specs.Nodes.{Node, put}
 use Rattle.protocol.specs.Worlds.{World, Operation, with_held}
 use Rattle.protocol_laws.proofs.Books.{Books, IsOperation}
-use Rattle.protocol_laws.proofs.Said.{Stamping, Said, StampsSay, IsMadeOrFirst, PacketSays, OperationSays, CallSays, EndShows, IsInOrder, FloorsAtLeast}
+use Rattle.protocol_laws.proofs.Said.{Stamping, Said, StampsSay, IsMadeOrFirst, PacketSays, OperationSays, CallSays, EndShows, IsInOrder, FloorsAbove}
 use Rattle.protocol_laws.proofs.Blocking.{LogsFit}
 use Rattle.protocol.proofs.Tables.{put_each, get_grown}
 use Rattle.protocol_laws.proofs.Stampings.{StampsGrow}
@@ -96,16 +96,15 @@ module _ (setting : Setting) (views : Views) (w : World) (stamps later : Stampin
       let e = came_from a earlier earlier_is in
       let l = came_from b late late_is in
       put_each (λ i x. x ≡ Some earlier → i ≡ a
-      → ((group : Group) → group_in setting.layout views late.ask.group.0 (view_of u) ≡ Some group → FloorsAtLeast late group u)
-      ⊎ (late.begin ≤ last_of (life_of marks a))) w.operations n (Some p)
+      → FloorsAbove setting views late u ⊎ (late.begin ≤ last_of (life_of marks a))) w.operations n (Some p)
       (λ is at. inr (begins_before b l.0 late l.1 l.2 at))
       (λ i other is at.
       let old : IsOperation w a earlier = subst (λ (j : ℕ). IsOperation w j earlier) at is in
       ⊎_elim
-      (λ (floors : (group : Group) → group_in setting.layout views l.0.ask.group.0 (view_of u) ≡ Some group → FloorsAtLeast l.0 group u).
-      inl (λ group group_is.
-      subst (λ (f : ℕ → Stamp). FloorsAtLeast (record late { floor = f }) group u) (sym l.2.floor)
-      (floors group (ap (λ x. group_in setting.layout views x.group.0 (view_of u)) (sym l.2.ask) ∙ group_is))))
+      (λ (floors : FloorsAbove setting views l.0 u).
+      inl (subst (λ (f : ℕ → Stamp). FloorsAbove setting views (record late { floor = f }) u) (sym l.2.floor)
+      (subst (λ (x : Ask). FloorsAbove setting views (record late { ask = x; floor = l.0.floor }) u) (sym l.2.ask)
+      (record { own = floors.own; before = floors.before }))))
       (λ (before : l.0.begin ≤ last_of (life_of w.marks a)). inr (let begins : late.begin ≡ l.0.begin = l.2.begin in omega (arith, keeps.lasts a)))
       (said.order a b earlier l.0 u old l.1 (groups ∙ ap (λ x. x.group.0) l.2.ask) (stripes ∙ ap (λ x. x.stripe.0) l.2.ask) version))
       a earlier_is refl

@@ -22,13 +22,12 @@ use Rattle.protocol.specs.Views.{Views, view_of, group_in, kept_by}
 use Rattle.protocol.specs.declared.phases.Phase.{Phase}
 use Rattle.protocol.specs.declared.phases.Phase.TheVariants.{LooksAt, Orders, OrdersAt, Recovers, Descends, Modifies, Stores}
 use Rattle.protocol.specs.Coordinators.{Coordinator}
-use Rattle.protocol.specs.Worlds.{World, Operation}
+use Rattle.protocol.specs.Worlds.{World, Operation, number_of}
 use Rattle.protocol.specs.Happenings.{writes}
 use Rattle.protocol_laws.specs.Laws.{WasSent, RequestSent, IsCallOf, stamp_asked, order_of}
 use Rattle.protocol_laws.proofs.Books.{Books, OperationBooks, IsOperation, IsCall, CallBooks}
 use Rattle.protocol_laws.proofs.Said.{Stamping, Said, IsMadeOrFirst, IsBegun, IsStamped, IsCalled, FitsPhase, DescendsFrom, RequestSays, OrderSays, OrderReadSays, look_of, want_of}
 use Rattle.protocol_laws.proofs.Outcomes.{IsRound}
-use Rattle.protocol_laws.proofs.FirstViews.{view_is}
 use Rattle.protocol_laws.proofs.Stampings.{not_first, begun_once}
 
 -- the phase in which an operation orders
@@ -77,13 +76,6 @@ module _ (setting : Setting) (views : Views) (w : World) (stamps : Stamping) (bo
       let had = (said.operations n o is).made made in
       (had.1, subst (λ (t : Stamp). IsStamped stamps o.brick.0 o.boot o.seq had.1 t) (same_Some had.0 v (sym had.2 ∙ version)) had.3)
 
-  -- versions are of view 1
-  pub made_view : (g s : ℕ) (t : Stamp) → IsMadeOrFirst w g s t → view_of t ≡ 1
-  made_view g s t (inl first) = ap (λ (u : Stamp). view_of u) first
-  made_view g s t (inr made) =
-      let stamp = maker_stamp made.0 made.1 t made.2 made.5 made.6 in
-      view_is t (said.stamps_say.are made.1.brick.0 made.1.boot made.1.seq stamp.0 t stamp.1).view
-
   -- a version that was made is not the first
   pub made_later : (n : ℕ) (o : Operation) (v : Stamp) → IsOperation w n o → o.made ≡ true → o.version ≡ Some v → v ≡ first_stamp → ⊥
   made_later n o v is made version first =
@@ -106,14 +98,10 @@ module _ (setting : Setting) (views : Views) (w : World) (stamps : Stamping) (bo
   pub own_in : (i k : ℕ) (c : Coordinator) → IsCall w i k c → view_of c.stamp ≡ c.call.view.0
   own_in i k c is =
       let of = (books.calls i k c is).stamp_view in
-      let some = (books.calls i k c is).call_view in
-      omega (arith, of, some)
-
-  -- which is view 1
-  pub call_one : (i k : ℕ) (c : Coordinator) → IsCall w i k c → c.call.view.0 ≡ 1
-  call_one i k c is =
-      sym (books.calls i k c is).stamp_view
-      ∙ (said.stamps_say.are i (w.nodes i).boot k c.call.phase c.stamp (c.phase, (said.calls i k c is).begun)).view
+      let its = books.calls i k c is in
+      let view = its.call_view in
+      let some = (said.operations (number_of w i k) its.operation its.operation_is).view.0 in
+      omega (arith, of, view, some)
 
   -- its members keep its group in that view
   pub call_in : (i k : ℕ) (c : Coordinator) → IsCall w i k c → (g : ℕ) (v : Stamp) → g ≡ c.ask.group.0 → view_of v ≡ c.call.view.0

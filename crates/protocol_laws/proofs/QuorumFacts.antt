@@ -1,8 +1,9 @@
 -- What quorums make true of the versions of a world, for the walk along them.
+use Rattle.protocol_laws.proofs.Tops.{view_less, view_least, floor_next}
 use Rattle.std.specs.Option.{option_map}
-use Rattle.std.proofs.Common.{◌≡◌, ℕ, ◌≤◌, ◌⊎◌, inl, inr, true, false, not, List, length, Option, Some, sym, ap, ◌∙◌, subst, ⊎_elim, arith}
+use Rattle.std.proofs.Common.{◌≡◌, ℕ, ◌≤◌, ◌⊎◌, inl, inr, true, false, not, List, length, Option, Some, sym, ap, ◌∙◌, subst, ⊎_elim, arith, ◌<◌, ◌≢◌, refl, ◌+◌}
 use Rattle.std.specs.Prelude.{nat_eq}
-use Rattle.std.proofs.lemmas.Bool.{and_parts, cases_Bool, eqb-true, not-true}
+use Rattle.std.proofs.lemmas.Bool.{and_parts, cases_Bool, eqb-true, not-true, cases_eq, cases_lt, false≢true}
 use Rattle.std.proofs.lemmas.Option.{same_Some}
 use Rattle.fab_base.specs.declared.stamps.Stamp.{Stamp}
 use Rattle.fab_base.specs.declared.asks.Op.{Op}
@@ -18,7 +19,7 @@ use Rattle.reg_model.specs.Marks.{Life, life_of, Answered}
 use Rattle.reg_model.specs.Registers.{zero_registers, after_op, read_of}
 use Rattle.reg_model.specs.Walk.{last_of}
 use Rattle.fab_base.specs.Layouts.{Group, group_of}
-use Rattle.protocol.specs.Views.{Views, group_in, kept_by, view_of}
+use Rattle.protocol.specs.Views.{Views, group_in, kept_by, view_of, floor_of}
 use Rattle.protocol.specs.Settings.{Setting, IsSound}
 use Rattle.protocol.specs.Worlds.{World, Operation, zero_content, content_on}
 use Rattle.protocol.specs.Happenings.{writes}
@@ -27,12 +28,12 @@ use Rattle.protocol_laws.specs.Laws.{ContentsAreMade, StoredIsHeld, FollowsRealT
 use Rattle.protocol_laws.specs.Marked.{WordsFit}
 use Rattle.protocol_laws.proofs.Books.{Books, OperationBooks, IsOperation}
 use Rattle.protocol_laws.proofs.Words.{words_fit}
-use Rattle.protocol_laws.proofs.Said.{Stamping, Said, IsStamped, IsMadeOrFirst, Stands, WritesWhole, ReadsBack, FloorsAtLeast, HasVersion, DataShown}
+use Rattle.protocol_laws.proofs.Said.{Stamping, Said, IsStamped, IsMadeOrFirst, Stands, WritesWhole, ReadsBack, FloorsAtLeast, HasVersion, DataShown, FloorsAbove, FloorsAtMost}
 use Rattle.protocol_laws.proofs.BasesFound.{bases_found}
 use Rattle.protocol_laws.proofs.Blocking.{blocked_never_stands}
 use Rattle.reg_model.proofs.GrowingLives.{answered_has_end}
 use Rattle.protocol_laws.proofs.Stampings.{above_first}
-use Rattle.protocol_laws.proofs.OwnStamps.{maker_stamp, made_later, operation_unique, made_view}
+use Rattle.protocol_laws.proofs.OwnStamps.{maker_stamp, made_later, operation_unique}
 
 -- an operation that made version t on a base: the base is below it, was made itself or is the first, and the content is what the operation makes of
 -- the base's; and nothing that a quorum holds lies between the two
@@ -77,6 +78,13 @@ pub record QuorumFacts (setting : Setting) (views : Views) (w : World) : Type 0 
   pub bases_found : BasesAreFound setting w
   pub words : WordsFit setting.layout w.marks
 
+-- of two numbers one is less, or they are the same
+views_cases : (a b : ℕ) → (a < b) ⊎ ((b ≡ a) ⊎ (b < a))
+views_cases a b = ⊎_elim
+    (λ (less : a < b). inl less)
+    (λ (most : b ≤ a). inr (⊎_elim (λ (same : b ≡ a). inl same) (λ (other : b ≢ a). inr (omega (arith, other, most))) (cases_eq b a)))
+    (cases_lt a b)
+
 module _ (setting : Setting) (views : Views) (sound : IsSound setting) (w : World) (stamps : Stamping) (books : Books setting w) (said : Said setting views w stamps) where
   -- of two versions between which a quorum's floors lie, the lower is not above the other, nor equal to it where the later operation made it
   shared_floor : (b : ℕ) (later : Operation) (u v : Stamp) (i : ℕ) → IsOperation w b later → later.version ≡ Some v
@@ -98,32 +106,48 @@ module _ (setting : Setting) (views : Views) (sound : IsSound setting) (w : Worl
       (cases_Bool later.made))
       (cases_Bool (stamp_below u v))
 
+  -- a quorum of a view had come to t when an operation began, and one was no further than its version: the two share a seat
+  quorums_meet : (b : ℕ) (later : Operation) (e : ℕ) (t v : Stamp) → IsOperation w b later → later.version ≡ Some v → view_of v ≡ e
+      → ((z : Group) → group_in setting.layout views later.ask.group.0 e ≡ Some z → FloorsAtLeast later z t)
+      → (i : ℕ) × (stamp_below (later.floor i) t ≡ false) × (stamp_below v (later.floor i) ≡ false)
+  quorums_meet b later e t v is version of floors =
+      let b_books : OperationBooks setting w b later = books.operations b later is in
+      let group : Group = kept_by (views later.ask.group.0 e) b_books.group in
+      let group_is : group_in setting.layout views later.ask.group.0 e ≡ Some group = ap (option_map (kept_by (views later.ask.group.0 e))) b_books.group_is in
+      let limits : IsWithinLimits group.m (length group.members) = said.limits later.ask.group.0 e group group_is in
+      let most : FloorsAtMost later group v
+      = ((said.operations b later is).version v version).floors group (ap (λ (x : ℕ). group_in setting.layout views later.ask.group.0 x) of ∙ group_is) in
+      let share = quorums_share group.m (length group.members) limits.enough_seats
+      (λ seat. not (stamp_below (later.floor (brick_at group seat)) t)) (λ seat. not (stamp_below v (later.floor (brick_at group seat))))
+      (floors group group_is) most in
+      let seat = count_some (length group.members)
+      (both (λ k. not (stamp_below (later.floor (brick_at group k)) t)) (λ k. not (stamp_below v (later.floor (brick_at group k)))))
+      (omega (arith, share, limits.some_block)) in
+      let tests = and_parts (not (stamp_below (later.floor (brick_at group seat.0)) t))
+      (not (stamp_below v (later.floor (brick_at group seat.0)))) seat.2 in
+      (brick_at group seat.0, not-true (stamp_below (later.floor (brick_at group seat.0)) t) tests.0, not-true (stamp_below v (later.floor (brick_at group seat.0))) tests.1)
+
+  -- versions of one view are in order by the floors of the later operation; else they are by their views, since a quorum of each view has passed it
+  -- before the next is used
+  in_order : (b : ℕ) (later : Operation) (u v : Stamp) → IsOperation w b later → later.version ≡ Some v → FloorsAbove setting views later u
+      → (stamp_below u v ≡ true) ⊎ ((u ≡ v) × (later.made ≡ false))
+  in_order b later u v is version floors = ⊎_elim
+      (λ (less : view_of u < view_of v). inl (view_less u v less))
+      (⊎_elim
+      (λ (same : view_of v ≡ view_of u).
+      let met = quorums_meet b later (view_of u) u v is version same floors.own in
+      shared_floor b later u v met.0 is version met.1 met.2)
+      (λ (above : view_of v < view_of u).
+      let met = quorums_meet b later (view_of v) (floor_of (view_of v + 1)) v is version refl
+      (λ z. floors.before (view_of v) z (view_least v) above) in
+      absurd (false≢true (sym (stamp_not_below_trans (floor_of (view_of v + 1)) (later.floor met.0) v met.1 met.2) ∙ floor_next v))))
+      (views_cases (view_of u) (view_of v))
+
   real_time_holds : (g s : ℕ) → FollowsRealTime w g s
   real_time_holds g s a b earlier later u v a_is b_is a_of b_of a_version b_version ended =
       let a_at = and_parts (nat_eq earlier.ask.group.0 g) (nat_eq earlier.ask.stripe.0 s) a_of in
       let b_at = and_parts (nat_eq later.ask.group.0 g) (nat_eq later.ask.stripe.0 s) b_of in
-      let b_books : OperationBooks setting w b later = books.operations b later b_is in
-      let had = (said.operations b later b_is).version v b_version in
-      let group : Group = kept_by (views later.ask.group.0 (view_of u)) b_books.group in
-      let group_is : group_in setting.layout views later.ask.group.0 (view_of u) ≡ Some group
-      = ap (option_map (kept_by (views later.ask.group.0 (view_of u)))) b_books.group_is in
-      let limits : IsWithinLimits group.m (length group.members) = said.limits later.ask.group.0 (view_of u) group group_is in
-      let one : view_of u ≡ 1 = made_view setting views w stamps books said earlier.ask.group.0 earlier.ask.stripe.0 u
-      ((said.operations a earlier a_is).version u a_version).made in
-      let other : view_of v ≡ 1 = made_view setting views w stamps books said later.ask.group.0 later.ask.stripe.0 v had.made in
-      ⊎_elim
-      (λ (floors : (z : Group) → group_in setting.layout views later.ask.group.0 (view_of u) ≡ Some z → FloorsAtLeast later z u).
-      let share = quorums_share group.m (length group.members) limits.enough_seats
-      (λ seat. not (stamp_below (later.floor (brick_at group seat)) u)) (λ seat. not (stamp_below v (later.floor (brick_at group seat))))
-      (floors group group_is) (had.floors group (ap (λ (e : ℕ). group_in setting.layout views later.ask.group.0 e) (other ∙ sym one) ∙ group_is)) in
-      let seat = count_some (length group.members)
-      (both (λ k. not (stamp_below (later.floor (brick_at group k)) u)) (λ k. not (stamp_below v (later.floor (brick_at group k)))))
-      (omega (arith, share, limits.some_block)) in
-      let tests = and_parts (not (stamp_below (later.floor (brick_at group seat.0)) u))
-      (not (stamp_below v (later.floor (brick_at group seat.0)))) seat.2 in
-      shared_floor b later u v (brick_at group seat.0) b_is b_version
-      (not-true (stamp_below (later.floor (brick_at group seat.0)) u) tests.0)
-      (not-true (stamp_below v (later.floor (brick_at group seat.0))) tests.1))
+      ⊎_elim (in_order b later u v b_is b_version)
       (λ (before : later.begin ≤ last_of (life_of w.marks a)). absurd (omega (arith, before, ended)))
       (said.order a b earlier later u a_is b_is
       (eqb-true earlier.ask.group.0 g a_at.0 ∙ sym (eqb-true later.ask.group.0 g b_at.0))

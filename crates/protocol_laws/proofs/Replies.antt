@@ -1,9 +1,9 @@
 -- A coordinator takes a reply: what it then decides keeps the invariant.
 use Rattle.protocol_laws.proofs.Tops.{view_between}
-use Rattle.protocol_laws.proofs.OwnStamps.{call_by, own_in, m_is, call_one}
-use Rattle.std.proofs.Common.{◌≡◌, ℕ, ◌+◌, ◌*◌, ◌<◌, ◌≤◌, max, nat_lt, ◌⊎◌, inl, inr, true, false, List, [], length, Option, Some, None, refl, sym, ap, ◌∙◌, subst, ⊎_elim, arith}
+use Rattle.protocol_laws.proofs.OwnStamps.{call_by, own_in, m_is}
+use Rattle.std.proofs.Common.{◌≡◌, ℕ, ◌+◌, ◌*◌, ◌<◌, ◌≤◌, max, nat_lt, ◌⊎◌, inl, inr, true, false, List, [], length, Option, Some, None, refl, sym, ap, ◌∙◌, subst, ⊎_elim, arith, ◌≢◌}
 use Rattle.std.specs.Prelude.{nat_eq}
-use Rattle.std.proofs.lemmas.Bool.{cond_both, cases_Bool, false≢true, and_parts, eqb-true, ltb-true, ltb-false}
+use Rattle.std.proofs.lemmas.Bool.{cond_both, cases_Bool, false≢true, and_parts, eqb-true, ltb-true, ltb-false, cases_eq}
 use Rattle.std.proofs.lemmas.Option.{same_Some}
 use Rattle.fab_base.specs.declared.identities.BrickId.{BrickId}
 use Rattle.fab_base.specs.declared.stamps.Stamp.{Stamp}
@@ -191,10 +191,6 @@ module _ (setting : Setting) (views : Views) (sound : IsSound setting) (w : Worl
       → group ≡ other
   same_group v = call_by setting views w stamps books said me.0 c.call.seq c is o.ask.group.0 v (ap (λ a. a.group.0) (sym its.ask))
 
-  -- the view is the first
-  first_view : c.call.view.0 ≡ 1
-  first_view = call_one setting views w stamps books said me.0 c.call.seq c is
-
   own_view : view_of c.stamp ≡ c.call.view.0
   own_view = own_in setting views w stamps books said me.0 c.call.seq c is
 
@@ -217,6 +213,28 @@ module _ (setting : Setting) (views : Views) (sound : IsSound setting) (w : Worl
 
     once : AreOnce d.counted
     once = once_more c.counted (record { seat = seat; brick = from; reply = reply }) says.once first
+
+    -- the coordinator waits for other replies to its phase
+    forgets : (e : Coordinator) → CallSays setting views w stamps me.0 c.call.seq e → CallSays setting views w stamps me.0 c.call.seq (forgetting e)
+    unfolding request_of
+    forgets e e_says = record {
+      group = e_says.group;
+      begun = e_says.begun;
+      last = e_says.last;
+      asked = e_says.asked;
+      fits = e_says.fits;
+      unbased = e_says.unbased;
+      given = e_says.given;
+      above = e_says.above;
+      from = e_says.from;
+      covered = e_says.covered;
+      stores = e_says.stores;
+      based = λ base has.
+          let on : MadeOn setting views w e base = e_says.based base has in
+          record { base_is = on.base_is; of = on.of; below = on.below; base_made = on.base_made; stands = on.stands; made = on.made; content = on.content };
+      counted = tt;
+      once = tt;
+    }
 
     -- the coordinator goes on with the reply
     more_says : CallSays setting views w stamps me.0 c.call.seq d
@@ -258,6 +276,7 @@ module _ (setting : Setting) (views : Views) (sound : IsSound setting) (w : Worl
           let of : view_of v ≡ c.call.view.0 = fast_in setting views sound w stamps me c books said is d.counted each once many v fast in
           let has : HasVersion setting views w o v = record {
             made = fast_made setting views sound w stamps me c books said is d.counted each once many v fast;
+            of = of ∙ sym its.call_view;
             reader = λ isnt. reads;
             guarded = λ other other_is.
                 let same : group ≡ other = same_group v of other other_is in
@@ -503,7 +522,11 @@ module _ (setting : Setting) (views : Views) (sound : IsSound setting) (w : Worl
         reads_on : want_of c.phase ≡ All → (z : Option Stamp) → greatest_found d.counted ≡ z
             → IsSaid setting views (after (read_back setting.layout.block setting.code d z))
         reads_on wanted None nothing =
-            absurd (something_found setting views sound w stamps me c books said is d.counted each once many bound looks all first_view nothing)
+            ⊎_elim
+            (λ (one : c.call.view.0 ≡ 1).
+            absurd (something_found setting views sound w stamps me c books said is d.counted each once many bound looks all one nothing))
+            (λ (later : c.call.view.0 ≢ 1). said_waits (forgetting d) (forgets d more_says))
+            (cases_eq c.call.view.0 1)
         reads_on wanted (Some v) greatest =
             cond_both (nat_lt (length (pieces_at v d.counted)) group.m) (Sends (in_phase d (Descends v)))
             (Makes (restoring setting.layout.block d v (setting.code.decode group.m (pieces_at v d.counted)))) (λ (z : Next). IsSaid setting views (after z))

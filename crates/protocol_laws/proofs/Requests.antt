@@ -44,6 +44,7 @@ pub parts_keep : (layout : Layout) (code : Code) (m seat : ℕ) (node : Node) (c
     → NodeViews layout node → RequestIsOf call request → call.view.0 ≡ view_at node call.group.0 → node.accepted call.group.0 ≡ false
     → KeepsParts node (with_replica node call reaction)
 parts_keep layout code m seat node call request reaction rises after has asks view free = record {
+  views = λ g. omega arith;
   tops = λ g s.
       top_rises node (with_replica node call reaction).live (with_replica node call reaction).replicas g s
       (parts_each (λ h e r x. stamp_below (top_of x) (top_of (node.replicas h e r)) ≡ false) node call reaction

@@ -2,7 +2,7 @@
 -- brick's calls is remembered beside the world.
 use Rattle.quorum.specs.Quorums.{IsWithinLimits}
 use Rattle.std.specs.List.{IsDistinct}
-use Rattle.std.proofs.Common.{◌≡◌, ℕ, ◌<◌, ◌≤◌, ◌⊎◌, Bool, true, false, not, List, [], ◌∷◌, length, Option, Some, None}
+use Rattle.std.proofs.Common.{◌≡◌, ℕ, ◌<◌, ◌≤◌, ◌⊎◌, Bool, true, false, not, List, [], ◌∷◌, length, Option, Some, None, ◌+◌}
 use Rattle.std.specs.Prelude.{slice_get, nat_eq, map}
 use Rattle.fab_base.specs.declared.identities.BrickId.{BrickId}
 use Rattle.fab_base.specs.declared.stamps.Stamp.{Stamp}
@@ -26,14 +26,14 @@ use Rattle.reg_model.specs.Marks.{life_of}
 use Rattle.reg_model.specs.Walk.{last_of}
 use Rattle.reg_model.specs.Registers.{after_op, read_of}
 use Rattle.fab_base.specs.Layouts.{Group, group_of, seat_in}
-use Rattle.protocol.specs.Views.{Views, group_in, view_of}
+use Rattle.protocol.specs.Views.{Views, group_in, view_of, floor_of}
 use Rattle.protocol.specs.Settings.{Setting}
 use Rattle.protocol.specs.Replicas.{top_of, stamp_max, modified_block}
 use Rattle.protocol.specs.declared.phases.Phase.{Phase}
 use Rattle.protocol.specs.declared.phases.Phase.TheVariants.{Looks, LooksAt, Orders, OrdersAt, Recovers, Descends, Modifies, Bases, Stores}
 use Rattle.protocol.specs.declared.phases.Counted.{Counted}
 use Rattle.protocol.specs.Coordinators.{Coordinator, answers_phase, has_seat, request_of, delta_at}
-use Rattle.protocol.specs.Nodes.{Node, given_content}
+use Rattle.protocol.specs.Nodes.{Node, given_content, view_at}
 use Rattle.protocol.specs.Worlds.{World, Operation, zero_content}
 use Rattle.protocol.specs.Happenings.{writes}
 use Rattle.fab_base.specs.Layouts.{brick_at}
@@ -101,7 +101,7 @@ IsKnown stamps t = (t ≡ first_stamp) ⊎ ((j b l p : ℕ) × IsStamped stamps 
 
 -- a stamp of brick i's boot b: where that is its present boot, the brick knows this time
 pub record IsStampOf (node : Node) (i b : ℕ) (t : Stamp) : Type 0 where
-  pub view : t.view.0 ≡ 1
+  pub view : 1 ≤ t.view.0
   pub boot : t.boot ≡ b
   pub booted : b ≤ node.boot
   pub brick : t.brick.0 ≡ i
@@ -121,6 +121,13 @@ FloorsAtMost o group t = AtQuorum group (λ seat. not (stamp_below t (o.floor (b
 -- at a quorum of seats the operation's floor is at least t
 abbrev pub FloorsAtLeast : Operation → Group → Stamp → Type 0
 FloorsAtLeast o group t = AtQuorum group (λ seat. not (stamp_below (o.floor (brick_at group seat)) t))
+
+-- How far the bricks had come when an operation began, once its stripe had version u: a quorum of the view of u had come to u, and one of each view before
+-- that to the floor of the next.
+pub record FloorsAbove (setting : Setting) (views : Views) (o : Operation) (u : Stamp) : Type 0 where
+  pub own : (group : Group) → group_in setting.layout views o.ask.group.0 (view_of u) ≡ Some group → FloorsAtLeast o group u
+  pub before : (e : ℕ) (group : Group) → 1 ≤ e → e < view_of u → group_in setting.layout views o.ask.group.0 e ≡ Some group
+      → FloorsAtLeast o group (floor_of (e + 1))
 
 -- a request or reply's call is that of an operation of brick i
 pub record IsCalled (w : World) (i : ℕ) (call : Call) (o : Operation) : Type 0 where
@@ -310,6 +317,7 @@ PacketSays setting views w stamps packet = MessageSays setting views w stamps pa
 -- an operation's version
 pub record HasVersion (setting : Setting) (views : Views) (w : World) (o : Operation) (v : Stamp) : Type 0 where
   pub made : IsMadeOrFirst w o.ask.group.0 o.ask.stripe.0 v
+  pub of : view_of v ≡ o.view
   pub reader : o.made ≡ false → writes o.ask.op ≡ false
   pub guarded : (group : Group) → group_in setting.layout views o.ask.group.0 (view_of v) ≡ Some group → IsGuarded w o.ask.group.0 o.ask.stripe.0 group v
   pub floors : (group : Group) → group_in setting.layout views o.ask.group.0 (view_of v) ≡ Some group → FloorsAtMost o group v
@@ -331,6 +339,7 @@ WritesWhole w o v = (o.base ≡ None) × (o.ask.op ≡ WriteStripe (w.contents o
 -- operation n
 pub record OperationSays (setting : Setting) (views : Views) (w : World) (stamps : Stamping) (n : ℕ) (o : Operation) : Type 0 where
   pub begin : o.begin ≤ length w.marks
+  pub view : (1 ≤ o.view) × (o.view ≤ view_at (w.nodes o.brick.0) o.ask.group.0)
   pub floors : (i : ℕ) → stamp_below (top_in w o.ask.group.0 o.ask.stripe.0 i) (o.floor i) ≡ false
   pub floors_known : (i : ℕ) → IsKnown stamps (o.floor i) ⊎ ((o.floor i).time ≡ 0)
   pub fresh : (i p : ℕ) → IsStamped stamps o.brick.0 o.boot o.seq p (o.floor i) → ⊥
@@ -411,13 +420,12 @@ EndShows setting w n (Data bytes) = DataShown setting w n bytes
 EndShows setting w n Done = (o : Operation) × IsOperation w n o × (writes o.ask.op ≡ true)
 EndShows setting w n (Aborted cause) = (o : Operation) × IsOperation w n o
 
--- where one operation has a version, another of its stripe found that version below it at a quorum, or began no later than the first may end
+-- where one operation has a version, the bricks had come as far when another of its stripe began, or that began no later than the first may end
 abbrev pub IsInOrder : Setting → Views → World → Type 0
 IsInOrder setting views w =
     (a b : ℕ) (earlier later : Operation) (u : Stamp) → IsOperation w a earlier → IsOperation w b later
     → earlier.ask.group.0 ≡ later.ask.group.0 → earlier.ask.stripe.0 ≡ later.ask.stripe.0 → earlier.version ≡ Some u
-    → ((group : Group) → group_in setting.layout views later.ask.group.0 (view_of u) ≡ Some group → FloorsAtLeast later group u)
-    ⊎ (later.begin ≤ last_of (life_of w.marks a))
+    → FloorsAbove setting views later u ⊎ (later.begin ≤ last_of (life_of w.marks a))
 
 -- nothing of view e that is below t was ever held
 abbrev pub IsBottom : World → ℕ → ℕ → ℕ → ℕ → Stamp → Type 0

@@ -1,8 +1,7 @@
 -- What is said is so in every world that a run reaches.
-use Rattle.protocol_laws.proofs.OwnStamps.{call_one}
 use Rattle.std.specs.Option.{option_map}
 use Rattle.protocol_laws.proofs.Blocking.{first_fits}
-use Rattle.std.proofs.Common.{◌≡◌, ℕ, ◌<◌, ◌≤◌, ◌+◌, inl, true, false, List, [], ◌∷◌, ◌++◌, length, replicate, Option, Some, None, refl, sym, ap, ◌∙◌, subst, ⊎_elim, arith, ◌⊎◌}
+use Rattle.std.proofs.Common.{◌≡◌, ℕ, ◌<◌, ◌≤◌, ◌+◌, inl, true, false, List, [], ◌∷◌, ◌++◌, length, replicate, Option, Some, None, refl, sym, ap, ◌∙◌, subst, ⊎_elim, arith, ◌⊎◌, append_assoc}
 use Rattle.std.specs.Prelude.{slice_get, nat_eq}
 use Rattle.std.proofs.lemmas.List.{append-nil, length-append}
 use Rattle.std.proofs.lemmas.Bool.{cond-false, false≢true, or_left, or_cases, cond_both}
@@ -25,13 +24,12 @@ use Rattle.protocol.specs.Settings.{Setting, IsSound}
 use Rattle.protocol.specs.Replicas.{Reaction, first_replica, top_of, handle, is_held, Replica}
 use Rattle.protocol.specs.Coordinators.{Coordinator}
 use Rattle.protocol.specs.Nodes.{Node, NodeStep, put, with_known, with_replica, replica_at, reacted, full_at, reply_packets, absorbed, ticked, stopped, restarted, new_stamp, fresh_stamp, no_step, began, invoked, requested, known_after, replied_at, replied, received, group_at, view_at, seat_served}
-use Rattle.protocol.specs.Worlds.{World, Found, Before, After, Event, replies_with, first_world, zero_content, world_ticked, left_after, packet_during, world_stopped, world_found, world_started, may_begin, world_began, world_stepped, run, with_held, reached_during}
+use Rattle.protocol.specs.Worlds.{World, Found, Before, After, Event, replies_with, first_world, zero_content, world_ticked, left_after, packet_during, world_stopped, world_found, world_started, may_begin, world_began, world_stepped, run, with_held, reached_during, number_of}
 use Rattle.protocol_laws.specs.Laws.{WasSent, Follows, RunFollows}
-use Rattle.protocol_laws.proofs.FirstViews.{group_first}
 use Rattle.protocol_laws.proofs.Books.{Books, IsCall}
 use Rattle.protocol_laws.proofs.Left.{IsLeft, Leaves, always_leaves, packet_was_sent}
 use Rattle.protocol_laws.proofs.Said.{Stamping, Said, IsSaid, IsStampOf, VersionSays, WasCollected, IsMadeOrFirst, IsBottom}
-use Rattle.protocol_laws.proofs.BooksEvents.{known_grows, fresh_is, BeginFits, begin_fits, start_fits, books_found, books, books_beside}
+use Rattle.protocol_laws.proofs.BooksEvents.{known_grows, fresh_is, BeginFits, begin_fits, start_fits, books_found, books, books_beside, group_there, fits_at}
 use Rattle.protocol.proofs.Tables.{get_one, get_kept, get_grown}
 use Rattle.reg_model.proofs.GrowingLives.{last_grows}
 use Rattle.protocol_laws.proofs.Stampings.{ages_within}
@@ -115,7 +113,7 @@ request_kept setting views w stamps me from call request books stamped follows s
     (kept_said setting views w stamps me from call request books stamped follows said sent)
 
 -- a fresh stamp is its brick's, and above all that it knows
-fresh_says : (setting : Setting) (w : World) (me : BrickId) (view : ViewNo) (now known : ℕ) (t : Stamp) → view.0 ≡ 1 → Books setting w
+fresh_says : (setting : Setting) (w : World) (me : BrickId) (view : ViewNo) (now known : ℕ) (t : Stamp) → 1 ≤ view.0 → Books setting w
     → (w.nodes me.0).known ≤ known → fresh_stamp me view now (w.nodes me.0).boot known ≡ Some t
     → IsStampOf (with_known (w.nodes me.0) t.time) me.0 (w.nodes me.0).boot t × ((w.nodes me.0).known < t.time)
 fresh_says setting w me view now known t of books more is =
@@ -131,13 +129,20 @@ reply_said : (setting : Setting) (views : Views) (w : World) (stamps : Stamping)
 unfolding replied
 reply_said setting views w stamps me from now call reply sound books said sent = at_call ((w.nodes me.0).calls call.seq) refl
   where
+    some : (c : Coordinator) → IsCall w me.0 c.call.seq c → 1 ≤ c.call.view.0
+    some c is =
+        let its = books.calls me.0 c.call.seq c is in
+        let least = (said.operations (number_of w me.0 c.call.seq) its.operation its.operation_is).view.0 in
+        let view = its.call_view in
+        omega (arith, least, view)
+
     in_call : (c : Coordinator) → IsCall w me.0 c.call.seq c
         → IsSaid setting views (stepped setting w me (replied_at setting me now from (w.nodes me.0) call reply (Some c)))
     in_call c is =
         said_after_reply setting views sound w stamps me c (known_after (w.nodes me.0).known reply) books said is
         (known_grows (w.nodes me.0).known reply)
         (fresh_stamp me c.call.view now (w.nodes me.0).boot (known_after (w.nodes me.0).known reply))
-        (λ t new. fresh_says setting w me c.call.view now (known_after (w.nodes me.0).known reply) t (call_one setting views w stamps books said me.0 c.call.seq c is) books
+        (λ t new. fresh_says setting w me c.call.view now (known_after (w.nodes me.0).known reply) t (some c is) books
         (known_grows (w.nodes me.0).known reply) new) from call reply sent
 
     at_call : (z : Option Coordinator) → (w.nodes me.0).calls call.seq ≡ z
@@ -178,7 +183,7 @@ delivery_said setting views w stamps number packet sound books stamped follows s
     message_said setting views (world_counting setting w number packet) stamps packet.to packet.from (w.clocks packet.to.0) packet.message sound
     (books_beside setting w (replies_with setting w packet) (put w.reached number true) books)
     (record { nodes = stamped.nodes; after = stamped.after; packets = stamped.packets })
-    (record { limits = follows.limits; distinct = follows.distinct; learnt = follows.learnt; passed = follows.passed })
+    (record { limits = follows.limits; distinct = follows.distinct; learnt = follows.learnt; prior = follows.prior; passed = follows.passed })
     (said_beside setting views w stamps w.clocks (replies_with setting w packet) (put w.reached number true) books said)
     sent
 
@@ -248,15 +253,14 @@ started_said setting views w stamps me openings books said some =
     (λ k p n answer at. at)
 
 -- an operation is invoked
-invoked_said : (setting : Setting) (views : Views) (w : World) (stamps : Stamping) (me : BrickId) (ask : Ask) → Books setting w → Follows setting.layout views w
-    → Said setting views w stamps → may_begin setting w me ask ≡ true → IsSaid setting views (world_began w me ask (invoked setting me (w.clocks me.0) (w.nodes me.0) ask))
+invoked_said : (setting : Setting) (views : Views) (w : World) (stamps : Stamping) (me : BrickId) (ask : Ask) → Books setting w → StampViews setting.layout w
+    → Follows setting.layout views w → Said setting views w stamps → may_begin setting w me ask ≡ true → IsSaid setting views (world_began w me ask (invoked setting me (w.clocks me.0) (w.nodes me.0) ask))
 unfolding invoked
-invoked_said setting views w stamps me ask books follows said may =
+invoked_said setting views w stamps me ask books stamped follows said may =
     let fits : BeginFits setting ask = begin_fits setting w me ask may in
-    let here : group_at setting.layout (w.nodes me.0) ask.group.0 ≡ Some fits.group
-    = group_first setting.layout (w.nodes me.0) ask.group.0 (books.first me.0) ∙ fits.group_is in
+    let here : group_at setting.layout (w.nodes me.0) ask.group.0 ≡ Some (group_there (w.nodes me.0) ask fits.group) = fits_at setting (w.nodes me.0) ask fits in
     subst (λ (z : Option Group). IsSaid setting views (world_began w me ask (began setting me (w.clocks me.0) (w.nodes me.0) ask z)))
-    (sym here) (said_began setting views w stamps me ask fits.group books said (group_learnt setting.layout views w me.0 ask.group.0 follows ∙ here))
+    (sym here) (said_began setting views w stamps me ask (group_there (w.nodes me.0) ask fits.group) books ((stamped.nodes me.0).views ask.group.0) follows said (group_learnt setting.layout views w me.0 ask.group.0 follows ∙ here))
 
 -- every event keeps the invariant
 said_cases : (setting : Setting) (views : Views) → IsSound setting → (w : World) → Leaves setting w × Books setting w × Follows setting.layout views w × StampViews setting.layout w → IsSaid setting views w
@@ -264,7 +268,7 @@ said_cases : (setting : Setting) (views : Views) → IsSound setting → (w : Wo
 said_cases setting views sound w known said =
     let books : Books setting w = known.1 in
     record {
-      begins = λ brick ask may. invoked_said setting views w said.0 brick ask books known.2 said.1 may;
+      begins = λ brick ask may. invoked_said setting views w said.0 brick ask books known.3 known.2 said.1 may;
       handles = λ number packet at up. delivery_said setting views w said.0 number packet sound books known.3 known.2 said.1 (packet_was_sent w number packet at);
       sets = λ brick time is. (said.0, said_beside setting views w said.0 (put w.clocks brick.0 time) w.replies w.reached books said.1);
       ticks = λ brick up. (said.0, ticked_said setting views w said.0 brick books said.1);
@@ -337,6 +341,12 @@ said_first setting views sound follows = (
     logged = first_fits setting;
   },
 )
+
+-- what a run follows, its front follows
+pub follows_front : (setting : Setting) (views : Views) (events earlier later : List Event) → RunFollows setting views events → events ≡ earlier ++ later
+    → RunFollows setting views earlier
+follows_front setting views events earlier later follows is front rest at =
+    follows front (rest ++ later) (is ∙ ap (λ (l : List Event). l ++ later) at ∙ append_assoc front rest later)
 
 -- the invariant holds in every world that a run reaches, for every assignment of members to views that it follows
 pub always_said : (setting : Setting) (views : Views) (events : List Event) → IsSound setting → RunFollows setting views events

@@ -55,8 +55,10 @@ pub record NodeViews (layout : Layout) (node : Node) : Type 0 where
 abbrev pub RequestIsOf : Call → Request → Type 0
 RequestIsOf call request = (t : Stamp) → stamp_asked request ≡ Some t → t.view.0 ≡ call.view.0
 
+-- so does one that is sent, and none teaches a view
 abbrev pub MessageIsOf : Message → Type 0
 MessageIsOf (Message.Request call request) = RequestIsOf call request
+MessageIsOf (Message.Learn group view) = ⊥
 MessageIsOf message = Unit {0}
 
 abbrev pub PacketIsOf : Packet → Type 0

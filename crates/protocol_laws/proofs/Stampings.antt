@@ -210,9 +210,3 @@ module _ (stamps : Stamping) (i b k p : ℕ) (new : Begun) where
               e d m r refl refl its.1)
               j c l q one.1 other;
         }
-
--- what is known is of view 1, or the first
-pub known_view : (w : World) (stamps : Stamping) (t : Stamp) → StampsSay w stamps → IsKnown stamps t → t.view.0 ≤ 1
-known_view w stamps t say (inl first) = let view : t.view.0 ≡ 0 = ap (λ (z : Stamp). z.view.0) first in omega arith
-known_view w stamps t say (inr known) =
-    let of : IsStampOf (w.nodes known.0) known.0 known.1 t = say.are known.0 known.1 known.2 known.3 t known.4 in omega (arith, of.view)

@@ -16,19 +16,18 @@ use Rattle.reg_model.specs.declared.marks.Mark.TheVariants.{End}
 use Rattle.reg_model.specs.Marks.{life_of}
 use Rattle.reg_model.specs.Walk.{last_of}
 use Rattle.fab_base.proofs.StampOrder.{stamp_below_irrefl}
-use Rattle.fab_base.specs.Layouts.{Group}
 use Rattle.protocol.specs.Settings.{Setting}
-use Rattle.protocol.specs.Views.{Views, view_of, group_in}
+use Rattle.protocol.specs.Views.{Views, view_of, Learnt}
 use Rattle.protocol.specs.Replicas.{Replica, top_of, is_held}
 use Rattle.protocol.specs.declared.phases.Counted.{Counted}
 use Rattle.protocol.specs.Coordinators.{Coordinator, request_of}
-use Rattle.protocol.specs.Nodes.{Node, put, to_members, phase_packets, top_at}
+use Rattle.protocol.specs.Nodes.{Node, put, to_members, phase_packets, top_at, view_at}
 use Rattle.protocol.specs.Worlds.{World, Operation, with_held}
 use Rattle.protocol_laws.specs.Laws.{WasSent, part_in, top_in}
 use Rattle.protocol_laws.proofs.Books.{Books, IsOperation, IsCall}
 use Rattle.protocol_laws.proofs.Logs.{LogAscends, IsKept, held_stands, under_held, nothing_kept}
 use Rattle.protocol_laws.proofs.Blocking.{PartsStay, LogsFit, LogsStay, NewIsLogged, parts_from, was_kept}
-use Rattle.protocol_laws.proofs.Said.{Stamping, Said, StampsSay, IsKnown, VersionSays, PacketSays, OperationSays, CallSays, EndShows, IsInOrder, FloorsAtLeast, WasCollected, IsMadeOrFirst, IsBottom}
+use Rattle.protocol_laws.proofs.Said.{Stamping, Said, StampsSay, IsKnown, VersionSays, PacketSays, OperationSays, CallSays, EndShows, IsInOrder, WasCollected, IsMadeOrFirst, IsBottom, FloorsAbove}
 use Rattle.protocol.proofs.Tables.{put_each, get_kept, get_grown, get_added, put_same}
 use Rattle.protocol_laws.proofs.Stampings.{StampsGrow, Ages, ages_within, stamps_same, stays_known, stamps_stay}
 use Rattle.protocol_laws.proofs.Growth.{Grows, continues_same, stays_version, stays_packet, stays_operation, stays_call, stays_end, stays_collected, stays_made}
@@ -134,6 +133,7 @@ said_after setting views w next stamps later books said grows owes = record {
 
 -- one brick comes no less far than before, keeps what it kept, takes nothing new below what it had come to, and its logs go on ascending
 pub record KeepsParts (node next : Node) : Type 0 where
+  pub views : (g : ℕ) → view_at node g ≤ view_at next g
   pub tops : (g s : ℕ) → stamp_below (top_at next g s) (top_at node g s) ≡ false
   pub orders : (g e s : ℕ) → (node.replicas g e s).order.time ≤ (next.replicas g e s).order.time
   pub kept : (g e s : ℕ) (t : Stamp) → IsKept t (node.replicas g e s).log → IsKept t (next.replicas g e s).log
@@ -144,6 +144,7 @@ pub record KeepsParts (node next : Node) : Type 0 where
 -- a brick that keeps its places as they are
 pub keeps_same : (node next : Node) → KeepsPlaces node next → KeepsParts node next
 keeps_same node next same = record {
+  views = λ g. subst (λ (l : ℕ → Learnt). view_at node g ≤ (l g).view.number.0) (sym same.0) (omega arith);
   tops = λ g s.
       subst (λ (t : Stamp). stamp_below t (top_at node g s) ≡ false) (sym (top_same node next same g s)) (stamp_below_irrefl (top_at node g s));
   orders = λ g e s. subst (λ (r : ℕ → ℕ → ℕ → Replica). (node.replicas g e s).order.time ≤ (r g e s).order.time) (sym same.2) (omega arith);
@@ -162,6 +163,9 @@ part_same w next me node nodes same g e s i =
 -- logs stay where one brick keeps its own
 logs_by : (w next : World) (me : ℕ) (node : Node) → next.nodes ≡ put w.nodes me node → KeepsParts (w.nodes me) node → LogsStay w next
 logs_by w next me node nodes keeps = record {
+  views = λ i g.
+      subst (λ (f : ℕ → Node). view_at (w.nodes i) g ≤ view_at (f i) g) (sym nodes)
+      (put_each (λ j x. view_at (w.nodes j) g ≤ view_at x g) w.nodes me node (keeps.views g) (λ j other. omega arith) i);
   tops = λ g s i.
       subst (λ (f : ℕ → Node). stamp_below (top_at (f i) g s) (top_at (w.nodes i) g s) ≡ false) (sym nodes)
       (put_each (λ j x. stamp_below (top_at x g s) (top_at (w.nodes j) g s) ≡ false) w.nodes me node (keeps.tops g s)
@@ -256,6 +260,7 @@ pub parts_same : (w next : World) → next.nodes ≡ w.nodes → next.held ≡ w
 parts_same w next nodes helds fit =
     parts_from w next
     (subst (λ (f : ℕ → Node). LogsStay w (record next { nodes = f })) (sym nodes) (record {
+      views = λ i g. omega arith;
       tops = λ g s i. stamp_below_irrefl (top_in w g s i);
       orders = λ g e s i. omega arith;
       kept = λ g e s i t kept. kept;
@@ -466,7 +471,7 @@ said_idle setting views w stamps me node after up past marks reached books said 
           (λ j other is. inl (is, refl, (λ p. refl))) i;
       ends = λ k p n answer is. inl (ends k p n answer is);
       order = λ a b earlier later u earlier_is later_is groups stripes version. ⊎_elim
-          (λ (floors : (group : Group) → group_in setting.layout views later.ask.group.0 (view_of u) ≡ Some group → FloorsAtLeast later group u). inl floors)
+          (λ (floors : FloorsAbove setting views later u). inl floors)
           (λ (before : later.begin ≤ last_of (life_of w.marks a)). inr (omega (arith, before, lasts a)))
           (said.order a b earlier later u earlier_is later_is groups stripes version);
     })

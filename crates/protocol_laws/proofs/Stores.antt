@@ -121,6 +121,7 @@ module _ (setting : Setting) (views : Views) (sound : IsSound setting) (w : Worl
         made = true;
         base = base;
         answered = o.answered;
+        view = o.view;
         floor = o.floor;
       }
 
@@ -286,6 +287,7 @@ module _ (setting : Setting) (views : Views) (sound : IsSound setting) (w : Worl
         seq = refl;
         begin = refl;
         ask = refl;
+        view = refl;
         floor = refl;
         version = λ v has. let e : Some v ≡ None = sym has ∙ unmade.0 in cc;
         made = λ v has. let e : Some v ≡ None = sym has ∙ unmade.0 in cc;
@@ -356,6 +358,7 @@ module _ (setting : Setting) (views : Views) (sound : IsSound setting) (w : Worl
           = stays_operation setting views w next stamps later books grows n o its.operation_is (said.operations n o its.operation_is) in
           record {
             begin = old.begin;
+            view = old.view;
             floors = old.floors;
             floors_known = old.floors_known;
             fresh = old.fresh;
@@ -378,6 +381,7 @@ module _ (setting : Setting) (views : Views) (sound : IsSound setting) (w : Worl
                 let same : c.stamp ≡ v = cc in
                 subst (λ (t : Stamp). HasVersion setting views next made t) same (record {
                   made = made_now;
+                  of = own_in setting views w stamps books said me.0 c.call.seq c is ∙ sym its.call_view;
                   reader = λ isnt. absurd (true≢false isnt);
                   guarded = λ other other_is.
                       subst (λ (a : Ask). IsGuarded next a.group.0 a.stripe.0 other c.stamp) its.ask

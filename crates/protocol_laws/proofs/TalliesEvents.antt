@@ -1,5 +1,5 @@
 -- Every event keeps the history of replies.
-use Rattle.protocol_laws.proofs.ViewLaws.{follows_layout}
+use Rattle.std.proofs.lemmas.List.{append-nil}
 use Rattle.std.proofs.Common.{◌≡◌, ◌≢◌, ℕ, ◌+◌, ◌≤◌, inl, ⊎_elim, true, false, ap, Option, Some, None, List, [], ◌∷◌, ◌++◌, length, refl, sym, ◌∙◌, subst, arith, Bool}
 use Rattle.std.specs.Prelude.{slice_get}
 use Rattle.std.proofs.lemmas.Bool.{cases_eq}
@@ -15,25 +15,24 @@ use Rattle.messages.specs.declared.requests.Request.{Request}
 use Rattle.messages.specs.declared.replies.Reply.{Reply}
 use Rattle.reg_model.specs.declared.marks.Mark.TheVariants.{Begin, End, Crash}
 use Rattle.fab_base.specs.Layouts.{Group}
-use Rattle.protocol.specs.Views.{Views, layout_views}
+use Rattle.protocol.specs.Views.{Views}
 use Rattle.protocol.specs.Settings.{Setting, IsSound}
 use Rattle.protocol.specs.Replicas.{handle}
 use Rattle.protocol.specs.Coordinators.{Coordinator, with_reply, once_full, counted_at, counts_at, on_reply}
 use Rattle.protocol.specs.Nodes.{Node, NodeStep, ticked, new_coordinator, put, no_step, fresh_stamp, began_in, began, invoked, with_replica, replica_at, full_at, reply_packets, requested, known_after, with_known, carried_out, sending, replied_at, replied, received}
 use Rattle.protocol.specs.Worlds.{World, Found, Before, After, Event, first_world, may_begin, number_of, world_stopped, world_found, world_started, world_began, counted_after, replies_at, replies_with, run, with_held}
-use Rattle.protocol_laws.specs.Laws.{WasSent}
+use Rattle.protocol_laws.specs.Laws.{WasSent, RunFollows}
 use Rattle.protocol.proofs.Served.{request_each}
-use Rattle.protocol_laws.proofs.FirstViews.{group_first}
 use Rattle.protocol_laws.proofs.Books.{Books, IsCall}
 use Rattle.protocol_laws.proofs.Left.{Leaves, always_leaves, found_down, packet_was_sent}
 use Rattle.protocol_laws.proofs.BooksKept.{KeepsNumbers, cases_call, keeps_all, keeps_known, keeps_replica}
 use Rattle.protocol_laws.proofs.BooksQuiet.{quiet_world, started_calls, unstarted, started_known}
 use Rattle.protocol_laws.proofs.BooksEnds.{stopped_keeps, stopped_calls, unstopped_calls}
 use Rattle.protocol_laws.proofs.BooksBegins.{call_is, other_calls, same_boots, call_number, other_number, other_operations, knows}
-use Rattle.protocol_laws.proofs.BooksEvents.{keeps_put, stepped, known_grows, BeginFits, begin_fits, begin_up, KeepsCalls, found_keeps, books_found, start_fits, books_beside, books}
+use Rattle.protocol_laws.proofs.BooksEvents.{keeps_put, stepped, known_grows, BeginFits, begin_fits, begin_up, KeepsCalls, found_keeps, books_found, start_fits, books_beside, books, group_there, fits_at}
 use Rattle.protocol_laws.proofs.Outcomes.{first_round_above, once_full_fits}
 use Rattle.protocol_laws.proofs.Said.{Stamping, Said, IsSaid, CountedSays}
-use Rattle.protocol_laws.proofs.SaidAlways.{always_said}
+use Rattle.protocol_laws.proofs.SaidAlways.{always_said, follows_front}
 use Rattle.protocol_laws.proofs.OwnStamps.{orders_alone, in_round}
 use Rattle.protocol_laws.proofs.Counting.{each_then}
 use Rattle.protocol.proofs.CountsAt.{CountsAt, counts_facts}
@@ -41,7 +40,7 @@ use Rattle.protocol.proofs.Tables.{put_each, get_kept, get_grown, get_one}
 use Rattle.protocol_laws.proofs.Tallies.{CallTallied, Tallied, MessagesShow}
 use Rattle.protocol_laws.proofs.TalliesKept.{call_tallied_on, known_kept, tallied_on}
 use Rattle.protocol_laws.proofs.TalliesCounts.{tallied_counted}
-use Rattle.protocol.proofs.Events.{EventCases, world_handled, always_where}
+use Rattle.protocol.proofs.Events.{EventCases, world_handled, run_along}
 
 -- a step that changes no operation
 tallied_quiet : (setting : Setting) (w : World) (nodes : ℕ → Node) (held : ℕ → ℕ → ℕ → Stamp → Bool) (clocks : ℕ → ℕ) (packets : List Packet)
@@ -167,15 +166,15 @@ tallied_handled setting w number packet books tallied shows sent =
 -- an operation begins
 tallied_began : (setting : Setting) (w : World) (brick : BrickId) (now : ℕ) (ask : Ask) (fits : BeginFits setting ask) → w.up brick.0 ≡ true
     → Books setting w → Tallied w
-    → MessagesShow (world_began w brick ask (began_in setting brick (w.nodes brick.0) (new_coordinator fits.group brick now (w.nodes brick.0) ask)))
-    → Tallied (world_began w brick ask (began_in setting brick (w.nodes brick.0) (new_coordinator fits.group brick now (w.nodes brick.0) ask)))
+    → MessagesShow (world_began w brick ask (began_in setting brick (w.nodes brick.0) (new_coordinator (group_there (w.nodes brick.0) ask fits.group) brick now (w.nodes brick.0) ask)))
+    → Tallied (world_began w brick ask (began_in setting brick (w.nodes brick.0) (new_coordinator (group_there (w.nodes brick.0) ask fits.group) brick now (w.nodes brick.0) ask)))
 tallied_began setting w brick now ask fits up books tallied shows =
     let next : World = world_began w brick ask (began_in setting brick (w.nodes brick.0)
-    (new_coordinator fits.group brick now (w.nodes brick.0) ask)) in
+    (new_coordinator (group_there (w.nodes brick.0) ask fits.group) brick now (w.nodes brick.0) ask)) in
     let i : ℕ = brick.0 in
     let k : ℕ = (w.nodes brick.0).seq + 1 in
     let n : ℕ = w.begun + 1 in
-    let c : Coordinator = new_coordinator fits.group brick now (w.nodes brick.0) ask in
+    let c : Coordinator = new_coordinator (group_there (w.nodes brick.0) ask fits.group) brick now (w.nodes brick.0) ask in
     let new : CallTallied w.replies n c = record {
       now = ([], tallied.unbegun n 1 (omega arith), refl, refl);
       later = λ p above. tallied.unbegun n p (omega arith);
@@ -230,7 +229,7 @@ tallied_invoked setting w brick now ask books tallied may =
     let fits : BeginFits setting ask = begin_fits setting w brick ask may in
     subst (λ (found : Option Group). MessagesShow (world_began w brick ask (began setting brick now (w.nodes brick.0) ask found))
     → Tallied (world_began w brick ask (began setting brick now (w.nodes brick.0) ask found)))
-    (sym (group_first setting.layout (w.nodes brick.0) ask.group.0 (books.first brick.0) ∙ fits.group_is))
+    (sym (fits_at setting (w.nodes brick.0) ask fits))
     (tallied_began setting w brick now ask fits (begin_up setting w brick ask may) books tallied)
 
 -- a brick stops
@@ -360,12 +359,15 @@ messages_show setting views w stamps books said = record {
     at_call i k c is = (let seq : c.call.seq ≡ k = (books.calls i k c is).call_seq in subst (λ (l : ℕ). IsCall w i l c) (sym seq) is)
 
 -- the history of replies holds in every world that a run reaches
-pub tallied : (setting : Setting) (events : List Event) → IsSound setting → Tallied (run setting events (first_world setting.layout))
-tallied setting events sound =
-    always_where IsTalliedThere (λ w. Leaves setting w × Books setting w × MessagesShow w) setting
-    (λ more. (always_leaves setting more, books setting more, shows more)) (λ shown. tallied_first setting) (tallied_cases setting) events (shows events)
+pub tallied : (setting : Setting) (views : Views) (events : List Event) → IsSound setting → RunFollows setting views events
+    → Tallied (run setting events (first_world setting.layout))
+tallied setting views events sound follows =
+    run_along IsTalliedThere (λ w. Leaves setting w × Books setting w × MessagesShow w) setting (tallied_cases setting) events (first_world setting.layout)
+    (λ earlier later is. (always_leaves setting earlier, books setting earlier, shows earlier later is)) (λ shown. tallied_first setting)
+    (shows events [] (sym (append-nil events)))
   where
-    shows : (more : List Event) → MessagesShow (run setting more (first_world setting.layout))
-    shows more =
-        let said : IsSaid setting (layout_views setting.layout) (run setting more (first_world setting.layout)) = always_said setting (layout_views setting.layout) more sound (follows_layout setting more sound) in
-        messages_show setting (layout_views setting.layout) (run setting more (first_world setting.layout)) said.0 (books setting more) said.1
+    shows : (earlier later : List Event) → events ≡ earlier ++ later → MessagesShow (run setting earlier (first_world setting.layout))
+    shows earlier later is =
+        let said : IsSaid setting views (run setting earlier (first_world setting.layout))
+        = always_said setting views earlier sound (follows_front setting views events earlier later follows is) in
+        messages_show setting views (run setting earlier (first_world setting.layout)) said.0 (books setting earlier) said.1

@@ -1,7 +1,7 @@
 -- The stamp below which a brick takes nothing for a stripe: the greater of the floor of what it has learnt and accepted, and of its part's top.
-use Rattle.std.proofs.Common.{◌≡◌, ◌⊎◌, inl, inr, ℕ, ◌+◌, ◌≤◌, Bool, true, false, nat_lt, refl, sym, ap, ◌∙◌, subst, arith}
+use Rattle.std.proofs.Common.{◌≡◌, ◌⊎◌, inl, inr, ℕ, ◌+◌, ◌≤◌, Bool, true, false, nat_lt, refl, sym, ap, ◌∙◌, subst, arith, ◌<◌}
 use Rattle.std.specs.Prelude.{if◌then◌else◌}
-use Rattle.std.proofs.lemmas.Bool.{cond_both, false≢true}
+use Rattle.std.proofs.lemmas.Bool.{cond_both, false≢true, ltb-false}
 use Rattle.std.proofs.lemmas.Bool.Decides.{nat_tests}
 use Rattle.fab_base.specs.declared.stamps.Stamp.{Stamp}
 use Rattle.fab_base.specs.Stamps.{stamp_below, first_stamp}
@@ -92,3 +92,18 @@ time_rises a b view above = grind (arith, nat_tests)
 pub view_between : (b d t : Stamp) (e : ℕ) → view_of b ≡ e → view_of t ≡ e → stamp_below d b ≡ false → stamp_below d t ≡ true → view_of d ≡ e
 unfolding stamp_below
 view_between b d t e low high above below = grind (arith, nat_tests)
+
+-- a stamp of a view is below all of the views after it
+pub view_less : (a b : Stamp) → view_of a < view_of b → stamp_below a b ≡ true
+unfolding stamp_below
+view_less a b less = grind (arith, nat_tests)
+
+-- views are numbered from 1
+pub view_least : (t : Stamp) → 1 ≤ view_of t
+view_least t = omega arith
+
+-- and below the floor of the next
+pub floor_next : (t : Stamp) → stamp_below t (floor_of (view_of t + 1)) ≡ true
+floor_next t =
+    cond_both (nat_lt 1 (view_of t + 1)) (record { view = record { 0 = view_of t + 1 }; time = 0; brick = record { 0 = 0 }; boot = 0 }) first_stamp
+    (λ (z : Stamp). stamp_below t z ≡ true) (λ later. view_less t _ (omega arith)) (λ none. absurd (let most = ltb-false 1 (view_of t + 1) none in omega (arith, most)))

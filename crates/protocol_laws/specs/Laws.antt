@@ -1,5 +1,5 @@
 -- The laws of the disk, as they hold in every world that a run reaches. Quorums are counted by seat.
-use Rattle.std.specs.Prelude.{◌≡◌, ℕ, ◌+◌, ◌<◌, ◌≤◌, Bool, true, false, not, nat_eq, ◌&&◌, List, [], ◌++◌, length, map, ◌⊎◌, Option, Some, None, is_some, slice_get}
+use Rattle.std.specs.Prelude.{◌≡◌, ℕ, ◌+◌, ◌<◌, ◌≤◌, Bool, true, false, not, nat_eq, ◌&&◌, List, [], ◌++◌, length, map, ◌⊎◌, Option, Some, None, is_some, slice_get, ◌-◌}
 use Rattle.std.specs.List.{IsDistinct}
 use Rattle.fab_base.specs.declared.identities.BrickId.{BrickId}
 use Rattle.fab_base.specs.declared.stamps.Stamp.{Stamp}
@@ -25,7 +25,7 @@ use Rattle.reg_model.specs.Walk.{last_of}
 use Rattle.fab_base.specs.Layouts.{Layout, Group, group_of, seat_in, brick_at}
 use Rattle.quorum.specs.Quorums.{quorum_of, IsWithinLimits}
 use Rattle.protocol.specs.Settings.{Setting, IsSound}
-use Rattle.protocol.specs.Views.{Views, layout_views, view_of, floor_of, group_in}
+use Rattle.protocol.specs.Views.{Views, views_in, view_of, floor_of, group_in}
 use Rattle.protocol.specs.Replicas.{Replica, is_held}
 use Rattle.protocol.specs.declared.phases.Counted.{Counted}
 use Rattle.protocol.specs.declared.phases.Phase.TheVariants.{Bases}
@@ -56,11 +56,12 @@ abbrev pub IsGuarded : World → ℕ → ℕ → Group → Stamp → Type 0
 IsGuarded w g s group t = AtQuorum group (λ seat. not (stamp_below (top_in w g s (brick_at group seat)) t))
 
 -- A world follows an assignment of members to views: each of its lists is within the limits of its group's m, and distinct; what a brick has
--- learnt as its view is the assignment's; and where a brick has learnt a view, a quorum of each view before that takes nothing below the next.
+-- learnt as its view is the assignment's, and so are the members of the view before that; and where a brick has learnt a view, a quorum of each view before that takes nothing below the next.
 pub record Follows (layout : Layout) (views : Views) (w : World) : Type 0 where
   pub limits : (g e : ℕ) (group : Group) → group_in layout views g e ≡ Some group → IsWithinLimits group.m (length group.members)
   pub distinct : (g e : ℕ) (group : Group) → group_in layout views g e ≡ Some group → IsDistinct nat_eq (map (λ member. member.0) group.members)
   pub learnt : (i g : ℕ) → ((w.nodes i).learnt g).view.members ≡ views g (view_at (w.nodes i) g)
+  pub prior : (i g : ℕ) → 1 < view_at (w.nodes i) g → ((w.nodes i).learnt g).view.prior ≡ views g (view_at (w.nodes i) g - 1)
   pub passed : (i g e s : ℕ) (group : Group) → 1 ≤ e → e < view_at (w.nodes i) g → group_in layout views g e ≡ Some group
       → IsGuarded w g s group (floor_of (e + 1))
 
@@ -69,10 +70,11 @@ abbrev pub RunFollows : Setting → Views → List Event → Type 0
 RunFollows setting views events =
     (earlier later : List Event) → events ≡ earlier ++ later → Follows setting.layout views (run setting earlier (first_world setting.layout))
 
--- every run follows the layout's members
-abbrev pub EveryRunFollowsTheLayout : Type 0
-EveryRunFollowsTheLayout =
-    (setting : Setting) (events : List Event) → IsSound setting → RunFollows setting (layout_views setting.layout) events
+-- every run follows the members that its messages teach
+abbrev pub EveryRunFollowsItsViews : Type 0
+EveryRunFollowsItsViews =
+    (setting : Setting) (events : List Event) → IsSound setting
+    → RunFollows setting (views_in setting.layout (run setting events (first_world setting.layout)).packets) events
 
 -- a request was sent, under a call, to a brick
 abbrev pub RequestSent : World → Call → BrickId → BrickId → Request → Type 0

@@ -4,6 +4,6 @@
 pub mod laws;
 
 pub use laws::{
-    every_run_follows_the_layout, every_run_keeps_the_laws, no_event_lowers,
+    every_run_follows_its_views, every_run_keeps_the_laws, no_event_lowers,
     no_lost_version_surfaces,
 };

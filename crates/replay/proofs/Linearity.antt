@@ -4,7 +4,7 @@ use Rattle.std.specs.Prelude.{nat_lt}
 use Rattle.lines.specs.declared.forms.Line.{Line}
 use Rattle.lines.specs.Grammar.{line_of}
 use Rattle.fab_base.specs.Layouts.{Layout}
-use Rattle.protocol.specs.Views.{layout_views}
+use Rattle.protocol.specs.Views.{views_in}
 use Rattle.protocol.specs.Worlds.{World, first_world}
 use Rattle.protocol_laws.specs.Laws.{Laws}
 use Rattle.stripe_code.specs.Codes.{coding}
@@ -30,7 +30,7 @@ use Rattle.replay.proofs.Successions.{follows_steps}
 -- the world that steps leave is strict
 strict_world : (layout : Layout) → IsLayout layout → (steps : List Step) → IsStrictWorld layout (left_by layout steps)
 strict_world layout is steps =
-    let kept : Laws (coding layout) (layout_views layout) (left_by layout steps) =
+    let kept : Laws (coding layout) (views_in layout (left_by layout steps).packets) (left_by layout steps) =
     laws_of (record { layout = layout; steps = steps; disks = [] }) (coding_is_sound layout is) in
     record { well_formed = kept.well_formed; strict = kept.strict; aborts_show = kept.aborts; laws = kept }
 

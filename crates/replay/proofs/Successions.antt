@@ -1,11 +1,12 @@
 -- What further steps leave follows what the first ones left, since both are worlds of one run.
+use Rattle.protocol_laws.specs.Laws.{RunFollows}
 use Rattle.std.proofs.Common.{◌≡◌, List, [], ◌∷◌, ◌++◌, refl, sym, ap, ◌∙◌, subst, append_assoc}
 use Rattle.stripe_code.specs.Codes.{coding}
 use Rattle.fab_base.specs.Layouts.{Layout}
 use Rattle.protocol.specs.Settings.{IsSound}
-use Rattle.protocol.specs.Views.{layout_views, view_of}
+use Rattle.protocol.specs.Views.{views_in}
 use Rattle.protocol.specs.Worlds.{World, Event, first_world, run}
-use Rattle.protocol_laws.proofs.ViewLaws.{never_lowers, never_surfaces, follows_layout, layout_group}
+use Rattle.protocol_laws.proofs.ViewLaws.{never_lowers, never_surfaces, follows_its_views}
 use Rattle.world.specs.Runs.{Step, all_events}
 use Rattle.protocol.proofs.Events.{run-append}
 use Rattle.replay.specs.Histories.{Succeeds}
@@ -27,8 +28,9 @@ follows_events layout sound events more =
       adds_nothing_below = lowers.adds;
       orders_rise = lowers.orders;
       never_surfaces = λ g s group v here lost held.
-          never_surfaces (coding layout) (layout_views layout) events more g s group v sound (follows_layout (coding layout) (events ++ more) sound)
-          (layout_group layout g (view_of v) ∙ here) lost held;
+          never_surfaces (coding layout) (views_in layout (run (coding layout) more (run (coding layout) events (first_world layout))).packets) events more g s group v sound
+          (subst (λ (x : World). RunFollows (coding layout) (views_in layout x.packets) (events ++ more)) (run-append (coding layout) (first_world layout) events more)
+          (follows_its_views (coding layout) (events ++ more) sound)) here lost held;
     }
 
 -- what further steps leave follows what the first ones left

@@ -10,7 +10,7 @@ use Rattle.reg_model.specs.Strict.{IsStrict}
 use Rattle.lines.specs.Lines.{whole_lines, begun_line}
 use Rattle.lines.specs.Reading.{IsBegun}
 use Rattle.fab_base.specs.Layouts.{Layout, Group, group_of}
-use Rattle.protocol.specs.Views.{layout_views}
+use Rattle.protocol.specs.Views.{views_in}
 use Rattle.protocol.specs.Worlds.{World, first_world}
 use Rattle.protocol.specs.Happenings.{happenings_of}
 use Rattle.protocol_laws.specs.Laws.{AbortsShow, Laws}
@@ -64,13 +64,14 @@ Refuses old new status =
     ((status ≡ 2) × Appends old new usage_text) ⊎ (((status ≡ 6) ⊎ (status ≡ 7)) × AppendsFront old new usage_text)
 
 -- What lines left is strict: the marks are well formed, the happenings of each stripe are strict for its
--- marks, and every abort shows its evidence. Beside these all laws of the disk hold of it.
+-- marks, and every abort shows its evidence. Beside these all laws of the disk hold of it, for the members that its
+-- messages teach.
 pub record IsStrictWorld (layout : Layout) (world : World) : Type 0 where
   pub well_formed : IsWellFormed world.marks
   pub strict : (g s : ℕ) (group : Group) → group_of layout g ≡ Some group
       → IsStrict group.m layout.block (stripe_marks g s world.marks) (happenings_of world g s)
   pub aborts_show : AbortsShow world
-  pub laws : Laws (coding layout) (layout_views layout) world
+  pub laws : Laws (coding layout) (views_in layout world.packets) world
 
 -- What was printed is strict. The input has a layout and a schedule, and there is a step for each line of the schedule; the text is
 -- that of the steps and then the happenings of each stripe in the world that they leave, which is strict. Each

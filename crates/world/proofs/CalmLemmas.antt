@@ -1,4 +1,5 @@
 -- When an operation may run alone: as the bricks and the ledger tell.
+use Rattle.protocol_laws.proofs.FirstWorlds.{AreInFirst}
 use Rattle.std.proofs.Common.{◌≡◌, ◌≢◌, ℕ, zero, suc, ◌+◌, ◌<◌, ◌≤◌, Bool, true, false, not, cond, nat_eq, nat_lt, nat_le, ◌&&◌, ◌||◌, ◌-◌, ◌⊎◌, ⊎_elim, List, [], ◌∷◌, length, map, take, drop, take_all, get_or, Option, Some, None, is_some, refl, sym, ap, ◌∙◌, subst, arith}
 use Rattle.std.specs.Prelude.{slice_get, slice_index_or, filter}
 use Rattle.std.specs.Bool.{Decides}
@@ -222,8 +223,9 @@ pub record IsOpenAt (setting : Setting) (w : World) (n : ℕ) (c : Coordinator) 
   pub group : c.call.group ≡ c.ask.group
   pub numbers : (1 ≤ n) × (n ≤ w.begun)
 
-pub open_parts : (setting : Setting) (w : World) (n : ℕ) (c : Coordinator) → Books setting w → open_call w n ≡ Some c → IsOpenAt setting w n c
-open_parts setting w n c books is = by_operation (w.operations n) refl is
+pub open_parts : (setting : Setting) (w : World) (n : ℕ) (c : Coordinator) → Books setting w → AreInFirst setting w → open_call w n ≡ Some c
+    → IsOpenAt setting w n c
+open_parts setting w n c books first is = by_operation (w.operations n) refl is
   where
     by_operation : (found : Option Operation) → w.operations n ≡ found → open_at w found ≡ Some c → IsOpenAt setting w n c
     by_operation None none e = absurd (let never : None ≡ Some c = e in cc)
@@ -234,6 +236,7 @@ open_parts setting w n c books is = by_operation (w.operations n) refl is
         by_up true up true boot call =
             let its = books.operations n o at in
             let own = books.calls o.brick.0 o.seq c call in
+            let within = (first o.brick.0).calls o.seq c call in
             let same_boot : (w.nodes o.brick.0).boot ≡ o.boot = eqb-true (w.nodes o.brick.0).boot o.boot boot in
             let number : number_of w o.brick.0 o.seq ≡ n = ap (λ (b : ℕ). w.numbers o.brick.0 b o.seq) same_boot ∙ its.number in
             let same : own.operation ≡ o = same_Some own.operation o (sym own.operation_is ∙ ap w.operations number ∙ at) in
@@ -244,8 +247,8 @@ open_parts setting w n c books is = by_operation (w.operations n) refl is
               call = call;
               up = up;
               ask = ask;
-              group_is = ap (λ (a : Ask). group_of setting.layout a.group.0) (sym ask) ∙ own.group_is;
-              view = own.call_view;
+              group_is = ap (λ (a : Ask). group_of setting.layout a.group.0) (sym ask) ∙ within.group;
+              view = within.view;
               group = own.call_group;
               numbers = (its.from_one, its.begun);
             }
@@ -307,9 +310,9 @@ brick_there numbers k brick at = by_found (slice_get numbers k) refl (sym (slice
     by_found (Some number) is e = (number, is, same_Some (brick_of number) brick e)
 
 -- so it may where all of them hold, and only there
-pub calm_of : (layout : Layout) (w : World) (n : ℕ) (numbers : List ℕ) (c : Coordinator) → Books (coding layout) w → open_call w n ≡ Some c
+pub calm_of : (layout : Layout) (w : World) (n : ℕ) (numbers : List ℕ) (c : Coordinator) → AreInFirst (coding layout) w → open_call w n ≡ Some c
     → (at : IsOpenAt (coding layout) w n c) → CalmParts layout w n numbers at.operation c → IsCalm (coding layout) w n (map brick_of numbers)
-calm_of layout w n numbers c books opens at parts = record {
+calm_of layout w n numbers c first opens at parts = record {
   operation = at.operation;
   is = at.is;
   coordinator = c;
@@ -321,8 +324,8 @@ calm_of layout w n numbers c books opens at parts = record {
       let able = parts.able k there.0 there.1 in
       subst (λ (b : BrickId). IsReady (coding layout) w c b) there.2 (record {
         up = able.up;
-        view = view_first layout (w.nodes there.0) c.call.group.0 (books.first there.0) ∙ sym at.view;
-        serves = ap (λ (f : ℕ → Bool). f c.call.group.0) (books.first there.0).accepted;
+        view = view_first layout (w.nodes there.0) c.call.group.0 (first there.0).brick ∙ sym at.view;
+        serves = ap (λ (f : ℕ → Bool). f c.call.group.0) (first there.0).brick.accepted;
         room = able.room;
         times = able.times;
       }));
@@ -362,14 +365,14 @@ pub record Here (layout : Layout) (w : World) (n : ℕ) (origin : Origin) : Type
   pub noted : NotesOrigin w origin at.operation
   pub some : n ≢ 0
 
-pub open_here : (layout : Layout) (w : World) (n : ℕ) (ledger : Ledger) (origin : Origin) → Books (coding layout) w → AreOfBricks layout w → Notes ledger w
+pub open_here : (layout : Layout) (w : World) (n : ℕ) (ledger : Ledger) (origin : Origin) → Books (coding layout) w → AreInFirst (coding layout) w → AreOfBricks layout w → Notes ledger w
     → is_some (open_call w n) ≡ true → origin_at ledger.origins.items n ≡ Some origin → Here layout w n origin
-open_here layout w n ledger origin books there notes goes is = by_call (open_call w n) refl goes
+open_here layout w n ledger origin books first there notes goes is = by_call (open_call w n) refl goes
   where
     by_call : (found : Option Coordinator) → open_call w n ≡ found → is_some found ≡ true → Here layout w n origin
     by_call None none e = absurd (let never : false ≡ true = e in cc)
     by_call (Some c) opens e =
-        let at = open_parts (coding layout) w n c books opens in
+        let at = open_parts (coding layout) w n c books first opens in
         let its = noted_at w ledger n origin notes is in
         let same : its.0 ≡ at.operation = same_Some its.0 at.operation (sym its.1 ∙ at.is) in
         record {

@@ -14,7 +14,7 @@ use Rattle.protocol.specs.Coordinators.{Coordinator}
 use Rattle.protocol.specs.declared.tellings.Answered.{Answered}
 use Rattle.protocol.specs.declared.tellings.Told.{Told}
 use Rattle.protocol.specs.declared.tellings.Told.TheVariants.{Made, Seen}
-use Rattle.protocol.specs.Nodes.{Node, NodeStep, put, top_at, received, stopped, restarted, may_open, ticked}
+use Rattle.protocol.specs.Nodes.{Node, NodeStep, put, top_at, received, stopped, restarted, may_open, ticked, view_at}
 use Rattle.protocol.specs.Worlds.{World, Operation, Found, Before, After, Sets, Ticks, Stops, Starts, is_brick, is_up, may_start, number_of, world_began, world_told, world_tells, world_answered, world_answers, world_stepped, world_ticked, world_stopped, world_found, world_started, happens, packet_of, replies_with, reached_at, reached_during}
 use Rattle.protocol_laws.proofs.Books.{Books}
 use Rattle.world.specs.Ledgers.{Notes, NotesOrigin, IsFrom, EndsAs, EndsAt, ended_origin}
@@ -343,6 +343,7 @@ begun_operation w brick ask step =
       made = false;
       base = None;
       answered = false;
+      view = view_at (w.nodes brick.0) ask.group.0;
       floor = λ i. top_at (w.nodes i) ask.group.0 ask.stripe.0;
     }
 

@@ -48,6 +48,7 @@ operation_of kept =
       made = kept.made;
       base = kept.base;
       answered = kept.answered;
+      view = 1;
       floor = λ i. first_stamp;
     }
 

@@ -7,22 +7,22 @@ use Rattle.fab_base.specs.Layouts.{group_of}
 use Rattle.stripe_code.specs.Codes.{coding}
 use Rattle.protocol.specs.Worlds.{Operation}
 use Rattle.world.proofs.CalmLemmas.{open_parts}
-use Rattle.world.proofs.RunLaws.{reached_books}
+use Rattle.world.proofs.RunLaws.{reached_books, reached_first}
 use Rattle.world.proofs.simulations.Simulation.group_of.Goals as goal
 
 pub returns-then-operation-eq0 : goal.returns-then-operation-eq0
 returns-then-operation-eq0 c w reached shows k is =
-    let parts = open_parts (coding c.args.layout.now) w c.args.operation k (reached_books c.args.layout.now w reached) is in
+    let parts = open_parts (coding c.args.layout.now) w c.args.operation k (reached_books c.args.layout.now w reached) (reached_first c.args.layout.now w reached) is in
     absurd (omega (arith, parts.numbers.0, c.if-operation-eq0.true))
 
 pub returns-then-place-len : goal.returns-then-place-len
 returns-then-place-len c w reached shows k is =
-    let parts = open_parts (coding c.args.layout.now) w c.args.operation k (reached_books c.args.layout.now w reached) is in
+    let parts = open_parts (coding c.args.layout.now) w c.args.operation k (reached_books c.args.layout.now w reached) (reached_first c.args.layout.now w reached) is in
     absurd (omega (arith, parts.numbers.0, parts.numbers.1, shows.history.begun, c.len.ensures, c.args.self.now.history.operations.ok.0, c.if-place-len.true))
 
 pub returns : goal.returns
 returns c w reached shows k is =
-    let parts = open_parts (coding c.args.layout.now) w c.args.operation k (reached_books c.args.layout.now w reached) is in
+    let parts = open_parts (coding c.args.layout.now) w c.args.operation k (reached_books c.args.layout.now w reached) (reached_first c.args.layout.now w reached) is in
     let within : c.args.operation - 1 < length c.args.self.now.history.operations.items =
     omega (arith, parts.numbers.0, parts.numbers.1, shows.history.begun) in
     let at : slice_get c.args.self.now.history.operations.items (c.args.operation - 1) ≡ Some c.index-kept.result.now =

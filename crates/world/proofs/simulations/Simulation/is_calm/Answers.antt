@@ -13,7 +13,7 @@ use Rattle.quorum.specs.Quorums.{quorum_of}
 use Rattle.std.specs.List.{list_any}
 use Rattle.world.proofs.CalmLemmas.{calm_of, parts_of, open_here}
 use Rattle.world.proofs.CalmRuns.{untouched_as, touched_as}
-use Rattle.world.proofs.RunLaws.{reached_books, reached_bricks, reached_knows, reached_numbers}
+use Rattle.world.proofs.RunLaws.{reached_books, reached_bricks, reached_knows, reached_numbers, reached_first}
 use Rattle.world.proofs.simulations.Simulation.is_calm.Goals as goal
 
 -- what does not hold of an operation that may run alone decides against it
@@ -31,7 +31,7 @@ pub returns-then-not-are_distinct : goal.returns-then-not-are_distinct
 returns-then-not-are_distinct c w reached shows notes =
     let opened = c.in-Some.ensures c.args.layout.now w reached shows notes in
     let here = open_here c.args.layout.now w c.args.operation c.args.self.now.ledger c.in-Some.origin (reached_books c.args.layout.now w reached)
-    (reached_bricks c.args.layout.now w reached) notes opened.0 opened.1 in
+    (reached_first c.args.layout.now w reached) (reached_bricks c.args.layout.now w reached) notes opened.0 opened.1 in
     against _ c.are_distinct.result c.if-not-are_distinct.true
     (λ calm. c.are_distinct.ensures.1 (parts_of c.args.layout.now w c.args.operation c.args.bricks.now here.coordinator here.opens here.at here.up calm).distinct)
 
@@ -39,7 +39,7 @@ pub returns-then-members_among-quorum : goal.returns-then-members_among-quorum
 returns-then-members_among-quorum c w reached shows notes =
     let opened = c.in-Some.ensures c.args.layout.now w reached shows notes in
     let here = open_here c.args.layout.now w c.args.operation c.args.self.now.ledger c.in-Some.origin (reached_books c.args.layout.now w reached)
-    (reached_bricks c.args.layout.now w reached) notes opened.0 opened.1 in
+    (reached_first c.args.layout.now w reached) (reached_bricks c.args.layout.now w reached) notes opened.0 opened.1 in
     let group : c.in-Some-group_of.group.now ≡ here.coordinator.group =
     same_Some _ _ (c.in-Some-group_of.ensures w reached shows here.coordinator here.opens) in (
       λ on. absurd (let never : false ≡ true = on in cc),
@@ -54,7 +54,7 @@ pub returns-then-not-is_in_time : goal.returns-then-not-is_in_time
 returns-then-not-is_in_time c w reached shows notes =
     let opened = c.in-Some.ensures c.args.layout.now w reached shows notes in
     let here = open_here c.args.layout.now w c.args.operation c.args.self.now.ledger c.in-Some.origin (reached_books c.args.layout.now w reached)
-    (reached_bricks c.args.layout.now w reached) notes opened.0 opened.1 in
+    (reached_first c.args.layout.now w reached) (reached_bricks c.args.layout.now w reached) notes opened.0 opened.1 in
     let bricks : ShowsBricks c.args.layout.now c.deref.result.now w.nodes w.after w.up w.clocks =
     subst (λ (l : List Brick). ShowsBricks c.args.layout.now l w.nodes w.after w.up w.clocks) (sym c.deref.ensures.value) shows.bricks in
     against _ c.is_in_time.result c.if-not-is_in_time.true
@@ -66,7 +66,7 @@ pub returns-then-not-are_able : goal.returns-then-not-are_able
 returns-then-not-are_able c w reached shows notes =
     let opened = c.in-Some.ensures c.args.layout.now w reached shows notes in
     let here = open_here c.args.layout.now w c.args.operation c.args.self.now.ledger c.in-Some.origin (reached_books c.args.layout.now w reached)
-    (reached_bricks c.args.layout.now w reached) notes opened.0 opened.1 in
+    (reached_first c.args.layout.now w reached) (reached_bricks c.args.layout.now w reached) notes opened.0 opened.1 in
     let bricks : ShowsBricks c.args.layout.now c.deref-2.result.now w.nodes w.after w.up w.clocks =
     subst (λ (l : List Brick). ShowsBricks c.args.layout.now l w.nodes w.after w.up w.clocks) (sym c.deref-2.ensures.value) shows.bricks in
     against _ c.are_able.result c.if-not-are_able.true
@@ -77,7 +77,7 @@ pub returns : goal.returns
 returns c w reached shows notes =
     let opened = c.in-Some.ensures c.args.layout.now w reached shows notes in
     let here = open_here c.args.layout.now w c.args.operation c.args.self.now.ledger c.in-Some.origin (reached_books c.args.layout.now w reached)
-    (reached_bricks c.args.layout.now w reached) notes opened.0 opened.1 in
+    (reached_first c.args.layout.now w reached) (reached_bricks c.args.layout.now w reached) notes opened.0 opened.1 in
     let group : c.in-Some-group_of.group.now ≡ here.coordinator.group =
     same_Some _ _ (c.in-Some-group_of.ensures w reached shows here.coordinator here.opens) in
     let first : ShowsBricks c.args.layout.now c.deref.result.now w.nodes w.after w.up w.clocks =
@@ -85,7 +85,7 @@ returns c w reached shows notes =
     let second : ShowsBricks c.args.layout.now c.deref-2.result.now w.nodes w.after w.up w.clocks =
     subst (λ (l : List Brick). ShowsBricks c.args.layout.now l w.nodes w.after w.up w.clocks) (sym c.deref-2.ensures.value) shows.bricks in
     let sent : c.deref-3.result.now ≡ w.packets = c.deref-3.ensures.value ∙ shows.history.packets in (
-      λ on. calm_of c.args.layout.now w c.args.operation c.args.bricks.now here.coordinator (reached_books c.args.layout.now w reached) here.opens here.at
+      λ on. calm_of c.args.layout.now w c.args.operation c.args.bricks.now here.coordinator (reached_first c.args.layout.now w reached) here.opens here.at
           (record {
             distinct = c.are_distinct.ensures.0 c.if-not-are_distinct.false;
             members = subst (λ (g : Group). quorum_of g ≤ length (filter (λ number. list_any (λ member. nat_eq member.0 number) g.members) c.args.bricks.now))

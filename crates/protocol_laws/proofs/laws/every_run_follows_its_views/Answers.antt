@@ -1,0 +1,6 @@
+-- Every run follows its views.
+use Rattle.protocol_laws.proofs.ViewLaws.{follows_its_views}
+use Rattle.protocol_laws.proofs.laws.every_run_follows_its_views.Goals as goal
+
+pub returns : goal.returns
+returns c = follows_its_views
