@@ -1,4 +1,5 @@
 -- What is known of the world in which an operation begins to run alone holds in every world that a run reaches.
+use Rattle.protocol_laws.specs.Laws.{part_in}
 use Rattle.protocol_laws.proofs.Reactions.{top_is, top_is_order}
 use Rattle.protocol_laws.proofs.StampViews.{StampViews, PartIsOf, always_views}
 use Rattle.protocol_laws.proofs.FirstWorlds.{AreInFirst, always_in_first}
@@ -36,7 +37,6 @@ use Rattle.protocol_laws.proofs.Logs.{IsKept, IsUnder, held_stands, nothing_kept
 use Rattle.protocol_laws.proofs.Said.{Stamping, Said, Stands, WasCollected, IsMadeOrFirst, IsStamped, IsBottom}
 use Rattle.protocol_laws.proofs.SaidAlways.{always_said}
 use Rattle.protocol_laws.proofs.OwnStamps.{not_made_yet}
-use Rattle.protocol_laws.proofs.Parts.{part_of}
 use Rattle.calm_laws.specs.Laws.{EncodesBlocks, CalmOperationsEnd, most_records}
 use Rattle.calm_laws.proofs.Known.{Known, KnownCall, KnownMessages, KnownLogs, repeated}
 use Rattle.calm_laws.proofs.Fresh.{IsFresh, IsNumbered, IsOpenAt, opens_at}
@@ -121,7 +121,7 @@ module _ (setting : Setting) (sound : IsSound setting) (encodes : EncodesBlocks 
   }
 
   -- its stripe's part at a brick
-  part : (i : ℕ) → replica_at (w.nodes i) c.call ≡ part_of w c.call.group.0 c.call.stripe.0 i
+  part : (i : ℕ) → replica_at (w.nodes i) c.call ≡ part_in w c.call.group.0 1 c.call.stripe.0 i
   part i = ap (λ (e : ℕ). (w.nodes i).replicas c.call.group.0 e c.call.stripe.0) view
 
   -- the lowest version of a log, where it has one
@@ -130,7 +130,7 @@ module _ (setting : Setting) (sound : IsSound setting) (encodes : EncodesBlocks 
   lowest_of (x ∷ log) = x.stamp
 
   abbrev lowest : ℕ → Stamp
-  lowest i = lowest_of (part_of w c.call.group.0 c.call.stripe.0 i).log
+  lowest i = lowest_of (part_in w c.call.group.0 1 c.call.stripe.0 i).log
 
   -- a collected version stands
   collected_stands : (s : Stamp) → WasCollected w c.call.group.0 c.call.stripe.0 s
@@ -147,9 +147,9 @@ module _ (setting : Setting) (sound : IsSound setting) (encodes : EncodesBlocks 
 
   lowest_stands : (i : ℕ) → (lowest i ≡ first_stamp)
       ⊎ (quorum_of c.group ≤ count (length c.group.members) (λ seat. w.held (brick_at c.group seat) c.call.group.0 c.call.stripe.0 (lowest i)))
-  lowest_stands i = by (part_of w c.call.group.0 c.call.stripe.0 i).log refl
+  lowest_stands i = by (part_in w c.call.group.0 1 c.call.stripe.0 i).log refl
     where
-      by : (log : List Version) → (part_of w c.call.group.0 c.call.stripe.0 i).log ≡ log → (lowest_of log ≡ first_stamp)
+      by : (log : List Version) → (part_in w c.call.group.0 1 c.call.stripe.0 i).log ≡ log → (lowest_of log ≡ first_stamp)
           ⊎ (quorum_of c.group ≤ count (length c.group.members) (λ seat. w.held (brick_at c.group seat) c.call.group.0 c.call.stripe.0 (lowest_of log)))
       by [] none = inl refl
       by (x ∷ log) some = ⊎_elim
@@ -177,13 +177,13 @@ module _ (setting : Setting) (sound : IsSound setting) (encodes : EncodesBlocks 
     stands = lowest_stands;
     first_held = λ i. said.first_held c.call.group.0 c.call.stripe.0 i;
     logged = λ i t held. ⊎_elim
-        (λ (there : is_held t (part_of w c.call.group.0 c.call.stripe.0 i).log ≡ true).
+        (λ (there : is_held t (part_in w c.call.group.0 1 c.call.stripe.0 i).log ≡ true).
         inl (subst (λ (r : Replica). is_held t r.log ≡ true) (sym (part i)) there))
-        (λ (under : IsUnder t (part_of w c.call.group.0 c.call.stripe.0 i).log). inr (below t (part_of w c.call.group.0 c.call.stripe.0 i).log under))
+        (λ (under : IsUnder t (part_in w c.call.group.0 1 c.call.stripe.0 i).log). inr (below t (part_in w c.call.group.0 1 c.call.stripe.0 i).log under))
         (was_kept w said.logged c.call.group.0 1 c.call.stripe.0 i t (held_view i t held) held);
     top_view = λ i.
         subst (λ (r : Replica). (top_of r).view.0 ≤ 1) (sym (part i))
-        (part_most (part_of w c.call.group.0 c.call.stripe.0 i) ((in_views.nodes i).parts c.call.group.0 1 c.call.stripe.0));
+        (part_most (part_in w c.call.group.0 1 c.call.stripe.0 i) ((in_views.nodes i).parts c.call.group.0 1 c.call.stripe.0));
     unheld = λ i. ⊎_elim
         (λ (held : is_held c.stamp (replica_at (w.nodes i) c.call).log ≡ true). absurd (not_yet i (subst (λ (r : Replica). is_held c.stamp r.log ≡ true) (part i) held)))
         (λ (isnt : is_held c.stamp (replica_at (w.nodes i) c.call).log ≡ false). isnt)
@@ -194,9 +194,9 @@ module _ (setting : Setting) (sound : IsSound setting) (encodes : EncodesBlocks 
         (layout_group setting.layout c.call.group.0 1 ∙ call_group) seat_is)
         ∙ encodes c.group.m (w.contents c.call.group.0 c.call.stripe.0 version.stamp) seat;
     short = λ i.
-        let inside : length (part_of w c.call.group.0 c.call.stripe.0 i).log ≤ (w.nodes i).live + 1
+        let inside : length (part_in w c.call.group.0 1 c.call.stripe.0 i).log ≤ (w.nodes i).live + 1
         = log_within setting.layout (w.nodes i) c.call.group.0 c.call.stripe.0 c.group (counts i) call_group stripe_within in
-        let same_long : length (replica_at (w.nodes i) c.call).log ≡ length (part_of w c.call.group.0 c.call.stripe.0 i).log
+        let same_long : length (replica_at (w.nodes i) c.call).log ≡ length (part_in w c.call.group.0 1 c.call.stripe.0 i).log
         = ap (λ (r : Replica). length r.log) (part i) in
         let most = (counts i).most in
         omega (arith, inside, same_long, small, most);
@@ -229,9 +229,9 @@ module _ (setting : Setting) (sound : IsSound setting) (encodes : EncodesBlocks 
           (subst (λ (z : Group). o.ask.stripe.0 < z.stripes) group_same its_books.stripe))
 
       -- no version has the operation's stamp yet
-      not_yet : (i : ℕ) → is_held c.stamp (part_of w c.call.group.0 c.call.stripe.0 i).log ≡ true → ⊥
+      not_yet : (i : ℕ) → is_held c.stamp (part_in w c.call.group.0 1 c.call.stripe.0 i).log ≡ true → ⊥
       not_yet i held =
-          let place = held_stands c.stamp (part_of w c.call.group.0 c.call.stripe.0 i).log held in
+          let place = held_stands c.stamp (part_in w c.call.group.0 1 c.call.stripe.0 i).log held in
           let made : IsMadeOrFirst w c.call.group.0 c.call.stripe.0 c.stamp
           = subst (λ (t : Stamp). IsMadeOrFirst w c.call.group.0 c.call.stripe.0 t) place.3
           (said.logs c.call.group.0 1 c.call.stripe.0 i place.0 place.1 place.2).made in

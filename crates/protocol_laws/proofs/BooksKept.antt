@@ -3,12 +3,10 @@ use Rattle.std.proofs.Common.{◌≡◌, ◌≢◌, ℕ, ◌≤◌, ◌⊎◌, i
 use Rattle.std.proofs.lemmas.Option.{same_Some}
 use Rattle.std.proofs.lemmas.Bool.{cases_eq}
 use Rattle.reg_model.specs.Marks.{Life, life_of, IsOpen}
-use Rattle.fab_base.specs.Layouts.{Layout}
 use Rattle.protocol.specs.Settings.{Setting}
 use Rattle.protocol.specs.Coordinators.{Coordinator}
 use Rattle.protocol.specs.Nodes.{Node, view_at, with_known, with_call, with_replica}
 use Rattle.protocol.specs.Worlds.{World, Operation, number_of}
-use Rattle.protocol_laws.proofs.FirstViews.{IsInFirst, view_first}
 use Rattle.protocol_laws.proofs.Books.{OperationBooks, CallBooks, IsOperation, IsCall}
 use Rattle.reg_model.proofs.GrowingLives.{Stays, LifeStays, EndingStays-answered, EndingStays-answered_before, EndingStays-open, EndingStays-open_before}
 use Rattle.protocol.proofs.Served.{parts_each}
@@ -149,17 +147,6 @@ pub keeps_with_call : (node : Node) (known busy seq : ℕ) (call : Option Coordi
     → KeepsNumbers node (with_call node known busy seq call)
 keeps_with_call node known busy seq call grows =
     record { boot = refl; seq = refl; learnt = refl; accepted = refl; parts = λ g e s. inl refl; known = grows }
-
--- such a brick goes on in view 1
-pub first_kept : (layout : Layout) (node later : Node) → KeepsNumbers node later → IsInFirst layout node → IsInFirst layout later
-first_kept layout node later keeps first = record {
-  learnt = keeps.learnt ∙ first.learnt;
-  accepted = keeps.accepted ∙ first.accepted;
-  others = λ g e s other. ⊎_elim
-      (λ (same : later.replicas g e s ≡ node.replicas g e s). same ∙ first.others g e s other)
-      (λ (is : e ≡ view_at node g). absurd (other (is ∙ view_first layout node g first)))
-      (keeps.parts g e s);
-}
 
 -- a part that changes is of the view that its brick has learnt
 pub keeps_replica : (node : Node) (call : Call) (reaction : Reaction) → call.view.0 ≡ view_at node call.group.0

@@ -1,13 +1,11 @@
--- View 1 is the only one that bricks learn, and all stamps that they make are of it.
-use Rattle.std.proofs.Common.{◌≡◌, ◌≢◌, ℕ, ◌≤◌, Bool, true, false, [], Option, Some, None, max, refl, ap, ◌∙◌, arith}
+-- A brick that has learnt view 1 of each group, and no other.
+use Rattle.std.proofs.Common.{◌≡◌, ◌≢◌, ℕ, Bool, false, [], Option, Some, None, refl, ap, ◌∙◌}
 use Rattle.std.specs.Prelude.{if◌then◌else◌}
 use Rattle.std.specs.Option.{option_map}
 use Rattle.std.proofs.lemmas.Bool.{ne_eqb}
-use Rattle.std.proofs.lemmas.Bool.Decides.{nat_tests}
-use Rattle.fab_base.specs.declared.stamps.Stamp.{Stamp}
-use Rattle.fab_base.specs.Stamps.{stamp_below, first_stamp}
+use Rattle.fab_base.specs.Stamps.{first_stamp}
 use Rattle.fab_base.specs.Layouts.{Layout, Group, group_of}
-use Rattle.protocol.specs.Views.{Learnt, view_of, first_learnt, members_of, kept_by, group_kept}
+use Rattle.protocol.specs.Views.{Learnt, first_learnt, members_of, kept_by, group_kept}
 use Rattle.protocol.specs.Replicas.{Replica, first_replica, fresh_replica}
 use Rattle.protocol.specs.Nodes.{Node, view_at, group_at}
 
@@ -34,15 +32,6 @@ group_first layout node g first =
 -- in view 1
 pub view_first : (layout : Layout) (node : Node) (g : ℕ) → IsInFirst layout node → view_at node g ≡ 1
 view_first layout node g first = ap (λ (f : ℕ → Learnt). (f g).view.number.0) first.learnt
-
--- a stamp of view 1
-pub view_is : (t : Stamp) → t.view.0 ≡ 1 → view_of t ≡ 1
-view_is t view = ap (λ (v : ℕ). max v 1) view
-
--- what is below a stamp of view 1 is of view 1
-pub view_below : (d t : Stamp) → t.view.0 ≤ 1 → stamp_below d t ≡ true → view_of d ≡ 1
-unfolding stamp_below
-view_below d t view below = grind (arith, nat_tests)
 
 -- a part of another view than 1 keeps no version
 pub others_empty : (layout : Layout) (node : Node) (g e s : ℕ) → IsInFirst layout node → e ≢ 1 → (node.replicas g e s).log ≡ []

@@ -1,5 +1,5 @@
 -- No brick learns another view than 1, and every open operation runs in it.
-use Rattle.std.proofs.Common.{◌≡◌, ℕ, List, Option, Some, None, refl, sym, ap, ◌∙◌, subst, ◌+◌}
+use Rattle.std.proofs.Common.{◌≡◌, ℕ, List, Option, Some, None, refl, sym, ap, ◌∙◌, subst, ◌+◌, ⊎_elim}
 use Rattle.std.proofs.lemmas.Option.{same_Some}
 use Rattle.fab_base.specs.declared.identities.BrickId.{BrickId}
 use Rattle.fab_base.specs.declared.identities.ViewNo.{ViewNo}
@@ -11,13 +11,13 @@ use Rattle.messages.specs.declared.packets.Message.{Message}
 use Rattle.messages.specs.declared.replies.Reply.{Reply}
 use Rattle.protocol.specs.Settings.{Setting}
 use Rattle.protocol.specs.Coordinators.{Coordinator, Next, Ignores, Waits, Sends, Makes, Ends, counts_at, counted_at, once_full, on_reply, with_reply}
-use Rattle.protocol.specs.Nodes.{Node, put, new_coordinator, began, invoked, known_after, with_call, carried_out, fresh_stamp, group_at, replied_at, replied, received, stopped, restarted, requested}
+use Rattle.protocol.specs.Nodes.{Node, put, new_coordinator, began, invoked, known_after, with_call, carried_out, fresh_stamp, group_at, replied_at, replied, received, stopped, restarted, requested, view_at}
 use Rattle.protocol.specs.Worlds.{World, Event, first_world, world_found, run}
 use Rattle.protocol.proofs.Events.{EventCases, step_on, always_where}
 use Rattle.protocol.proofs.Tables.{put_each}
 use Rattle.protocol_laws.proofs.FirstViews.{IsInFirst, group_first, view_first}
 use Rattle.protocol_laws.proofs.Left.{Leaves, always_leaves}
-use Rattle.protocol_laws.proofs.BooksKept.{first_kept}
+use Rattle.protocol_laws.proofs.BooksKept.{KeepsNumbers}
 use Rattle.protocol_laws.proofs.BooksEvents.{KeepsCalls, requested_keeps, found_keeps, start_fits}
 use Rattle.protocol_laws.proofs.Outcomes.{SameOperation, NextFits, once_full_fits}
 
@@ -35,7 +35,18 @@ pub record NodeInFirst (layout : Layout) (node : Node) : Type 0 where
 abbrev pub AreInFirst : Setting → World → Type 0
 AreInFirst setting w = (i : ℕ) → NodeInFirst setting.layout (w.nodes i)
 
--- a brick that keeps its views and its calls
+-- such a brick goes on in view 1
+first_kept : (layout : Layout) (node later : Node) → KeepsNumbers node later → IsInFirst layout node → IsInFirst layout later
+first_kept layout node later keeps first = record {
+  learnt = keeps.learnt ∙ first.learnt;
+  accepted = keeps.accepted ∙ first.accepted;
+  others = λ g e s other. ⊎_elim
+      (λ (same : later.replicas g e s ≡ node.replicas g e s). same ∙ first.others g e s other)
+      (λ (is : e ≡ view_at node g). absurd (other (is ∙ view_first layout node g first)))
+      (keeps.parts g e s);
+}
+
+-- so does one that keeps its calls
 kept_first : (layout : Layout) (node later : Node) → KeepsCalls node later → NodeInFirst layout node → NodeInFirst layout later
 kept_first layout node later keeps has =
     record { brick = first_kept layout node later keeps.0 has.brick; calls = λ k c is. has.calls k c (sym (keeps.1 k) ∙ is) }

@@ -27,7 +27,6 @@ pub mod Numbers
 pub mod Operated
 pub mod Outcomes
 pub mod OwnStamps
-pub mod Parts
 pub mod QuorumFacts
 pub mod Reactions
 pub mod Recoveries

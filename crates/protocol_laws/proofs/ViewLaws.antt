@@ -200,12 +200,6 @@ follows_its_views setting events sound earlier later is =
     same_follows setting.layout (layout_views setting.layout) (views_in setting.layout (run setting events (first_world setting.layout)).packets)
     (run setting earlier (first_world setting.layout)) (views_are setting events) (follows_layout setting events sound earlier later is)
 
--- a group is kept by the layout's members in the views that a run's messages teach
-pub taught_group : (setting : Setting) (events : List Event) (g e : ℕ)
-    → group_in setting.layout (views_in setting.layout (run setting events (first_world setting.layout)).packets) g e ≡ group_of setting.layout g
-taught_group setting events g e =
-    ap (λ (members : List BrickId). group_kept setting.layout members g) (views_are setting events g e) ∙ own_members (group_of setting.layout g)
-
 -- the layout's members keep a group in every view
 pub layout_group : (layout : Layout) (g e : ℕ) → group_in layout (layout_views layout) g e ≡ group_of layout g
 layout_group layout g e = own_members (group_of layout g)
