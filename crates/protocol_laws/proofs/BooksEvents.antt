@@ -45,40 +45,41 @@ keeps_put w i node keeps j =
     put_each (λ (x : ℕ) (y : Node). KeepsNumbers (w.nodes x) y) w.nodes i node keeps
     (λ x other. keeps_all (w.nodes x)) j
 
--- the world after a brick's step, with these counted replies
-abbrev pub stepped : Setting → World → Replies → BrickId → NodeStep → World
-stepped setting w replies brick step = world_stepped setting (record w { replies = replies }) brick step
+module _ (setting : Setting) (w : World) where
+  -- the world after a brick's step, with these counted replies
+  abbrev pub stepped : Replies → BrickId → NodeStep → World
+  stepped replies brick step = world_stepped setting (record w { replies = replies }) brick step
 
--- a step that tells nothing and keeps a brick's calls and numbers keeps the books
-books_nothing : (setting : Setting) (w : World) (replies : Replies) (brick : BrickId) (node : Node) (packets : List Packet) → Books setting w
-    → KeepsNumbers (w.nodes brick.0) node → ((l : ℕ) → node.calls l ≡ (w.nodes brick.0).calls l)
-    → Books setting (stepped setting w replies brick (sending node packets))
-books_nothing setting w replies brick node packets books keeps calls =
-    books_quiet setting w (put w.nodes brick.0 node) (with_held w.held brick.0 node) w.clocks (w.packets ++ packets) replies w.reached books (keeps_put w brick.0 node keeps)
-    (λ j l. put_each (λ (x : ℕ) (y : Node). y.calls l ≡ (w.nodes x).calls l) w.nodes brick.0 node (calls l) (λ x other. refl) j)
+  -- a step that tells nothing and keeps a brick's calls and numbers keeps the books
+  books_nothing : (replies : Replies) (brick : BrickId) (node : Node) (packets : List Packet) → Books setting w
+      → KeepsNumbers (w.nodes brick.0) node → ((l : ℕ) → node.calls l ≡ (w.nodes brick.0).calls l)
+      → Books setting (stepped replies brick (sending node packets))
+  books_nothing replies brick node packets books keeps calls =
+      books_quiet setting w (put w.nodes brick.0 node) (with_held w.held brick.0 node) w.clocks (w.packets ++ packets) replies w.reached books (keeps_put w brick.0 node keeps)
+      (λ j l. put_each (λ (x : ℕ) (y : Node). y.calls l ≡ (w.nodes x).calls l) w.nodes brick.0 node (calls l) (λ x other. refl) j)
 
--- a brick that changes nothing
-books_no_step : (setting : Setting) (w : World) (replies : Replies) (brick : BrickId) → Books setting w
-    → Books setting (stepped setting w replies brick (no_step (w.nodes brick.0)))
-books_no_step setting w replies brick books =
-    books_nothing setting w replies brick (w.nodes brick.0) [] books (keeps_all (w.nodes brick.0)) (λ l. refl)
+  -- a brick that changes nothing
+  books_no_step : (replies : Replies) (brick : BrickId) → Books setting w
+      → Books setting (stepped replies brick (no_step (w.nodes brick.0)))
+  books_no_step replies brick books =
+      books_nothing replies brick (w.nodes brick.0) [] books (keeps_all (w.nodes brick.0)) (λ l. refl)
 
--- a brick that learns of a time
-books_known : (setting : Setting) (w : World) (replies : Replies) (brick : BrickId) (known : ℕ) → Books setting w → (w.nodes brick.0).known ≤ known
-    → Books setting (stepped setting w replies brick (no_step (with_known (w.nodes brick.0) known)))
-books_known setting w replies brick known books grows =
-    books_nothing setting w replies brick (with_known (w.nodes brick.0) known) [] books (keeps_known (w.nodes brick.0) known grows) (λ l. refl)
+  -- a brick that learns of a time
+  books_known : (replies : Replies) (brick : BrickId) (known : ℕ) → Books setting w → (w.nodes brick.0).known ≤ known
+      → Books setting (stepped replies brick (no_step (with_known (w.nodes brick.0) known)))
+  books_known replies brick known books grows =
+      books_nothing replies brick (with_known (w.nodes brick.0) known) [] books (keeps_known (w.nodes brick.0) known grows) (λ l. refl)
 
--- a request
-books_requested : (setting : Setting) (w : World) (replies : Replies) (me from : BrickId) (call : Call) (request : Request) → Books setting w
-    → Books setting (stepped setting w replies me (requested setting me from (w.nodes me.0) call request))
-books_requested setting w replies me from call request books =
-    request_each (λ (step : NodeStep). Books setting (stepped setting w replies me step)) setting me from (w.nodes me.0) call request
-    (books_no_step setting w replies me books)
-    (λ group seat here at view.
-    let reaction = handle setting.code group.m (full_at setting.layout.records (w.nodes me.0).live) seat (replica_at (w.nodes me.0) call) request in
-    books_nothing setting w replies me (with_replica (w.nodes me.0) call reaction) (reply_packets me from call reaction.reply) books
-    (keeps_replica (w.nodes me.0) call reaction view) (λ l. refl))
+  -- a request
+  books_requested : (replies : Replies) (me from : BrickId) (call : Call) (request : Request) → Books setting w
+      → Books setting (stepped replies me (requested setting me from (w.nodes me.0) call request))
+  books_requested replies me from call request books =
+      request_each (λ (step : NodeStep). Books setting (stepped replies me step)) setting me from (w.nodes me.0) call request
+      (books_no_step replies me books)
+      (λ group seat here at view.
+      let reaction = handle setting.code group.m (full_at setting.layout.records (w.nodes me.0).live) seat (replica_at (w.nodes me.0) call) request in
+      books_nothing replies me (with_replica (w.nodes me.0) call reaction) (reply_packets me from call reaction.reply) books
+      (keeps_replica (w.nodes me.0) call reaction view) (λ l. refl))
 
 -- what an operation made is of its stamp and on its base, whatever else its coordinator holds
 made_same : (c d : Coordinator) (o : Operation) (p q : Phase) → d.stamp ≡ c.stamp → d.base ≡ c.base → q ≡ p → MadeInPhase c o p → MadeInPhase d o q
@@ -467,53 +468,54 @@ pub known_grows : (known : ℕ) (reply : Reply) → known ≤ known_after known 
 known_grows known (Reply.Later t) = omega arith
 known_grows known reply = omega arith
 
--- a reply
-books_counted_at : (setting : Setting) (w : World) (replies : Replies) (me : BrickId) (now : ℕ) (from : BrickId) (reply : Reply) (c : Coordinator)
-    (seat : Option ℕ) → Books setting w → IsCall w me.0 c.call.seq c
-    → (let known = known_after (w.nodes me.0).known reply in
-    Books setting (stepped setting w replies me (carried_out setting me (w.nodes me.0) known c
-    (counted_at setting.layout.block setting.code (fresh_stamp me c.call.view now (w.nodes me.0).boot known) c from reply seat))))
-books_counted_at setting w replies me now from reply c None books is_call =
-    books_known setting w replies me (known_after (w.nodes me.0).known reply) books (known_grows (w.nodes me.0).known reply)
-books_counted_at setting w replies me now from reply c (Some seat) books is_call =
-    let known = known_after (w.nodes me.0).known reply in
-    let fresh = fresh_stamp me c.call.view now (w.nodes me.0).boot known in
-    books_carried_out setting w replies me now known c (with_reply c seat from reply).counted books is_call
-    (known_grows (w.nodes me.0).known reply)
-    (once_full setting.layout.block setting.code fresh (with_reply c seat from reply))
-    (once_full_fits setting.layout.block setting.code fresh (with_reply c seat from reply))
+module _ (setting : Setting) (w : World) where
+  -- a reply
+  books_counted_at : (replies : Replies) (me : BrickId) (now : ℕ) (from : BrickId) (reply : Reply) (c : Coordinator)
+      (seat : Option ℕ) → Books setting w → IsCall w me.0 c.call.seq c
+      → (let known = known_after (w.nodes me.0).known reply in
+      Books setting (stepped setting w replies me (carried_out setting me (w.nodes me.0) known c
+      (counted_at setting.layout.block setting.code (fresh_stamp me c.call.view now (w.nodes me.0).boot known) c from reply seat))))
+  books_counted_at replies me now from reply c None books is_call =
+      books_known setting w replies me (known_after (w.nodes me.0).known reply) books (known_grows (w.nodes me.0).known reply)
+  books_counted_at replies me now from reply c (Some seat) books is_call =
+      let known = known_after (w.nodes me.0).known reply in
+      let fresh = fresh_stamp me c.call.view now (w.nodes me.0).boot known in
+      books_carried_out setting w replies me now known c (with_reply c seat from reply).counted books is_call
+      (known_grows (w.nodes me.0).known reply)
+      (once_full setting.layout.block setting.code fresh (with_reply c seat from reply))
+      (once_full_fits setting.layout.block setting.code fresh (with_reply c seat from reply))
 
-books_replied_at : (setting : Setting) (w : World) (replies : Replies) (me : BrickId) (now : ℕ) (from : BrickId) (call : Call) (reply : Reply)
-    (found : Option Coordinator) → Books setting w → (w.nodes me.0).calls call.seq ≡ found
-    → Books setting (stepped setting w replies me (replied_at setting me now from (w.nodes me.0) call reply found))
-unfolding on_reply
-books_replied_at setting w replies me now from call reply None books is =
-    books_known setting w replies me (known_after (w.nodes me.0).known reply) books (known_grows (w.nodes me.0).known reply)
-books_replied_at setting w replies me now from call reply (Some c) books is =
-    let seq : c.call.seq ≡ call.seq = (books.calls me.0 call.seq c is).call_seq in
-    books_counted_at setting w replies me now from reply c (counts_at setting.layout.block c from.0 call reply) books
-    (subst (λ (l : ℕ). IsCall w me.0 l c) (sym seq) is)
+  books_replied_at : (replies : Replies) (me : BrickId) (now : ℕ) (from : BrickId) (call : Call) (reply : Reply)
+      (found : Option Coordinator) → Books setting w → (w.nodes me.0).calls call.seq ≡ found
+      → Books setting (stepped setting w replies me (replied_at setting me now from (w.nodes me.0) call reply found))
+  unfolding on_reply
+  books_replied_at replies me now from call reply None books is =
+      books_known setting w replies me (known_after (w.nodes me.0).known reply) books (known_grows (w.nodes me.0).known reply)
+  books_replied_at replies me now from call reply (Some c) books is =
+      let seq : c.call.seq ≡ call.seq = (books.calls me.0 call.seq c is).call_seq in
+      books_counted_at replies me now from reply c (counts_at setting.layout.block c from.0 call reply) books
+      (subst (λ (l : ℕ). IsCall w me.0 l c) (sym seq) is)
 
-books_replied : (setting : Setting) (w : World) (replies : Replies) (me : BrickId) (now : ℕ) (from : BrickId) (call : Call) (reply : Reply)
-    → Books setting w → Books setting (stepped setting w replies me (replied setting me now from (w.nodes me.0) call reply))
-unfolding replied
-books_replied setting w replies me now from call reply books =
-    books_replied_at setting w replies me now from call reply ((w.nodes me.0).calls call.seq) books refl
+  books_replied : (replies : Replies) (me : BrickId) (now : ℕ) (from : BrickId) (call : Call) (reply : Reply)
+      → Books setting w → Books setting (stepped setting w replies me (replied setting me now from (w.nodes me.0) call reply))
+  unfolding replied
+  books_replied replies me now from call reply books =
+      books_replied_at replies me now from call reply ((w.nodes me.0).calls call.seq) books refl
 
--- a message
-books_received : (setting : Setting) (w : World) (replies : Replies) (me : BrickId) (now : ℕ) (from to : BrickId) (message : Message)
-    → Books setting w
-    → Books setting (stepped setting w replies me (received setting me now (w.nodes me.0) (record { from = from; to = to; message = message })))
-unfolding received
-books_received setting w replies me now from to (Message.Request call request) books = books_requested setting w replies me from call request books
-books_received setting w replies me now from to (Message.Reply call reply) books = books_replied setting w replies me now from call reply books
-books_received setting w replies me now from to message books = books_no_step setting w replies me books
+  -- a message
+  books_received : (replies : Replies) (me : BrickId) (now : ℕ) (from to : BrickId) (message : Message)
+      → Books setting w
+      → Books setting (stepped setting w replies me (received setting me now (w.nodes me.0) (record { from = from; to = to; message = message })))
+  unfolding received
+  books_received replies me now from to (Message.Request call request) books = books_requested setting w replies me from call request books
+  books_received replies me now from to (Message.Reply call reply) books = books_replied replies me now from call reply books
+  books_received replies me now from to message books = books_no_step setting w replies me books
 
--- the books do not change with the replies that count, or the messages that were delivered
-pub books_beside : (setting : Setting) (w : World) (replies : Replies) (reached : ℕ → Bool) → Books setting w
-    → Books setting (record w { replies = replies; reached = reached })
-books_beside setting w replies reached books =
-    books_quiet setting w w.nodes w.held w.clocks w.packets replies reached books (λ i. keeps_all (w.nodes i)) (λ i k. refl)
+  -- the books do not change with the replies that count, or the messages that were delivered
+  pub books_beside : (replies : Replies) (reached : ℕ → Bool) → Books setting w
+      → Books setting (record w { replies = replies; reached = reached })
+  books_beside replies reached books =
+      books_quiet setting w w.nodes w.held w.clocks w.packets replies reached books (λ i. keeps_all (w.nodes i)) (λ i k. refl)
 
 -- a message is handled
 books_handled : (setting : Setting) (w : World) (number : ℕ) (packet : Packet) → Books setting w → Books setting (world_handled setting w number packet)
@@ -603,57 +605,58 @@ unfolding absorbed
 absorbed_keeps setting me node from to (Message.Request call request) = requested_keeps setting me from node call request
 absorbed_keeps setting me node from to message = keeps_itself node
 
--- so does what the store of a stopped brick may hold
-left_keeps : (setting : Setting) (w : World) (i : ℕ) (node : Node) → IsLeft setting w i node → KeepsCalls (w.nodes i) node
-left_keeps setting w i node = ⊎_elim
-    (λ (same : node ≡ w.nodes i). subst (λ (z : Node). KeepsCalls (w.nodes i) z) (sym same) (keeps_itself (w.nodes i)))
-    (λ (handled : (packet : Packet) × (packet.to ≡ record { 0 = i }) × WasSent w packet
-    × (node ≡ absorbed setting (record { 0 = i }) (w.nodes i) packet)).
-    subst (λ (z : Node). KeepsCalls (w.nodes i) z) (sym handled.3)
-    (absorbed_keeps setting (record { 0 = i }) (w.nodes i) handled.0.from handled.0.to handled.0.message))
+module _ (setting : Setting) (w : World) where
+  -- so does what the store of a stopped brick may hold
+  left_keeps : (i : ℕ) (node : Node) → IsLeft setting w i node → KeepsCalls (w.nodes i) node
+  left_keeps i node = ⊎_elim
+      (λ (same : node ≡ w.nodes i). subst (λ (z : Node). KeepsCalls (w.nodes i) z) (sym same) (keeps_itself (w.nodes i)))
+      (λ (handled : (packet : Packet) × (packet.to ≡ record { 0 = i }) × WasSent w packet
+      × (node ≡ absorbed setting (record { 0 = i }) (w.nodes i) packet)).
+      subst (λ (z : Node). KeepsCalls (w.nodes i) z) (sym handled.3)
+      (absorbed_keeps setting (record { 0 = i }) (w.nodes i) handled.0.from handled.0.to handled.0.message))
 
--- a brick that starts keeps what its store is found to hold, with the calls and numbers that it had
-pub found_keeps : (setting : Setting) (w : World) (brick : BrickId) (found : Found) → w.up brick.0 ≡ false → Leaves setting w → (i : ℕ)
-    → KeepsCalls (w.nodes i) ((world_found w brick found).nodes i)
-found_keeps setting w brick Before down leaves i = keeps_itself (w.nodes i)
-found_keeps setting w brick After down leaves i =
-    put_each (λ (j : ℕ) (z : Node). KeepsCalls (w.nodes j) z) w.nodes brick.0 (w.after brick.0)
-    (left_keeps setting w brick.0 (w.after brick.0) (leaves brick.0 down)) (λ j other. keeps_itself (w.nodes j)) i
+  -- a brick that starts keeps what its store is found to hold, with the calls and numbers that it had
+  pub found_keeps : (brick : BrickId) (found : Found) → w.up brick.0 ≡ false → Leaves setting w → (i : ℕ)
+      → KeepsCalls (w.nodes i) ((world_found w brick found).nodes i)
+  found_keeps brick Before down leaves i = keeps_itself (w.nodes i)
+  found_keeps brick After down leaves i =
+      put_each (λ (j : ℕ) (z : Node). KeepsCalls (w.nodes j) z) w.nodes brick.0 (w.after brick.0)
+      (left_keeps brick.0 (w.after brick.0) (leaves brick.0 down)) (λ j other. keeps_itself (w.nodes j)) i
 
--- and with its books
-pub books_found : (setting : Setting) (w : World) (brick : BrickId) (found : Found) → w.up brick.0 ≡ false → Leaves setting w → Books setting w
-    → Books setting (world_found w brick found)
-books_found setting w brick Before down leaves books = books
-books_found setting w brick After down leaves books =
-    let keeps : (i : ℕ) → KeepsCalls (w.nodes i) ((world_found w brick After).nodes i) = found_keeps setting w brick After down leaves in
-    books_quiet setting w (put w.nodes brick.0 (w.after brick.0)) (with_held w.held brick.0 (w.after brick.0)) w.clocks w.packets w.replies w.reached books (λ i. (keeps i).0) (λ i. (keeps i).1)
+  -- and with its books
+  pub books_found : (brick : BrickId) (found : Found) → w.up brick.0 ≡ false → Leaves setting w → Books setting w
+      → Books setting (world_found w brick found)
+  books_found brick Before down leaves books = books
+  books_found brick After down leaves books =
+      let keeps : (i : ℕ) → KeepsCalls (w.nodes i) ((world_found w brick After).nodes i) = found_keeps brick After down leaves in
+      books_quiet setting w (put w.nodes brick.0 (w.after brick.0)) (with_held w.held brick.0 (w.after brick.0)) w.clocks w.packets w.replies w.reached books (λ i. (keeps i).0) (λ i. (keeps i).1)
 
--- a brick may start that is down, and its store is opened at least once
-pub start_fits : (setting : Setting) (w : World) (brick : BrickId) (openings : ℕ) → may_start setting.layout w brick openings ≡ true
-    → (w.up brick.0 ≡ false) × (1 ≤ openings)
-start_fits setting w brick openings may =
-    let both = and_parts (is_brick setting.layout brick) (not (w.up brick.0) && may_open openings (w.nodes brick.0)) may in
-    let rest = and_parts (not (w.up brick.0)) (may_open openings (w.nodes brick.0)) both.1 in
-    let few = and_parts (nat_lt 0 openings) (nat_lt ((w.nodes brick.0).boot + openings) (2 ^ 32)) rest.1 in
-    let once : 0 < openings = ltb-true 0 openings few.0 in
-    (not-true (w.up brick.0) rest.0, omega arith)
+  -- a brick may start that is down, and its store is opened at least once
+  pub start_fits : (brick : BrickId) (openings : ℕ) → may_start setting.layout w brick openings ≡ true
+      → (w.up brick.0 ≡ false) × (1 ≤ openings)
+  start_fits brick openings may =
+      let both = and_parts (is_brick setting.layout brick) (not (w.up brick.0) && may_open openings (w.nodes brick.0)) may in
+      let rest = and_parts (not (w.up brick.0)) (may_open openings (w.nodes brick.0)) both.1 in
+      let few = and_parts (nat_lt 0 openings) (nat_lt ((w.nodes brick.0).boot + openings) (2 ^ 32)) rest.1 in
+      let once : 0 < openings = ltb-true 0 openings few.0 in
+      (not-true (w.up brick.0) rest.0, omega arith)
 
--- every event keeps the books
-books_cases : (setting : Setting) (w : World) → Leaves setting w → Books setting w → EventCases setting w (Books setting)
-books_cases setting w leaves books = record {
-  begins = λ brick ask may. books_invoked setting w brick (w.clocks brick.0) ask books may;
-  handles = λ number packet at up. books_handled setting w number packet books;
-  sets = λ brick time is.
-      books_quiet setting w w.nodes w.held (put w.clocks brick.0 time) w.packets w.replies w.reached books (λ i. keeps_all (w.nodes i)) (λ i k. refl);
-  ticks = λ brick up.
-      books_quiet setting w w.nodes w.held w.clocks (w.packets ++ ticked setting brick (w.nodes brick.0)) w.replies w.reached books
-      (λ i. keeps_all (w.nodes i)) (λ i k. refl);
-  stops = λ brick during up. books_stopped setting w brick during books;
-  starts = λ brick openings found may.
-      (let fits = start_fits setting w brick openings may in
-      books_started setting (world_found w brick found) brick openings (books_found setting w brick found fits.0 leaves books)
-      (found_down w brick found fits.0) fits.1);
-}
+  -- every event keeps the books
+  books_cases : Leaves setting w → Books setting w → EventCases setting w (Books setting)
+  books_cases leaves books = record {
+    begins = λ brick ask may. books_invoked setting w brick (w.clocks brick.0) ask books may;
+    handles = λ number packet at up. books_handled setting w number packet books;
+    sets = λ brick time is.
+        books_quiet setting w w.nodes w.held (put w.clocks brick.0 time) w.packets w.replies w.reached books (λ i. keeps_all (w.nodes i)) (λ i k. refl);
+    ticks = λ brick up.
+        books_quiet setting w w.nodes w.held w.clocks (w.packets ++ ticked setting brick (w.nodes brick.0)) w.replies w.reached books
+        (λ i. keeps_all (w.nodes i)) (λ i k. refl);
+    stops = λ brick during up. books_stopped setting w brick during books;
+    starts = λ brick openings found may.
+        (let fits = start_fits brick openings may in
+        books_started setting (world_found w brick found) brick openings (books_found brick found fits.0 leaves books)
+        (found_down w brick found fits.0) fits.1);
+  }
 
 -- at first nothing is booked
 books_first : (setting : Setting) → Books setting (first_world setting.layout)

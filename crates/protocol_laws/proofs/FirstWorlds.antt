@@ -84,62 +84,63 @@ call_put layout node known busy seq call has new = record {
 some_call : (layout : Layout) (d c : Coordinator) → CallInFirst layout d → Some d ≡ Some c → CallInFirst layout c
 some_call layout d c is same = subst (λ (z : Coordinator). CallInFirst layout z) (same_Some d c same) is
 
-carried_first : (setting : Setting) (me : BrickId) (node : Node) (known : ℕ) (c : Coordinator) (next : Next) → NodeInFirst setting.layout node
-    → NextInFirst setting.layout next → NodeInFirst setting.layout (carried_out setting me node known c next).node
-carried_first setting me node known c Ignores has is =
-    record { brick = record { learnt = has.brick.learnt; accepted = has.brick.accepted; others = has.brick.others }; calls = has.calls }
-carried_first setting me node known c (Waits d) has is = call_put setting.layout node _ _ _ (Some d) has (λ e same. some_call setting.layout d e is same)
-carried_first setting me node known c (Sends d) has is = call_put setting.layout node _ _ _ (Some d) has (λ e same. some_call setting.layout d e is same)
-carried_first setting me node known c (Makes d) has is = call_put setting.layout node _ _ _ (Some d) has (λ e same. some_call setting.layout d e is same)
-carried_first setting me node known c (Ends answer seen held) has is =
-    call_put setting.layout node _ _ _ None has (λ e same. absurd (let never : None ≡ Some e = same in cc))
+module _ (setting : Setting) where
+  carried_first : (me : BrickId) (node : Node) (known : ℕ) (c : Coordinator) (next : Next) → NodeInFirst setting.layout node
+      → NextInFirst setting.layout next → NodeInFirst setting.layout (carried_out setting me node known c next).node
+  carried_first me node known c Ignores has is =
+      record { brick = record { learnt = has.brick.learnt; accepted = has.brick.accepted; others = has.brick.others }; calls = has.calls }
+  carried_first me node known c (Waits d) has is = call_put setting.layout node _ _ _ (Some d) has (λ e same. some_call setting.layout d e is same)
+  carried_first me node known c (Sends d) has is = call_put setting.layout node _ _ _ (Some d) has (λ e same. some_call setting.layout d e is same)
+  carried_first me node known c (Makes d) has is = call_put setting.layout node _ _ _ (Some d) has (λ e same. some_call setting.layout d e is same)
+  carried_first me node known c (Ends answer seen held) has is =
+      call_put setting.layout node _ _ _ None has (λ e same. absurd (let never : None ≡ Some e = same in cc))
 
-replied_first : (setting : Setting) (me : BrickId) (now : ℕ) (from : BrickId) (node : Node) (call : Call) (reply : Reply)
-    → NodeInFirst setting.layout node → NodeInFirst setting.layout (replied setting me now from node call reply).node
-unfolding replied on_reply
-replied_first setting me now from node call reply has = at_call (node.calls call.seq) refl
-  where
-    decides : (c : Coordinator) (fresh : Option Stamp) → CallInFirst setting.layout c → (seat : Option ℕ)
-        → NextInFirst setting.layout (counted_at setting.layout.block setting.code fresh c from reply seat)
-    decides c fresh is None = tt
-    decides c fresh is (Some seat) =
-        next_first setting.layout fresh (with_reply c seat from reply) (once_full setting.layout.block setting.code fresh (with_reply c seat from reply))
-        (once_full_fits setting.layout.block setting.code fresh (with_reply c seat from reply)) (record { view = is.view; group = is.group })
+  replied_first : (me : BrickId) (now : ℕ) (from : BrickId) (node : Node) (call : Call) (reply : Reply)
+      → NodeInFirst setting.layout node → NodeInFirst setting.layout (replied setting me now from node call reply).node
+  unfolding replied on_reply
+  replied_first me now from node call reply has = at_call (node.calls call.seq) refl
+    where
+      decides : (c : Coordinator) (fresh : Option Stamp) → CallInFirst setting.layout c → (seat : Option ℕ)
+          → NextInFirst setting.layout (counted_at setting.layout.block setting.code fresh c from reply seat)
+      decides c fresh is None = tt
+      decides c fresh is (Some seat) =
+          next_first setting.layout fresh (with_reply c seat from reply) (once_full setting.layout.block setting.code fresh (with_reply c seat from reply))
+          (once_full_fits setting.layout.block setting.code fresh (with_reply c seat from reply)) (record { view = is.view; group = is.group })
 
-    at_call : (z : Option Coordinator) → node.calls call.seq ≡ z → NodeInFirst setting.layout (replied_at setting me now from node call reply z).node
-    at_call None is = record { brick = record { learnt = has.brick.learnt; accepted = has.brick.accepted; others = has.brick.others }; calls = has.calls }
-    at_call (Some c) is =
-        carried_first setting me node (known_after node.known reply) c _ has
-        (decides c (fresh_stamp me c.call.view now node.boot (known_after node.known reply)) (has.calls call.seq c is)
-        (counts_at setting.layout.block c from.0 call reply))
+      at_call : (z : Option Coordinator) → node.calls call.seq ≡ z → NodeInFirst setting.layout (replied_at setting me now from node call reply z).node
+      at_call None is = record { brick = record { learnt = has.brick.learnt; accepted = has.brick.accepted; others = has.brick.others }; calls = has.calls }
+      at_call (Some c) is =
+          carried_first me node (known_after node.known reply) c _ has
+          (decides c (fresh_stamp me c.call.view now node.boot (known_after node.known reply)) (has.calls call.seq c is)
+          (counts_at setting.layout.block c from.0 call reply))
 
-received_first : (setting : Setting) (now : ℕ) (from to : BrickId) (message : Message) (node : Node) → NodeInFirst setting.layout node
-    → NodeInFirst setting.layout (received setting to now node (record { from = from; to = to; message = message })).node
-unfolding received
-received_first setting now from to (Message.Request call request) node has =
-    kept_first setting.layout node (requested setting to from node call request).node (requested_keeps setting to from node call request) has
-received_first setting now from to (Message.Reply call reply) node has = replied_first setting to now from node call reply has
-received_first setting now from to message node has = has
+  received_first : (now : ℕ) (from to : BrickId) (message : Message) (node : Node) → NodeInFirst setting.layout node
+      → NodeInFirst setting.layout (received setting to now node (record { from = from; to = to; message = message })).node
+  unfolding received
+  received_first now from to (Message.Request call request) node has =
+      kept_first setting.layout node (requested setting to from node call request).node (requested_keeps setting to from node call request) has
+  received_first now from to (Message.Reply call reply) node has = replied_first to now from node call reply has
+  received_first now from to message node has = has
 
--- an operation begins in the view that its brick has learnt
-invoked_first : (setting : Setting) (me : BrickId) (now : ℕ) (node : Node) (ask : Ask) → NodeInFirst setting.layout node
-    → NodeInFirst setting.layout (invoked setting me now node ask).node
-unfolding invoked
-invoked_first setting me now node ask has = in_group (group_at setting.layout node ask.group.0) refl
-  where
-    in_group : (z : Option Group) → group_at setting.layout node ask.group.0 ≡ z → NodeInFirst setting.layout (began setting me now node ask z).node
-    in_group None is = has
-    in_group (Some group) is =
-        let c : Coordinator = new_coordinator group me now node ask in
-        record {
-          brick = record { learnt = has.brick.learnt; accepted = has.brick.accepted; others = has.brick.others };
-          calls = put_each (λ k z. (d : Coordinator) → z ≡ Some d → CallInFirst setting.layout d) node.calls (node.seq + 1) (Some c)
-              (λ d same. some_call setting.layout c d (record {
-                view = view_first setting.layout node ask.group.0 has.brick;
-                group = sym (group_first setting.layout node ask.group.0 has.brick) ∙ is;
-              }) same)
-              (λ k other. has.calls k);
-        }
+  -- an operation begins in the view that its brick has learnt
+  invoked_first : (me : BrickId) (now : ℕ) (node : Node) (ask : Ask) → NodeInFirst setting.layout node
+      → NodeInFirst setting.layout (invoked setting me now node ask).node
+  unfolding invoked
+  invoked_first me now node ask has = in_group (group_at setting.layout node ask.group.0) refl
+    where
+      in_group : (z : Option Group) → group_at setting.layout node ask.group.0 ≡ z → NodeInFirst setting.layout (began setting me now node ask z).node
+      in_group None is = has
+      in_group (Some group) is =
+          let c : Coordinator = new_coordinator group me now node ask in
+          record {
+            brick = record { learnt = has.brick.learnt; accepted = has.brick.accepted; others = has.brick.others };
+            calls = put_each (λ k z. (d : Coordinator) → z ≡ Some d → CallInFirst setting.layout d) node.calls (node.seq + 1) (Some c)
+                (λ d same. some_call setting.layout c d (record {
+                  view = view_first setting.layout node ask.group.0 has.brick;
+                  group = sym (group_first setting.layout node ask.group.0 has.brick) ∙ is;
+                }) same)
+                (λ k other. has.calls k);
+          }
 
 -- a brick stops, and starts again
 closed_first : (layout : Layout) (node : Node) (boot seq known busy : ℕ) → NodeInFirst layout node
@@ -149,37 +150,38 @@ closed_first layout node boot seq known busy has = record {
   calls = λ k c is. absurd (let never : None ≡ Some c = is in cc);
 }
 
--- one brick changes
-put_first : (setting : Setting) (w : World) (i : ℕ) (node : Node) → AreInFirst setting w → NodeInFirst setting.layout node → (j : ℕ)
-    → NodeInFirst setting.layout (put w.nodes i node j)
-put_first setting w i node have new = put_each (λ j n. NodeInFirst setting.layout n) w.nodes i node new (λ j other. have j)
+module _ (setting : Setting) where
+  -- one brick changes
+  put_first : (w : World) (i : ℕ) (node : Node) → AreInFirst setting w → NodeInFirst setting.layout node → (j : ℕ)
+      → NodeInFirst setting.layout (put w.nodes i node j)
+  put_first w i node have new = put_each (λ j n. NodeInFirst setting.layout n) w.nodes i node new (λ j other. have j)
 
--- every event leaves them so
-first_cases : (setting : Setting) (w : World) → Leaves setting w → AreInFirst setting w → EventCases setting w (AreInFirst setting)
-unfolding stopped restarted
-first_cases setting w leaves have = record {
-  begins = λ brick ask may.
-      put_first setting w brick.0 _ have (invoked_first setting brick (w.clocks brick.0) (w.nodes brick.0) ask (have brick.0));
-  handles = λ number packet at up.
-      put_first setting w packet.to.0 (step_on setting w packet).node have
-      (received_first setting (w.clocks packet.to.0) packet.from packet.to packet.message (w.nodes packet.to.0) (have packet.to.0));
-  sets = λ brick time is. have;
-  ticks = λ brick up. have;
-  stops = λ brick during up. put_first setting w brick.0 _ have (closed_first setting.layout (w.nodes brick.0) _ _ _ 0 (have brick.0));
-  starts = λ brick openings found may.
-      (let keeps = found_keeps setting w brick found (start_fits setting w brick openings may).0 leaves in
-      let there : AreInFirst setting (world_found w brick found)
-      = λ i. kept_first setting.layout (w.nodes i) ((world_found w brick found).nodes i) (keeps i) (have i) in
-      put_first setting (world_found w brick found) brick.0 _ there
-      (closed_first setting.layout ((world_found w brick found).nodes brick.0) _ 0 0 0 (there brick.0)));
-}
+  -- every event leaves them so
+  first_cases : (w : World) → Leaves setting w → AreInFirst setting w → EventCases setting w (AreInFirst setting)
+  unfolding stopped restarted
+  first_cases w leaves have = record {
+    begins = λ brick ask may.
+        put_first w brick.0 _ have (invoked_first setting brick (w.clocks brick.0) (w.nodes brick.0) ask (have brick.0));
+    handles = λ number packet at up.
+        put_first w packet.to.0 (step_on setting w packet).node have
+        (received_first setting (w.clocks packet.to.0) packet.from packet.to packet.message (w.nodes packet.to.0) (have packet.to.0));
+    sets = λ brick time is. have;
+    ticks = λ brick up. have;
+    stops = λ brick during up. put_first w brick.0 _ have (closed_first setting.layout (w.nodes brick.0) _ _ _ 0 (have brick.0));
+    starts = λ brick openings found may.
+        (let keeps = found_keeps setting w brick found (start_fits setting w brick openings may).0 leaves in
+        let there : AreInFirst setting (world_found w brick found)
+        = λ i. kept_first setting.layout (w.nodes i) ((world_found w brick found).nodes i) (keeps i) (have i) in
+        put_first (world_found w brick found) brick.0 _ there
+        (closed_first setting.layout ((world_found w brick found).nodes brick.0) _ 0 0 0 (there brick.0)));
+  }
 
--- so they are in every run
-pub always_in_first : (setting : Setting) (events : List Event) → AreInFirst setting (run setting events (first_world setting.layout))
-always_in_first setting =
-    always_where (AreInFirst setting) (Leaves setting) setting (always_leaves setting)
-    (λ i. record {
-      brick = record { learnt = refl; accepted = refl; others = λ g e s other. refl };
-      calls = λ k c is. absurd (let never : None ≡ Some c = is in cc);
-    })
-    (first_cases setting)
+  -- so they are in every run
+  pub always_in_first : (events : List Event) → AreInFirst setting (run setting events (first_world setting.layout))
+  always_in_first =
+      always_where (AreInFirst setting) (Leaves setting) setting (always_leaves setting)
+      (λ i. record {
+        brick = record { learnt = refl; accepted = refl; others = λ g e s other. refl };
+        calls = λ k c is. absurd (let never : None ≡ Some c = is in cc);
+      })
+      (first_cases)

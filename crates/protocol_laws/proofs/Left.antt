@@ -180,57 +180,58 @@ module _ (setting : Setting) (w : World) (brick : BrickId) (during : Option ℕ)
       (λ packet sent. sent) leaves)
       (cases_eq i brick.0)
 
--- a stopped brick starts
-leaves_started : (setting : Setting) (w : World) (brick : BrickId) (openings : ℕ) → Leaves setting w → Leaves setting (world_started w brick openings)
-leaves_started setting w brick openings leaves i down = ⊎_elim
-    (λ (mine : i ≡ brick.0).
-    absurd (both_ways (put w.up brick.0 true i) down (ap (λ (j : ℕ). put w.up brick.0 true j) mine ∙ put_same w.up brick.0 true)))
-    (λ (other : i ≢ brick.0).
-    left_on setting w (world_started w brick openings) i (
-      sym (put_other w.up brick.0 true i other) ∙ down,
-      put_other w.nodes brick.0 (restarted openings (w.nodes brick.0)) i other,
-      refl,
-    )
-    (λ packet sent. sent) leaves)
-    (cases_eq i brick.0)
+module _ (setting : Setting) (w : World) where
+  -- a stopped brick starts
+  leaves_started : (brick : BrickId) (openings : ℕ) → Leaves setting w → Leaves setting (world_started w brick openings)
+  leaves_started brick openings leaves i down = ⊎_elim
+      (λ (mine : i ≡ brick.0).
+      absurd (both_ways (put w.up brick.0 true i) down (ap (λ (j : ℕ). put w.up brick.0 true j) mine ∙ put_same w.up brick.0 true)))
+      (λ (other : i ≢ brick.0).
+      left_on setting w (world_started w brick openings) i (
+        sym (put_other w.up brick.0 true i other) ∙ down,
+        put_other w.nodes brick.0 (restarted openings (w.nodes brick.0)) i other,
+        refl,
+      )
+      (λ packet sent. sent) leaves)
+      (cases_eq i brick.0)
 
--- and another brick than the one that starts keeps what it kept
-leaves_after : (setting : Setting) (w : World) (brick : BrickId) (openings : ℕ) → Leaves setting w
-    → Leaves setting (world_started (world_found w brick After) brick openings)
-leaves_after setting w brick openings leaves i down = ⊎_elim
-    (λ (mine : i ≡ brick.0).
-    absurd (both_ways (put w.up brick.0 true i) down (ap (λ (j : ℕ). put w.up brick.0 true j) mine ∙ put_same w.up brick.0 true)))
-    (λ (other : i ≢ brick.0).
-    left_on setting w (world_started (world_found w brick After) brick openings) i (
-      sym (put_other w.up brick.0 true i other) ∙ down,
-      put_other (put w.nodes brick.0 (w.after brick.0)) brick.0 (restarted openings (put w.nodes brick.0 (w.after brick.0) brick.0)) i other
-          ∙ put_other w.nodes brick.0 (w.after brick.0) i other,
-      refl,
-    )
-    (λ packet sent. sent) leaves)
-    (cases_eq i brick.0)
+  -- and another brick than the one that starts keeps what it kept
+  leaves_after : (brick : BrickId) (openings : ℕ) → Leaves setting w
+      → Leaves setting (world_started (world_found w brick After) brick openings)
+  leaves_after brick openings leaves i down = ⊎_elim
+      (λ (mine : i ≡ brick.0).
+      absurd (both_ways (put w.up brick.0 true i) down (ap (λ (j : ℕ). put w.up brick.0 true j) mine ∙ put_same w.up brick.0 true)))
+      (λ (other : i ≢ brick.0).
+      left_on setting w (world_started (world_found w brick After) brick openings) i (
+        sym (put_other w.up brick.0 true i other) ∙ down,
+        put_other (put w.nodes brick.0 (w.after brick.0)) brick.0 (restarted openings (put w.nodes brick.0 (w.after brick.0) brick.0)) i other
+            ∙ put_other w.nodes brick.0 (w.after brick.0) i other,
+        refl,
+      )
+      (λ packet sent. sent) leaves)
+      (cases_eq i brick.0)
 
--- every event leaves each store as it may be
-leaves_cases : (setting : Setting) (w : World) → Leaves setting w → EventCases setting w (Leaves setting)
-leaves_cases setting w leaves = record {
-  begins = λ brick ask may.
-      (let step : NodeStep = invoked setting brick (w.clocks brick.0) (w.nodes brick.0) ask in
-      let up = and_parts (is_up setting.layout w brick) (not (is_some (refusal_of setting.layout (w.nodes brick.0) ask))) may in
-      leaves_on setting w (world_began w brick ask step)
-      (steps_on w brick.0 step.node (and_parts (is_brick setting.layout brick) (w.up brick.0) up.0).1)
-      (λ packet sent. (sent.0, get_kept w.packets step.packets sent.0 packet sent.1)) leaves);
-  handles = λ number packet at up.
-      leaves_stepped setting w (replies_with setting w packet) (put w.reached number true) packet.to (step_on setting w packet)
-      (and_parts (is_brick setting.layout packet.to) (w.up packet.to.0) up).1 leaves;
-  sets = λ brick time is. leaves;
-  ticks = λ brick up.
-      leaves_on setting w (world_ticked setting w brick) (λ i down. (down, refl, refl))
-      (λ packet sent. (sent.0, get_kept w.packets _ sent.0 packet sent.1)) leaves;
-  stops = λ brick during up. leaves_stopped setting w brick during leaves;
-  starts = λ brick openings found may.
-      started_each (Leaves setting) w brick openings (leaves_started setting w brick openings leaves) (leaves_after setting w brick openings leaves)
-      found;
-}
+  -- every event leaves each store as it may be
+  leaves_cases : Leaves setting w → EventCases setting w (Leaves setting)
+  leaves_cases leaves = record {
+    begins = λ brick ask may.
+        (let step : NodeStep = invoked setting brick (w.clocks brick.0) (w.nodes brick.0) ask in
+        let up = and_parts (is_up setting.layout w brick) (not (is_some (refusal_of setting.layout (w.nodes brick.0) ask))) may in
+        leaves_on setting w (world_began w brick ask step)
+        (steps_on w brick.0 step.node (and_parts (is_brick setting.layout brick) (w.up brick.0) up.0).1)
+        (λ packet sent. (sent.0, get_kept w.packets step.packets sent.0 packet sent.1)) leaves);
+    handles = λ number packet at up.
+        leaves_stepped setting w (replies_with setting w packet) (put w.reached number true) packet.to (step_on setting w packet)
+        (and_parts (is_brick setting.layout packet.to) (w.up packet.to.0) up).1 leaves;
+    sets = λ brick time is. leaves;
+    ticks = λ brick up.
+        leaves_on setting w (world_ticked setting w brick) (λ i down. (down, refl, refl))
+        (λ packet sent. (sent.0, get_kept w.packets _ sent.0 packet sent.1)) leaves;
+    stops = λ brick during up. leaves_stopped setting w brick during leaves;
+    starts = λ brick openings found may.
+        started_each (Leaves setting) w brick openings (leaves_started brick openings leaves) (leaves_after brick openings leaves)
+        found;
+  }
 
 -- at first every brick is up
 pub always_leaves : (setting : Setting) (events : List Event) → Leaves setting (run setting events (first_world setting.layout))

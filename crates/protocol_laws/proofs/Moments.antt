@@ -86,70 +86,71 @@ full_live records node live is =
     cond_both (nat_eq node.live records) (Some node.live) None (λ (z : Option ℕ). z ≡ Some live → node.live ≡ live)
     (λ same e. same_Some node.live live e) (λ other e. cc) is
 
-replies_true : (setting : Setting) (w : World) (me to : BrickId) (call : Call) (request : Request) (reply : Option Reply)
-    → ((t : Stamp) → stamp_asked request ≡ Some t → stamp_below t (view_floor (w.nodes me.0) call.group.0) ≡ false)
-    → call.view.0 ≡ view_at (w.nodes me.0) call.group.0
-    → SaysTrue (full_at setting.layout.records (w.nodes me.0).live) (replica_at (w.nodes me.0) call) request reply
-    → AreTrue w (reply_packets me to call reply)
-replies_true setting w me to call request reply above view says =
-    each_reply (IsTrue w) me to call reply (λ r is. said r (subst (λ (z : Option Reply). Says z) is says))
-  where
-    Says : Option Reply → Type 0
-    Says z = SaysTrue (full_at setting.layout.records (w.nodes me.0).live) (replica_at (w.nodes me.0) call) request z
+module _ (setting : Setting) (w : World) where
+  replies_true : (me to : BrickId) (call : Call) (request : Request) (reply : Option Reply)
+      → ((t : Stamp) → stamp_asked request ≡ Some t → stamp_below t (view_floor (w.nodes me.0) call.group.0) ≡ false)
+      → call.view.0 ≡ view_at (w.nodes me.0) call.group.0
+      → SaysTrue (full_at setting.layout.records (w.nodes me.0).live) (replica_at (w.nodes me.0) call) request reply
+      → AreTrue w (reply_packets me to call reply)
+  replies_true me to call request reply above view says =
+      each_reply (IsTrue w) me to call reply (λ r is. said r (subst (λ (z : Option Reply). Says z) is says))
+    where
+      Says : Option Reply → Type 0
+      Says z = SaysTrue (full_at setting.layout.records (w.nodes me.0).live) (replica_at (w.nodes me.0) call) request z
 
-    said : (r : Reply) → Says (Some r) → IsTrue w (record { from = me; to = to; message = Message.Reply call r })
-    said (Reply.Later x) is =
-        let part : top_of ((w.nodes me.0).replicas call.group.0 (view_at (w.nodes me.0) call.group.0) call.stripe.0) ≡ x
-        = ap (λ (e : ℕ). top_of ((w.nodes me.0).replicas call.group.0 e call.stripe.0)) (sym view) ∙ is.0 in
-        top_is_part (w.nodes me.0) call.group.0 call.stripe.0 is.1.0 (above is.1.0 is.1.1) (ap (λ (z : Stamp). stamp_below is.1.0 z) part ∙ is.1.2)
-        ∙ part
-    said (Reply.Full live) is = full_live setting.layout.records (w.nodes me.0) live is
-    said r is = tt
+      said : (r : Reply) → Says (Some r) → IsTrue w (record { from = me; to = to; message = Message.Reply call r })
+      said (Reply.Later x) is =
+          let part : top_of ((w.nodes me.0).replicas call.group.0 (view_at (w.nodes me.0) call.group.0) call.stripe.0) ≡ x
+          = ap (λ (e : ℕ). top_of ((w.nodes me.0).replicas call.group.0 e call.stripe.0)) (sym view) ∙ is.0 in
+          top_is_part (w.nodes me.0) call.group.0 call.stripe.0 is.1.0 (above is.1.0 is.1.1) (ap (λ (z : Stamp). stamp_below is.1.0 z) part ∙ is.1.2)
+          ∙ part
+      said (Reply.Full live) is = full_live setting.layout.records (w.nodes me.0) live is
+      said r is = tt
 
--- what a step on a message sends
-requested_true : (setting : Setting) (w : World) (me from : BrickId) (call : Call) (request : Request) → NodeViews setting.layout (w.nodes me.0)
-    → RequestIsOf call request → AreTrue w (requested setting me from (w.nodes me.0) call request).packets
-requested_true setting w me from call request has asks =
-    request_each (λ step. AreTrue w step.packets) setting me from (w.nodes me.0) call request (each_none (IsTrue w))
-    (λ group seat here at view. replies_true setting w me from call request
-    (handle setting.code group.m (full_at setting.layout.records (w.nodes me.0).live) seat (replica_at (w.nodes me.0) call) request).reply
-    (asks_above setting.layout (w.nodes me.0) call request has asks view (served_open setting me (w.nodes me.0) call request group seat at)) view
-    (handle_true setting.code group.m (full_at setting.layout.records (w.nodes me.0).live) seat (replica_at (w.nodes me.0) call) request))
+  -- what a step on a message sends
+  requested_true : (me from : BrickId) (call : Call) (request : Request) → NodeViews setting.layout (w.nodes me.0)
+      → RequestIsOf call request → AreTrue w (requested setting me from (w.nodes me.0) call request).packets
+  requested_true me from call request has asks =
+      request_each (λ step. AreTrue w step.packets) setting me from (w.nodes me.0) call request (each_none (IsTrue w))
+      (λ group seat here at view. replies_true me from call request
+      (handle setting.code group.m (full_at setting.layout.records (w.nodes me.0).live) seat (replica_at (w.nodes me.0) call) request).reply
+      (asks_above setting.layout (w.nodes me.0) call request has asks view (served_open setting me (w.nodes me.0) call request group seat at)) view
+      (handle_true setting.code group.m (full_at setting.layout.records (w.nodes me.0).live) seat (replica_at (w.nodes me.0) call) request))
 
-carried_true : (setting : Setting) (w : World) (me : BrickId) (node : Node) (known : ℕ) (c : Coordinator) (next : Next)
-    → AreTrue w (carried_out setting me node known c next).packets
-carried_true setting w me node known c Ignores = each_none (IsTrue w)
-carried_true setting w me node known c (Waits d) = each_none (IsTrue w)
-carried_true setting w me node known c (Sends d) = phase_true setting w me d
-carried_true setting w me node known c (Makes d) = phase_true setting w me d
-carried_true setting w me node known c (Ends answer seen held) = each_collect (IsTrue w) me c held (λ t to. tt)
+  carried_true : (me : BrickId) (node : Node) (known : ℕ) (c : Coordinator) (next : Next)
+      → AreTrue w (carried_out setting me node known c next).packets
+  carried_true me node known c Ignores = each_none (IsTrue w)
+  carried_true me node known c (Waits d) = each_none (IsTrue w)
+  carried_true me node known c (Sends d) = phase_true setting w me d
+  carried_true me node known c (Makes d) = phase_true setting w me d
+  carried_true me node known c (Ends answer seen held) = each_collect (IsTrue w) me c held (λ t to. tt)
 
-replied_true : (setting : Setting) (w : World) (me : BrickId) (now : ℕ) (from : BrickId) (call : Call) (reply : Reply)
-    → AreTrue w (replied setting me now from (w.nodes me.0) call reply).packets
-unfolding replied
-replied_true setting w me now from call reply = at_call ((w.nodes me.0).calls call.seq)
-  where
-    at_call : (z : Option Coordinator) → AreTrue w (replied_at setting me now from (w.nodes me.0) call reply z).packets
-    at_call None = each_none (IsTrue w)
-    at_call (Some c) =
-        carried_true setting w me (w.nodes me.0) (known_after (w.nodes me.0).known reply) c
-        (on_reply setting.layout.block setting.code
-        (fresh_stamp me c.call.view now (w.nodes me.0).boot (known_after (w.nodes me.0).known reply)) c from call reply)
+  replied_true : (me : BrickId) (now : ℕ) (from : BrickId) (call : Call) (reply : Reply)
+      → AreTrue w (replied setting me now from (w.nodes me.0) call reply).packets
+  unfolding replied
+  replied_true me now from call reply = at_call ((w.nodes me.0).calls call.seq)
+    where
+      at_call : (z : Option Coordinator) → AreTrue w (replied_at setting me now from (w.nodes me.0) call reply z).packets
+      at_call None = each_none (IsTrue w)
+      at_call (Some c) =
+          carried_true me (w.nodes me.0) (known_after (w.nodes me.0).known reply) c
+          (on_reply setting.layout.block setting.code
+          (fresh_stamp me c.call.view now (w.nodes me.0).boot (known_after (w.nodes me.0).known reply)) c from call reply)
 
-received_true : (setting : Setting) (w : World) (now : ℕ) (from to : BrickId) (message : Message) → NodeViews setting.layout (w.nodes to.0)
-    → MessageIsOf message → AreTrue w (received setting to now (w.nodes to.0) (record { from = from; to = to; message = message })).packets
-unfolding received
-received_true setting w now from to (Message.Request call request) has is = requested_true setting w to from call request has is
-received_true setting w now from to (Message.Reply call reply) has is = replied_true setting w to now from call reply
-received_true setting w now from to message has is = each_none (IsTrue w)
+  received_true : (now : ℕ) (from to : BrickId) (message : Message) → NodeViews setting.layout (w.nodes to.0)
+      → MessageIsOf message → AreTrue w (received setting to now (w.nodes to.0) (record { from = from; to = to; message = message })).packets
+  unfolding received
+  received_true now from to (Message.Request call request) has is = requested_true to from call request has is
+  received_true now from to (Message.Reply call reply) has is = replied_true to now from call reply
+  received_true now from to message has is = each_none (IsTrue w)
 
-invoked_true : (setting : Setting) (w : World) (me : BrickId) (now : ℕ) (ask : Ask) → AreTrue w (invoked setting me now (w.nodes me.0) ask).packets
-unfolding invoked
-invoked_true setting w me now ask = in_group (group_at setting.layout (w.nodes me.0) ask.group.0)
-  where
-    in_group : (z : Option Group) → AreTrue w (began setting me now (w.nodes me.0) ask z).packets
-    in_group None = each_none (IsTrue w)
-    in_group (Some group) = phase_true setting w me (new_coordinator group me now (w.nodes me.0) ask)
+  invoked_true : (me : BrickId) (now : ℕ) (ask : Ask) → AreTrue w (invoked setting me now (w.nodes me.0) ask).packets
+  unfolding invoked
+  invoked_true me now ask = in_group (group_at setting.layout (w.nodes me.0) ask.group.0)
+    where
+      in_group : (z : Option Group) → AreTrue w (began setting me now (w.nodes me.0) ask z).packets
+      in_group None = each_none (IsTrue w)
+      in_group (Some group) = phase_true setting w me (new_coordinator group me now (w.nodes me.0) ask)
 
 -- the packets of a next world: those that were, and more, of which what is refused is true in the world before
 abbrev AddsTrue : World → World → Type 0

@@ -161,31 +161,32 @@ pub record DescendsFrom (phase : Phase) (op : Op) (t : Stamp) : Type 0 where
   pub most : (bound : Stamp) → phase ≡ Descends bound → stamp_below t bound ≡ false
   pub lower : (bound : Stamp) → phase ≡ Descends bound → writes op ≡ false → stamp_below bound t ≡ true
 
--- a version that brick i keeps in view e
-pub record VersionSays (setting : Setting) (views : Views) (w : World) (g e s i : ℕ) (version : Version) : Type 0 where
-  pub made : IsMadeOrFirst w g s version.stamp
-  pub block : IsBlockOf setting views w g e s i version.stamp version.block
+module _ (setting : Setting) (views : Views) (w : World) where
+  -- a version that brick i keeps in view e
+  pub record VersionSays (g e s i : ℕ) (version : Version) : Type 0 where
+    pub made : IsMadeOrFirst w g s version.stamp
+    pub block : IsBlockOf setting views w g e s i version.stamp version.block
 
--- a version that brick i told of view e: its block, unless that was not wanted
-pub record ToldSays (setting : Setting) (views : Views) (w : World) (g e s i : ℕ) (version : Version) : Type 0 where
-  pub of : view_of version.stamp ≡ e
-  pub made : IsMadeOrFirst w g s version.stamp
-  pub block : (version.block ≡ []) ⊎ IsBlockOf setting views w g e s i version.stamp version.block
+  -- a version that brick i told of view e: its block, unless that was not wanted
+  pub record ToldSays (g e s i : ℕ) (version : Version) : Type 0 where
+    pub of : view_of version.stamp ≡ e
+    pub made : IsMadeOrFirst w g s version.stamp
+    pub block : (version.block ≡ []) ⊎ IsBlockOf setting views w g e s i version.stamp version.block
 
--- a request, of this phase of its call, to store version t, which its operation made
-pub record MakerSays (setting : Setting) (views : Views) (w : World) (stamps : Stamping) (from to : ℕ) (call : Call) (phase : Phase) (t : Stamp) : Type 0 where
-  pub operation : Operation
-  pub called : IsCalled w from call operation
-  pub begun : IsBegun stamps from call.boot call.seq call.phase phase t
-  pub made : operation.made ≡ true
-  pub version : operation.version ≡ Some t
-  pub member : (group : Group) → group_in setting.layout views call.group.0 call.view.0 ≡ Some group → (seat : ℕ) × (seat_in group.members to ≡ Some seat)
-  pub guarded : (group : Group) → group_in setting.layout views call.group.0 (view_of t) ≡ Some group → IsGuarded w call.group.0 call.stripe.0 group t
+  -- a request, of this phase of its call, to store version t, which its operation made
+  pub record MakerSays (stamps : Stamping) (from to : ℕ) (call : Call) (phase : Phase) (t : Stamp) : Type 0 where
+    pub operation : Operation
+    pub called : IsCalled w from call operation
+    pub begun : IsBegun stamps from call.boot call.seq call.phase phase t
+    pub made : operation.made ≡ true
+    pub version : operation.version ≡ Some t
+    pub member : (group : Group) → group_in setting.layout views call.group.0 call.view.0 ≡ Some group → (seat : ℕ) × (seat_in group.members to ≡ Some seat)
+    pub guarded : (group : Group) → group_in setting.layout views call.group.0 (view_of t) ≡ Some group → IsGuarded w call.group.0 call.stripe.0 group t
 
--- a write of a version
-pub record WriteSays (setting : Setting) (views : Views) (w : World) (stamps : Stamping) (from to : ℕ) (call : Call) (t : Stamp) (block : List ℕ) : Type 0 where
-  pub maker : MakerSays setting views w stamps from to call Stores t
-  pub is_block : IsBlockOf setting views w call.group.0 call.view.0 call.stripe.0 to t block
+  -- a write of a version
+  pub record WriteSays (stamps : Stamping) (from to : ℕ) (call : Call) (t : Stamp) (block : List ℕ) : Type 0 where
+    pub maker : MakerSays stamps from to call Stores t
+    pub is_block : IsBlockOf setting views w call.group.0 call.view.0 call.stripe.0 to t block
 
 -- what the member at a seat is sent of a change makes of its block of the base its block of version t
 pub record ChangesBlock (setting : Setting) (w : World) (g s : ℕ) (t base : Stamp) (j : ℕ) (sent : List ℕ) (group : Group) (seat : ℕ) : Type 0 where
@@ -266,71 +267,72 @@ pub record OrderedSays (w : World) (stamps : Stamping) (j i : ℕ) (call : Call)
   pub promised : stamp_below (top_in w call.group.0 call.stripe.0 j) stamp ≡ false
   pub floor : stamp_below stamp (operation.floor j) ≡ false
 
--- what brick j found, when it promised the stamp of a phase that looks for a version: each version of the call's view that is looked for, and that it
--- has held, is at most that, or is passed over
-pub record OrderedReadSays (setting : Setting) (views : Views) (w : World) (stamps : Stamping) (j i : ℕ) (call : Call) (found : Option Version) : Type 0 where
-  pub operation : Operation
-  pub called : IsCalled w i call operation
-  pub stamp : Stamp
-  pub look : Look
-  pub phase : Phase
-  pub begun : IsBegun stamps i call.boot call.seq call.phase phase stamp
-  pub look_is : look_of phase stamp ≡ Some look
-  pub below : (d : Stamp) → is_looked look d ≡ true → stamp_below d stamp ≡ true
-  pub view : stamp.view.0 ≡ call.view.0
-  pub promised : stamp_below (top_in w call.group.0 call.stripe.0 j) stamp ≡ false
-  pub floor : stamp_below stamp (operation.floor j) ≡ false
-  pub newest : (d : Stamp) → view_of d ≡ call.view.0 → w.held j call.group.0 call.stripe.0 d ≡ true → is_looked look d ≡ true
-      → IsWithin found d ⊎ IsPassedOver w call.group.0 call.view.0 call.stripe.0 look stamp d
-  pub held : (version : Version) → found ≡ Some version → w.held j call.group.0 call.stripe.0 version.stamp ≡ true
-  pub says : (version : Version) → found ≡ Some version → ToldSays setting views w call.group.0 call.view.0 call.stripe.0 j version
+module _ (setting : Setting) (views : Views) (w : World) where
+  -- what brick j found, when it promised the stamp of a phase that looks for a version: each version of the call's view that is looked for, and that it
+  -- has held, is at most that, or is passed over
+  pub record OrderedReadSays (stamps : Stamping) (j i : ℕ) (call : Call) (found : Option Version) : Type 0 where
+    pub operation : Operation
+    pub called : IsCalled w i call operation
+    pub stamp : Stamp
+    pub look : Look
+    pub phase : Phase
+    pub begun : IsBegun stamps i call.boot call.seq call.phase phase stamp
+    pub look_is : look_of phase stamp ≡ Some look
+    pub below : (d : Stamp) → is_looked look d ≡ true → stamp_below d stamp ≡ true
+    pub view : stamp.view.0 ≡ call.view.0
+    pub promised : stamp_below (top_in w call.group.0 call.stripe.0 j) stamp ≡ false
+    pub floor : stamp_below stamp (operation.floor j) ≡ false
+    pub newest : (d : Stamp) → view_of d ≡ call.view.0 → w.held j call.group.0 call.stripe.0 d ≡ true → is_looked look d ≡ true
+        → IsWithin found d ⊎ IsPassedOver w call.group.0 call.view.0 call.stripe.0 look stamp d
+    pub held : (version : Version) → found ≡ Some version → w.held j call.group.0 call.stripe.0 version.stamp ≡ true
+    pub says : (version : Version) → found ≡ Some version → ToldSays setting views w call.group.0 call.view.0 call.stripe.0 j version
 
--- what brick j found
-pub record FoundSays (setting : Setting) (views : Views) (w : World) (j i : ℕ) (call : Call) (order : Stamp) (version : Version) : Type 0 where
-  pub operation : Operation
-  pub called : IsCalled w i call operation
-  pub top : stamp_below (top_in w call.group.0 call.stripe.0 j) (stamp_max order version.stamp) ≡ false
-  pub floor : stamp_below (stamp_max order version.stamp) (operation.floor j) ≡ false
-  pub held : w.held j call.group.0 call.stripe.0 version.stamp ≡ true
-  pub says : ToldSays setting views w call.group.0 call.view.0 call.stripe.0 j version
+  -- what brick j found
+  pub record FoundSays (j i : ℕ) (call : Call) (order : Stamp) (version : Version) : Type 0 where
+    pub operation : Operation
+    pub called : IsCalled w i call operation
+    pub top : stamp_below (top_in w call.group.0 call.stripe.0 j) (stamp_max order version.stamp) ≡ false
+    pub floor : stamp_below (stamp_max order version.stamp) (operation.floor j) ≡ false
+    pub held : w.held j call.group.0 call.stripe.0 version.stamp ≡ true
+    pub says : ToldSays setting views w call.group.0 call.view.0 call.stripe.0 j version
 
--- what a reply of brick `from` to brick `to` says
-abbrev pub ReplySays : Setting → Views → World → Stamping → BrickId → BrickId → Call → Reply → Type 0
-ReplySays setting views w stamps from to call (Reply.Found order (Some version)) = FoundSays setting views w from.0 to.0 call order version
-ReplySays setting views w stamps from to call Reply.Ordered = OrderedSays w stamps from.0 to.0 call
-ReplySays setting views w stamps from to call (Reply.OrderedRead found) = OrderedReadSays setting views w stamps from.0 to.0 call found
-ReplySays setting views w stamps from to call Reply.Stored =
-    (t : Stamp) × (request : Request) × RequestSent w call to from request × (stamp_stored request ≡ Some t)
-    × (w.held from.0 call.group.0 call.stripe.0 t ≡ true)
-ReplySays setting views w stamps from to call (Reply.Later x) = (t : Stamp) × AskedAt w call to from t × (stamp_below t x ≡ true)
-ReplySays setting views w stamps from to call (Reply.Full live) = live ≡ setting.layout.records
-ReplySays setting views w stamps from to call reply = Unit {0}
+  -- what a reply of brick `from` to brick `to` says
+  abbrev pub ReplySays : Stamping → BrickId → BrickId → Call → Reply → Type 0
+  ReplySays stamps from to call (Reply.Found order (Some version)) = FoundSays from.0 to.0 call order version
+  ReplySays stamps from to call Reply.Ordered = OrderedSays w stamps from.0 to.0 call
+  ReplySays stamps from to call (Reply.OrderedRead found) = OrderedReadSays stamps from.0 to.0 call found
+  ReplySays stamps from to call Reply.Stored =
+      (t : Stamp) × (request : Request) × RequestSent w call to from request × (stamp_stored request ≡ Some t)
+      × (w.held from.0 call.group.0 call.stripe.0 t ≡ true)
+  ReplySays stamps from to call (Reply.Later x) = (t : Stamp) × AskedAt w call to from t × (stamp_below t x ≡ true)
+  ReplySays stamps from to call (Reply.Full live) = live ≡ setting.layout.records
+  ReplySays stamps from to call reply = Unit {0}
 
-abbrev pub MessageSays : Setting → Views → World → Stamping → BrickId → BrickId → Message → Type 0
-MessageSays setting views w stamps from to (Message.Request call request) = RequestSays setting views w stamps from.0 to.0 call request
-MessageSays setting views w stamps from to (Message.Reply call reply) = ReplySays setting views w stamps from to call reply
-MessageSays setting views w stamps from to message = Unit {0}
+  abbrev pub MessageSays : Stamping → BrickId → BrickId → Message → Type 0
+  MessageSays stamps from to (Message.Request call request) = RequestSays setting views w stamps from.0 to.0 call request
+  MessageSays stamps from to (Message.Reply call reply) = ReplySays stamps from to call reply
+  MessageSays stamps from to message = Unit {0}
 
-abbrev pub PacketSays : Setting → Views → World → Stamping → Packet → Type 0
-PacketSays setting views w stamps packet = MessageSays setting views w stamps packet.from packet.to packet.message
+  abbrev pub PacketSays : Stamping → Packet → Type 0
+  PacketSays stamps packet = MessageSays stamps packet.from packet.to packet.message
 
--- an operation's version
-pub record HasVersion (setting : Setting) (views : Views) (w : World) (o : Operation) (v : Stamp) : Type 0 where
-  pub made : IsMadeOrFirst w o.ask.group.0 o.ask.stripe.0 v
-  pub of : view_of v ≡ o.view
-  pub reader : o.made ≡ false → writes o.ask.op ≡ false
-  pub guarded : (group : Group) → group_in setting.layout views o.ask.group.0 (view_of v) ≡ Some group → IsGuarded w o.ask.group.0 o.ask.stripe.0 group v
-  pub floors : (group : Group) → group_in setting.layout views o.ask.group.0 (view_of v) ≡ Some group → FloorsAtMost o group v
+  -- an operation's version
+  pub record HasVersion (o : Operation) (v : Stamp) : Type 0 where
+    pub made : IsMadeOrFirst w o.ask.group.0 o.ask.stripe.0 v
+    pub of : view_of v ≡ o.view
+    pub reader : o.made ≡ false → writes o.ask.op ≡ false
+    pub guarded : (group : Group) → group_in setting.layout views o.ask.group.0 (view_of v) ≡ Some group → IsGuarded w o.ask.group.0 o.ask.stripe.0 group v
+    pub floors : (group : Group) → group_in setting.layout views o.ask.group.0 (view_of v) ≡ Some group → FloorsAtMost o group v
 
--- the operation made version v on a base, which it read back or modified
-pub record ReadsBack (setting : Setting) (views : Views) (w : World) (o : Operation) (v : Stamp) : Type 0 where
-  pub base : Stamp
-  pub base_is : o.base ≡ Some base
-  pub op : (bytes : List ℕ) → o.ask.op ≡ WriteStripe bytes → ⊥
-  pub below : stamp_below base v ≡ true
-  pub made : IsMadeOrFirst w o.ask.group.0 o.ask.stripe.0 base
-  pub content : w.contents o.ask.group.0 o.ask.stripe.0 v ≡ after_op setting.layout.block o.ask.op (w.contents o.ask.group.0 o.ask.stripe.0 base)
-  pub blocked : AreBlocked setting views w o.ask.group.0 o.ask.stripe.0 (λ d. (stamp_below base d ≡ true) × (stamp_below d v ≡ true))
+  -- the operation made version v on a base, which it read back or modified
+  pub record ReadsBack (o : Operation) (v : Stamp) : Type 0 where
+    pub base : Stamp
+    pub base_is : o.base ≡ Some base
+    pub op : (bytes : List ℕ) → o.ask.op ≡ WriteStripe bytes → ⊥
+    pub below : stamp_below base v ≡ true
+    pub made : IsMadeOrFirst w o.ask.group.0 o.ask.stripe.0 base
+    pub content : w.contents o.ask.group.0 o.ask.stripe.0 v ≡ after_op setting.layout.block o.ask.op (w.contents o.ask.group.0 o.ask.stripe.0 base)
+    pub blocked : AreBlocked setting views w o.ask.group.0 o.ask.stripe.0 (λ d. (stamp_below base d ≡ true) × (stamp_below d v ≡ true))
 
 -- the operation made version v by writing it whole
 abbrev pub WritesWhole : World → Operation → Stamp → Type 0

@@ -122,164 +122,165 @@ fresh_says setting w me view now known t of books more is =
     (sym (fresh_is me view now (w.nodes me.0).boot known t is).0)
     (record { view = of; boot = refl; booted = omega arith; brick = refl; positive = omega arith; bounded = λ now. omega arith }, omega arith)
 
--- a reply is delivered
-reply_said : (setting : Setting) (views : Views) (w : World) (stamps : Stamping) (me from : BrickId) (now : ℕ) (call : Call) (reply : Reply) → IsSound setting
-    → Books setting w → Said setting views w stamps → WasSent w (record { from = from; to = me; message = Message.Reply call reply })
-    → IsSaid setting views (stepped setting w me (replied setting me now from (w.nodes me.0) call reply))
-unfolding replied
-reply_said setting views w stamps me from now call reply sound books said sent = at_call ((w.nodes me.0).calls call.seq) refl
-  where
-    some : (c : Coordinator) → IsCall w me.0 c.call.seq c → 1 ≤ c.call.view.0
-    some c is =
-        let its = books.calls me.0 c.call.seq c is in
-        let least = (said.operations (number_of w me.0 c.call.seq) its.operation its.operation_is).view.0 in
-        let view = its.call_view in
-        omega (arith, least, view)
+module _ (setting : Setting) (views : Views) where
+  -- a reply is delivered
+  reply_said : (w : World) (stamps : Stamping) (me from : BrickId) (now : ℕ) (call : Call) (reply : Reply) → IsSound setting
+      → Books setting w → Said setting views w stamps → WasSent w (record { from = from; to = me; message = Message.Reply call reply })
+      → IsSaid setting views (stepped setting w me (replied setting me now from (w.nodes me.0) call reply))
+  unfolding replied
+  reply_said w stamps me from now call reply sound books said sent = at_call ((w.nodes me.0).calls call.seq) refl
+    where
+      some : (c : Coordinator) → IsCall w me.0 c.call.seq c → 1 ≤ c.call.view.0
+      some c is =
+          let its = books.calls me.0 c.call.seq c is in
+          let least = (said.operations (number_of w me.0 c.call.seq) its.operation its.operation_is).view.0 in
+          let view = its.call_view in
+          omega (arith, least, view)
 
-    in_call : (c : Coordinator) → IsCall w me.0 c.call.seq c
-        → IsSaid setting views (stepped setting w me (replied_at setting me now from (w.nodes me.0) call reply (Some c)))
-    in_call c is =
-        said_after_reply setting views sound w stamps me c (known_after (w.nodes me.0).known reply) books said is
-        (known_grows (w.nodes me.0).known reply)
-        (fresh_stamp me c.call.view now (w.nodes me.0).boot (known_after (w.nodes me.0).known reply))
-        (λ t new. fresh_says setting w me c.call.view now (known_after (w.nodes me.0).known reply) t (some c is) books
-        (known_grows (w.nodes me.0).known reply) new) from call reply sent
+      in_call : (c : Coordinator) → IsCall w me.0 c.call.seq c
+          → IsSaid setting views (stepped setting w me (replied_at setting me now from (w.nodes me.0) call reply (Some c)))
+      in_call c is =
+          said_after_reply setting views sound w stamps me c (known_after (w.nodes me.0).known reply) books said is
+          (known_grows (w.nodes me.0).known reply)
+          (fresh_stamp me c.call.view now (w.nodes me.0).boot (known_after (w.nodes me.0).known reply))
+          (λ t new. fresh_says setting w me c.call.view now (known_after (w.nodes me.0).known reply) t (some c is) books
+          (known_grows (w.nodes me.0).known reply) new) from call reply sent
 
-    at_call : (z : Option Coordinator) → (w.nodes me.0).calls call.seq ≡ z
-        → IsSaid setting views (stepped setting w me (replied_at setting me now from (w.nodes me.0) call reply z))
-    at_call None none = (
-      stamps,
-      said_known setting views w stamps me (known_after (w.nodes me.0).known reply) books said
-          (known_grows (w.nodes me.0).known reply),
-    )
-    at_call (Some c) is =
-        let seq : c.call.seq ≡ call.seq = (books.calls me.0 call.seq c is).call_seq in
-        in_call c (subst (λ (k : ℕ). IsCall w me.0 k c) (sym seq) is)
+      at_call : (z : Option Coordinator) → (w.nodes me.0).calls call.seq ≡ z
+          → IsSaid setting views (stepped setting w me (replied_at setting me now from (w.nodes me.0) call reply z))
+      at_call None none = (
+        stamps,
+        said_known setting views w stamps me (known_after (w.nodes me.0).known reply) books said
+            (known_grows (w.nodes me.0).known reply),
+      )
+      at_call (Some c) is =
+          let seq : c.call.seq ≡ call.seq = (books.calls me.0 call.seq c is).call_seq in
+          in_call c (subst (λ (k : ℕ). IsCall w me.0 k c) (sym seq) is)
 
--- a message is delivered
-message_said : (setting : Setting) (views : Views) (w : World) (stamps : Stamping) (me from : BrickId) (now : ℕ) (message : Message) → IsSound setting
-    → Books setting w → StampViews setting.layout w
-    → Follows setting.layout views w → Said setting views w stamps → WasSent w (record { from = from; to = me; message = message })
-    → IsSaid setting views (stepped setting w me (received setting me now (w.nodes me.0) (record { from = from; to = me; message = message })))
-unfolding received
-message_said setting views w stamps me from now (Message.Request call request) sound books stamped follows said sent =
-    (stamps, request_said setting views w stamps me from call request books stamped follows said sent)
-message_said setting views w stamps me from now (Message.Reply call reply) sound books stamped follows said sent =
-    reply_said setting views w stamps me from now call reply sound books said sent
-message_said setting views w stamps me from now message sound books stamped follows said sent = (stamps, nothing_said setting views w stamps me books said)
+  -- a message is delivered
+  message_said : (w : World) (stamps : Stamping) (me from : BrickId) (now : ℕ) (message : Message) → IsSound setting
+      → Books setting w → StampViews setting.layout w
+      → Follows setting.layout views w → Said setting views w stamps → WasSent w (record { from = from; to = me; message = message })
+      → IsSaid setting views (stepped setting w me (received setting me now (w.nodes me.0) (record { from = from; to = me; message = message })))
+  unfolding received
+  message_said w stamps me from now (Message.Request call request) sound books stamped follows said sent =
+      (stamps, request_said setting views w stamps me from call request books stamped follows said sent)
+  message_said w stamps me from now (Message.Reply call reply) sound books stamped follows said sent =
+      reply_said w stamps me from now call reply sound books said sent
+  message_said w stamps me from now message sound books stamped follows said sent = (stamps, nothing_said setting views w stamps me books said)
 
--- a message is handled, and no reply is sent
-absorbed_said : (setting : Setting) (views : Views) (w : World) (stamps : Stamping) (me from to : BrickId) (message : Message) → Books setting w → StampViews setting.layout w
-    → Follows setting.layout views w → Said setting views w stamps → WasSent w (record { from = from; to = me; message = message })
-    → Said setting views (quiet w me (absorbed setting me (w.nodes me.0) (record { from = from; to = to; message = message })) []) stamps
-unfolding absorbed
-absorbed_said setting views w stamps me from to (Message.Request call request) books stamped follows said sent =
-    request_kept setting views w stamps me from call request books stamped follows said sent
-absorbed_said setting views w stamps me from to message books stamped follows said sent = nothing_said setting views w stamps me books said
+  -- a message is handled, and no reply is sent
+  absorbed_said : (w : World) (stamps : Stamping) (me from to : BrickId) (message : Message) → Books setting w → StampViews setting.layout w
+      → Follows setting.layout views w → Said setting views w stamps → WasSent w (record { from = from; to = me; message = message })
+      → Said setting views (quiet w me (absorbed setting me (w.nodes me.0) (record { from = from; to = to; message = message })) []) stamps
+  unfolding absorbed
+  absorbed_said w stamps me from to (Message.Request call request) books stamped follows said sent =
+      request_kept setting views w stamps me from call request books stamped follows said sent
+  absorbed_said w stamps me from to message books stamped follows said sent = nothing_said setting views w stamps me books said
 
-delivery_said : (setting : Setting) (views : Views) (w : World) (stamps : Stamping) (number : ℕ) (packet : Packet) → IsSound setting → Books setting w → StampViews setting.layout w
-    → Follows setting.layout views w → Said setting views w stamps → WasSent w packet → IsSaid setting views (world_handled setting w number packet)
-delivery_said setting views w stamps number packet sound books stamped follows said sent =
-    message_said setting views (world_counting setting w number packet) stamps packet.to packet.from (w.clocks packet.to.0) packet.message sound
-    (books_beside setting w (replies_with setting w packet) (put w.reached number true) books)
-    (record { nodes = stamped.nodes; after = stamped.after; packets = stamped.packets })
-    (record { limits = follows.limits; distinct = follows.distinct; learnt = follows.learnt; prior = follows.prior; passed = follows.passed })
-    (said_beside setting views w stamps w.clocks (replies_with setting w packet) (put w.reached number true) books said)
-    sent
+  delivery_said : (w : World) (stamps : Stamping) (number : ℕ) (packet : Packet) → IsSound setting → Books setting w → StampViews setting.layout w
+      → Follows setting.layout views w → Said setting views w stamps → WasSent w packet → IsSaid setting views (world_handled setting w number packet)
+  delivery_said w stamps number packet sound books stamped follows said sent =
+      message_said (world_counting setting w number packet) stamps packet.to packet.from (w.clocks packet.to.0) packet.message sound
+      (books_beside setting w (replies_with setting w packet) (put w.reached number true) books)
+      (record { nodes = stamped.nodes; after = stamped.after; packets = stamped.packets })
+      (record { limits = follows.limits; distinct = follows.distinct; learnt = follows.learnt; prior = follows.prior; passed = follows.passed })
+      (said_beside setting views w stamps w.clocks (replies_with setting w packet) (put w.reached number true) books said)
+      sent
 
--- what the store of a stopped brick may hold says what it should
-left_said : (setting : Setting) (views : Views) (w : World) (stamps : Stamping) (me : BrickId) (node : Node) → IsLeft setting w me.0 node → Books setting w → StampViews setting.layout w
-    → Follows setting.layout views w → Said setting views w stamps → Said setting views (quiet w me node []) stamps
-left_said setting views w stamps me node left books stamped follows said = ⊎_elim
-    (λ (same : node ≡ w.nodes me.0).
-    subst (λ (z : Node). Said setting views (quiet w me z []) stamps) (sym same) (nothing_said setting views w stamps me books said))
-    (λ (handled : (packet : Packet) × (packet.to ≡ me) × WasSent w packet × (node ≡ absorbed setting me (w.nodes me.0) packet)).
-    let packet : Packet = handled.0 in
-    subst (λ (z : Node). Said setting views (quiet w me z []) stamps) (sym handled.3)
-    (absorbed_said setting views w stamps me packet.from packet.to packet.message books stamped follows said
-    (subst (λ (to : BrickId). WasSent w (record { from = packet.from; to = to; message = packet.message })) handled.1 handled.2)))
-    left
+  -- what the store of a stopped brick may hold says what it should
+  left_said : (w : World) (stamps : Stamping) (me : BrickId) (node : Node) → IsLeft setting w me.0 node → Books setting w → StampViews setting.layout w
+      → Follows setting.layout views w → Said setting views w stamps → Said setting views (quiet w me node []) stamps
+  left_said w stamps me node left books stamped follows said = ⊎_elim
+      (λ (same : node ≡ w.nodes me.0).
+      subst (λ (z : Node). Said setting views (quiet w me z []) stamps) (sym same) (nothing_said setting views w stamps me books said))
+      (λ (handled : (packet : Packet) × (packet.to ≡ me) × WasSent w packet × (node ≡ absorbed setting me (w.nodes me.0) packet)).
+      let packet : Packet = handled.0 in
+      subst (λ (z : Node). Said setting views (quiet w me z []) stamps) (sym handled.3)
+      (absorbed_said w stamps me packet.from packet.to packet.message books stamped follows said
+      (subst (λ (to : BrickId). WasSent w (record { from = packet.from; to = to; message = packet.message })) handled.1 handled.2)))
+      left
 
--- so does the brick that starts with it
-found_said : (setting : Setting) (views : Views) (w : World) (stamps : Stamping) (me : BrickId) (found : Found) → w.up me.0 ≡ false → Leaves setting w → Books setting w → StampViews setting.layout w
-    → Follows setting.layout views w → Said setting views w stamps → Said setting views (world_found w me found) stamps
-found_said setting views w stamps me Before down leaves books stamped follows said = said
-found_said setting views w stamps me After down leaves books stamped follows said =
-    subst (λ (l : List Packet). Said setting views (record w {
-      nodes = put w.nodes me.0 (w.after me.0);
-      held = with_held w.held me.0 (w.after me.0);
-      packets = l;
-    }) stamps) (append-nil w.packets)
-    (left_said setting views w stamps me (w.after me.0) (leaves me.0 down) books stamped follows said)
+  -- so does the brick that starts with it
+  found_said : (w : World) (stamps : Stamping) (me : BrickId) (found : Found) → w.up me.0 ≡ false → Leaves setting w → Books setting w → StampViews setting.layout w
+      → Follows setting.layout views w → Said setting views w stamps → Said setting views (world_found w me found) stamps
+  found_said w stamps me Before down leaves books stamped follows said = said
+  found_said w stamps me After down leaves books stamped follows said =
+      subst (λ (l : List Packet). Said setting views (record w {
+        nodes = put w.nodes me.0 (w.after me.0);
+        held = with_held w.held me.0 (w.after me.0);
+        packets = l;
+      }) stamps) (append-nil w.packets)
+      (left_said w stamps me (w.after me.0) (leaves me.0 down) books stamped follows said)
 
--- a brick's clock ticks
-ticked_said : (setting : Setting) (views : Views) (w : World) (stamps : Stamping) (me : BrickId) → Books setting w → Said setting views w stamps
-    → Said setting views (world_ticked setting w me) stamps
-ticked_said setting views w stamps me books said =
-    let more : List Packet = ticked setting me (w.nodes me.0) in
-    said_added setting views w stamps w.clocks w.replies w.reached (w.packets ++ more) books said
-    (λ packet sent. (sent.0, get_kept w.packets more sent.0 packet sent.1))
-    (λ packet sent. ⊎_elim
-    (λ (old : slice_get w.packets sent.0 ≡ Some packet). (sent.0, old))
-    (λ (new : (j : ℕ) × (slice_get more j ≡ Some packet)). ticked_was_sent setting views w stamps me said new.0 packet new.1)
-    (get_grown w.packets more sent.0 packet sent.1))
+  -- a brick's clock ticks
+  ticked_said : (w : World) (stamps : Stamping) (me : BrickId) → Books setting w → Said setting views w stamps
+      → Said setting views (world_ticked setting w me) stamps
+  ticked_said w stamps me books said =
+      let more : List Packet = ticked setting me (w.nodes me.0) in
+      said_added setting views w stamps w.clocks w.replies w.reached (w.packets ++ more) books said
+      (λ packet sent. (sent.0, get_kept w.packets more sent.0 packet sent.1))
+      (λ packet sent. ⊎_elim
+      (λ (old : slice_get w.packets sent.0 ≡ Some packet). (sent.0, old))
+      (λ (new : (j : ℕ) × (slice_get more j ≡ Some packet)). ticked_was_sent setting views w stamps me said new.0 packet new.1)
+      (get_grown w.packets more sent.0 packet sent.1))
 
--- a brick stops
-stopped_said : (setting : Setting) (views : Views) (w : World) (stamps : Stamping) (me : BrickId) (during : Option ℕ) → Books setting w → Said setting views w stamps
-    → Said setting views (world_stopped setting w me during) stamps
-unfolding stopped
-stopped_said setting views w stamps me during books said =
-    let crash : Mark = Crash (length w.marks) me in
-    let longer : length (w.marks ++ (crash ∷ [])) ≡ length w.marks + 1 = length-append w.marks (crash ∷ []) in
-    said_idle setting views w stamps me.0 (stopped (w.nodes me.0))
-    (put w.after me.0 (left_after setting me (w.nodes me.0) (packet_during w.packets during))) (put w.up me.0 false) w.past (w.marks ++ (crash ∷ []))
-    (reached_during w me during) books said (refl, refl, refl) (λ k. refl)
-    (ages_within (w.nodes me.0) (stopped (w.nodes me.0)) refl (omega arith) (omega arith)) (omega arith)
-    (λ a. last_grows w.marks crash a (λ k mark at. let place = books.places k mark at in omega (arith, place)) refl)
-    (λ k p n answer at. ⊎_elim
-    (λ (old : slice_get w.marks k ≡ Some (End p n answer)). old)
-    (λ (new : (j : ℕ) × (slice_get (crash ∷ []) j ≡ Some (End p n answer))).
-    let bad : crash ≡ End p n answer = get_one crash (End p n answer) new.0 new.1 in absurd (let never : ⊥ = cc in never))
-    (get_grown w.marks (crash ∷ []) k (End p n answer) at))
+  -- a brick stops
+  stopped_said : (w : World) (stamps : Stamping) (me : BrickId) (during : Option ℕ) → Books setting w → Said setting views w stamps
+      → Said setting views (world_stopped setting w me during) stamps
+  unfolding stopped
+  stopped_said w stamps me during books said =
+      let crash : Mark = Crash (length w.marks) me in
+      let longer : length (w.marks ++ (crash ∷ [])) ≡ length w.marks + 1 = length-append w.marks (crash ∷ []) in
+      said_idle setting views w stamps me.0 (stopped (w.nodes me.0))
+      (put w.after me.0 (left_after setting me (w.nodes me.0) (packet_during w.packets during))) (put w.up me.0 false) w.past (w.marks ++ (crash ∷ []))
+      (reached_during w me during) books said (refl, refl, refl) (λ k. refl)
+      (ages_within (w.nodes me.0) (stopped (w.nodes me.0)) refl (omega arith) (omega arith)) (omega arith)
+      (λ a. last_grows w.marks crash a (λ k mark at. let place = books.places k mark at in omega (arith, place)) refl)
+      (λ k p n answer at. ⊎_elim
+      (λ (old : slice_get w.marks k ≡ Some (End p n answer)). old)
+      (λ (new : (j : ℕ) × (slice_get (crash ∷ []) j ≡ Some (End p n answer))).
+      let bad : crash ≡ End p n answer = get_one crash (End p n answer) new.0 new.1 in absurd (let never : ⊥ = cc in never))
+      (get_grown w.marks (crash ∷ []) k (End p n answer) at))
 
--- a stopped brick is started again: no stamp of its new boot is known
-started_said : (setting : Setting) (views : Views) (w : World) (stamps : Stamping) (me : BrickId) (openings : ℕ) → Books setting w → Said setting views w stamps
-    → 1 ≤ openings → Said setting views (world_started w me openings) stamps
-unfolding restarted
-started_said setting views w stamps me openings books said some =
-    said_idle setting views w stamps me.0 (restarted openings (w.nodes me.0)) w.after (put w.up me.0 true)
-    (put w.past me.0 (put (w.past me.0) (w.nodes me.0).boot (w.nodes me.0).known)) w.marks w.reached books said (refl, refl, refl) (λ k. refl)
-    (record { boot = omega arith; known = λ same. absurd (omega arith); seq = λ same. absurd (omega arith) }) (omega arith) (λ a. omega arith)
-    (λ k p n answer at. at)
+  -- a stopped brick is started again: no stamp of its new boot is known
+  started_said : (w : World) (stamps : Stamping) (me : BrickId) (openings : ℕ) → Books setting w → Said setting views w stamps
+      → 1 ≤ openings → Said setting views (world_started w me openings) stamps
+  unfolding restarted
+  started_said w stamps me openings books said some =
+      said_idle setting views w stamps me.0 (restarted openings (w.nodes me.0)) w.after (put w.up me.0 true)
+      (put w.past me.0 (put (w.past me.0) (w.nodes me.0).boot (w.nodes me.0).known)) w.marks w.reached books said (refl, refl, refl) (λ k. refl)
+      (record { boot = omega arith; known = λ same. absurd (omega arith); seq = λ same. absurd (omega arith) }) (omega arith) (λ a. omega arith)
+      (λ k p n answer at. at)
 
--- an operation is invoked
-invoked_said : (setting : Setting) (views : Views) (w : World) (stamps : Stamping) (me : BrickId) (ask : Ask) → Books setting w → StampViews setting.layout w
-    → Follows setting.layout views w → Said setting views w stamps → may_begin setting w me ask ≡ true → IsSaid setting views (world_began w me ask (invoked setting me (w.clocks me.0) (w.nodes me.0) ask))
-unfolding invoked
-invoked_said setting views w stamps me ask books stamped follows said may =
-    let fits : BeginFits setting ask = begin_fits setting w me ask may in
-    let here : group_at setting.layout (w.nodes me.0) ask.group.0 ≡ Some (group_there (w.nodes me.0) ask fits.group) = fits_at setting (w.nodes me.0) ask fits in
-    subst (λ (z : Option Group). IsSaid setting views (world_began w me ask (began setting me (w.clocks me.0) (w.nodes me.0) ask z)))
-    (sym here) (said_began setting views w stamps me ask (group_there (w.nodes me.0) ask fits.group) books ((stamped.nodes me.0).views ask.group.0) follows said (group_learnt setting.layout views w me.0 ask.group.0 follows ∙ here))
+  -- an operation is invoked
+  invoked_said : (w : World) (stamps : Stamping) (me : BrickId) (ask : Ask) → Books setting w → StampViews setting.layout w
+      → Follows setting.layout views w → Said setting views w stamps → may_begin setting w me ask ≡ true → IsSaid setting views (world_began w me ask (invoked setting me (w.clocks me.0) (w.nodes me.0) ask))
+  unfolding invoked
+  invoked_said w stamps me ask books stamped follows said may =
+      let fits : BeginFits setting ask = begin_fits setting w me ask may in
+      let here : group_at setting.layout (w.nodes me.0) ask.group.0 ≡ Some (group_there (w.nodes me.0) ask fits.group) = fits_at setting (w.nodes me.0) ask fits in
+      subst (λ (z : Option Group). IsSaid setting views (world_began w me ask (began setting me (w.clocks me.0) (w.nodes me.0) ask z)))
+      (sym here) (said_began setting views w stamps me ask (group_there (w.nodes me.0) ask fits.group) books ((stamped.nodes me.0).views ask.group.0) follows said (group_learnt setting.layout views w me.0 ask.group.0 follows ∙ here))
 
--- every event keeps the invariant
-said_cases : (setting : Setting) (views : Views) → IsSound setting → (w : World) → Leaves setting w × Books setting w × Follows setting.layout views w × StampViews setting.layout w → IsSaid setting views w
-    → EventCases setting w (IsSaid setting views)
-said_cases setting views sound w known said =
-    let books : Books setting w = known.1 in
-    record {
-      begins = λ brick ask may. invoked_said setting views w said.0 brick ask books known.3 known.2 said.1 may;
-      handles = λ number packet at up. delivery_said setting views w said.0 number packet sound books known.3 known.2 said.1 (packet_was_sent w number packet at);
-      sets = λ brick time is. (said.0, said_beside setting views w said.0 (put w.clocks brick.0 time) w.replies w.reached books said.1);
-      ticks = λ brick up. (said.0, ticked_said setting views w said.0 brick books said.1);
-      stops = λ brick during up. (said.0, stopped_said setting views w said.0 brick during books said.1);
-      starts = λ brick openings found may.
-          (let fits = start_fits setting w brick openings may in (
-            said.0,
-            started_said setting views (world_found w brick found) said.0 brick openings (books_found setting w brick found fits.0 known.0 books)
-                (found_said setting views w said.0 brick found fits.0 known.0 books known.3 known.2 said.1) fits.1,
-          ));
-    }
+  -- every event keeps the invariant
+  said_cases : IsSound setting → (w : World) → Leaves setting w × Books setting w × Follows setting.layout views w × StampViews setting.layout w → IsSaid setting views w
+      → EventCases setting w (IsSaid setting views)
+  said_cases sound w known said =
+      let books : Books setting w = known.1 in
+      record {
+        begins = λ brick ask may. invoked_said w said.0 brick ask books known.3 known.2 said.1 may;
+        handles = λ number packet at up. delivery_said w said.0 number packet sound books known.3 known.2 said.1 (packet_was_sent w number packet at);
+        sets = λ brick time is. (said.0, said_beside setting views w said.0 (put w.clocks brick.0 time) w.replies w.reached books said.1);
+        ticks = λ brick up. (said.0, ticked_said w said.0 brick books said.1);
+        stops = λ brick during up. (said.0, stopped_said w said.0 brick during books said.1);
+        starts = λ brick openings found may.
+            (let fits = start_fits setting w brick openings may in (
+              said.0,
+              started_said (world_found w brick found) said.0 brick openings (books_found setting w brick found fits.0 known.0 books)
+                  (found_said w said.0 brick found fits.0 known.0 books known.3 known.2 said.1) fits.1,
+            ));
+      }
 
 -- the first world
 first_top : (block : ℕ) → top_of (first_replica block) ≡ first_stamp
@@ -292,67 +293,68 @@ zero_kept : (block : ℕ) (members : List BrickId) (z : Option Group) → zero_c
 zero_kept block members None = refl
 zero_kept block members (Some group) = refl
 
-said_first : (setting : Setting) (views : Views) → IsSound setting → Follows setting.layout views (first_world setting.layout)
-    → IsSaid setting views (first_world setting.layout)
-said_first setting views sound follows = (
-  (λ i b k p. None),
-  record {
-    limits = follows.limits;
-    distinct = follows.distinct;
-    stamps_say = record { are = λ i b k p t is. cc; begun = λ i b k p t is. cc; apart = λ i b k l p q t is its. cc };
-    tops = λ g e s i. inl (cond_both (nat_eq e 1) (first_replica setting.layout.block) _ (λ (r : Replica). top_of r ≡ first_stamp)
-        (λ one. first_top setting.layout.block) (λ other. top_is_order _ refl));
-    first_held = λ g s i. or_left (stamp_same first_stamp first_stamp) false (stamp_same_refl first_stamp);
-    logs = λ g e s i k version.
-        cond_both (nat_eq e 1) (first_replica setting.layout.block) _
-        (λ (r : Replica). slice_get r.log k ≡ Some version → VersionSays setting views (first_world setting.layout) g e s i version)
-        (λ one is.
-        let same : record { stamp = first_stamp; block = replicate setting.layout.block 0 } ≡ version
-        = get_one (record { stamp = first_stamp; block = replicate setting.layout.block 0 }) version k is in
-        subst (λ (z : Version). VersionSays setting views (first_world setting.layout) g e s i z) same (record {
-          made = inl refl;
-          block = λ group seat group_is at.
-              sym (sound.zero_blocks group.m (length group.members) seat (follows.limits g e group group_is))
-              ∙ ap (λ (z : Option Group). setting.code.encode group.m (zero_content setting.layout.block z) seat) (sym group_is)
-              ∙ ap (λ (l : List ℕ). setting.code.encode group.m l seat) (zero_kept setting.layout.block (views g e) (group_of setting.layout g));
-        }))
-        (λ other is. absurd (let never : None ≡ Some version = is in cc));
-    packets = λ k packet is. cc;
-    operations = λ n o is. cc;
-    calls = λ i k c is. cc;
-    ends = λ k p n answer is. cc;
-    order = λ a b earlier late u earlier_is late_is groups stripes version. cc;
-    first = λ g s. refl;
-    lowest = λ g e s i x log.
-        cond_both (nat_eq e 1) (first_replica setting.layout.block) _
-        (λ (r : Replica). r.log ≡ x ∷ log → IsBottom (first_world setting.layout) g e s i x.stamp ⊎ WasCollected (first_world setting.layout) g s x.stamp)
-        (λ one is.
-        let same : record { stamp = first_stamp; block = replicate setting.layout.block 0 } ≡ x = cc in
-        inl (λ d of less held. false≢true (sym (stamp_below_first d) ∙ subst (λ (z : Version). stamp_below d z.stamp ≡ true) (sym same) less)))
-        (λ other is. absurd (let never : [] ≡ x ∷ log = is in cc));
-    held_made = λ g s i t.
-        cond_both (nat_eq (view_of t) 1) (first_replica setting.layout.block) _
-        (λ (r : Replica). is_held t r.log ≡ true → IsMadeOrFirst (first_world setting.layout) g s t)
-        (λ one there. ⊎_elim
-        (λ (first : stamp_same first_stamp t ≡ true). inl (sym (stamp_same_true first_stamp t first)))
-        (λ (none : false ≡ true). absurd (false≢true none))
-        (or_cases (stamp_same first_stamp t) false there))
-        (λ other there. absurd (false≢true there));
-    logged = first_fits setting;
-  },
-)
+module _ (setting : Setting) (views : Views) where
+  said_first : IsSound setting → Follows setting.layout views (first_world setting.layout)
+      → IsSaid setting views (first_world setting.layout)
+  said_first sound follows = (
+    (λ i b k p. None),
+    record {
+      limits = follows.limits;
+      distinct = follows.distinct;
+      stamps_say = record { are = λ i b k p t is. cc; begun = λ i b k p t is. cc; apart = λ i b k l p q t is its. cc };
+      tops = λ g e s i. inl (cond_both (nat_eq e 1) (first_replica setting.layout.block) _ (λ (r : Replica). top_of r ≡ first_stamp)
+          (λ one. first_top setting.layout.block) (λ other. top_is_order _ refl));
+      first_held = λ g s i. or_left (stamp_same first_stamp first_stamp) false (stamp_same_refl first_stamp);
+      logs = λ g e s i k version.
+          cond_both (nat_eq e 1) (first_replica setting.layout.block) _
+          (λ (r : Replica). slice_get r.log k ≡ Some version → VersionSays setting views (first_world setting.layout) g e s i version)
+          (λ one is.
+          let same : record { stamp = first_stamp; block = replicate setting.layout.block 0 } ≡ version
+          = get_one (record { stamp = first_stamp; block = replicate setting.layout.block 0 }) version k is in
+          subst (λ (z : Version). VersionSays setting views (first_world setting.layout) g e s i z) same (record {
+            made = inl refl;
+            block = λ group seat group_is at.
+                sym (sound.zero_blocks group.m (length group.members) seat (follows.limits g e group group_is))
+                ∙ ap (λ (z : Option Group). setting.code.encode group.m (zero_content setting.layout.block z) seat) (sym group_is)
+                ∙ ap (λ (l : List ℕ). setting.code.encode group.m l seat) (zero_kept setting.layout.block (views g e) (group_of setting.layout g));
+          }))
+          (λ other is. absurd (let never : None ≡ Some version = is in cc));
+      packets = λ k packet is. cc;
+      operations = λ n o is. cc;
+      calls = λ i k c is. cc;
+      ends = λ k p n answer is. cc;
+      order = λ a b earlier late u earlier_is late_is groups stripes version. cc;
+      first = λ g s. refl;
+      lowest = λ g e s i x log.
+          cond_both (nat_eq e 1) (first_replica setting.layout.block) _
+          (λ (r : Replica). r.log ≡ x ∷ log → IsBottom (first_world setting.layout) g e s i x.stamp ⊎ WasCollected (first_world setting.layout) g s x.stamp)
+          (λ one is.
+          let same : record { stamp = first_stamp; block = replicate setting.layout.block 0 } ≡ x = cc in
+          inl (λ d of less held. false≢true (sym (stamp_below_first d) ∙ subst (λ (z : Version). stamp_below d z.stamp ≡ true) (sym same) less)))
+          (λ other is. absurd (let never : [] ≡ x ∷ log = is in cc));
+      held_made = λ g s i t.
+          cond_both (nat_eq (view_of t) 1) (first_replica setting.layout.block) _
+          (λ (r : Replica). is_held t r.log ≡ true → IsMadeOrFirst (first_world setting.layout) g s t)
+          (λ one there. ⊎_elim
+          (λ (first : stamp_same first_stamp t ≡ true). inl (sym (stamp_same_true first_stamp t first)))
+          (λ (none : false ≡ true). absurd (false≢true none))
+          (or_cases (stamp_same first_stamp t) false there))
+          (λ other there. absurd (false≢true there));
+      logged = first_fits setting;
+    },
+  )
 
--- what a run follows, its front follows
-pub follows_front : (setting : Setting) (views : Views) (events earlier later : List Event) → RunFollows setting views events → events ≡ earlier ++ later
-    → RunFollows setting views earlier
-follows_front setting views events earlier later follows is front rest at =
-    follows front (rest ++ later) (is ∙ ap (λ (l : List Event). l ++ later) at ∙ append_assoc front rest later)
+  -- what a run follows, its front follows
+  pub follows_front : (events earlier later : List Event) → RunFollows setting views events → events ≡ earlier ++ later
+      → RunFollows setting views earlier
+  follows_front events earlier later follows is front rest at =
+      follows front (rest ++ later) (is ∙ ap (λ (l : List Event). l ++ later) at ∙ append_assoc front rest later)
 
--- the invariant holds in every world that a run reaches, for every assignment of members to views that it follows
-pub always_said : (setting : Setting) (views : Views) (events : List Event) → IsSound setting → RunFollows setting views events
-    → IsSaid setting views (run setting events (first_world setting.layout))
-always_said setting views events sound follows =
-    run_along (IsSaid setting views) (λ w. Leaves setting w × Books setting w × Follows setting.layout views w × StampViews setting.layout w) setting
-    (said_cases setting views sound) events (first_world setting.layout)
-    (λ earlier later is. (always_leaves setting earlier, books setting earlier, follows earlier later is, always_views setting earlier))
-    (said_first setting views sound (follows [] events refl))
+  -- the invariant holds in every world that a run reaches, for every assignment of members to views that it follows
+  pub always_said : (events : List Event) → IsSound setting → RunFollows setting views events
+      → IsSaid setting views (run setting events (first_world setting.layout))
+  always_said events sound follows =
+      run_along (IsSaid setting views) (λ w. Leaves setting w × Books setting w × Follows setting.layout views w × StampViews setting.layout w) setting
+      (said_cases setting views sound) events (first_world setting.layout)
+      (λ earlier later is. (always_leaves setting earlier, books setting earlier, follows earlier later is, always_views setting earlier))
+      (said_first sound (follows [] events refl))
