@@ -65,6 +65,7 @@ NextInFirst layout (Sends d) = CallInFirst layout d
 NextInFirst layout (Makes d) = CallInFirst layout d
 NextInFirst layout next = Unit {0}
 
+-- it goes on so
 next_first : (layout : Layout) (fresh : Option Stamp) (c : Coordinator) (next : Next) → NextFits fresh c next → CallInFirst layout c
     → NextInFirst layout next
 next_first layout fresh c Ignores fits has = tt
@@ -81,10 +82,12 @@ call_put layout node known busy seq call has new = record {
   calls = put_each (λ k z. (c : Coordinator) → z ≡ Some c → CallInFirst layout c) node.calls seq call new (λ k other. has.calls k);
 }
 
+-- the call that is there
 some_call : (layout : Layout) (d c : Coordinator) → CallInFirst layout d → Some d ≡ Some c → CallInFirst layout c
 some_call layout d c is same = subst (λ (z : Coordinator). CallInFirst layout z) (same_Some d c same) is
 
 module _ (setting : Setting) where
+  -- a brick carries out what its coordinator decides
   carried_first : (me : BrickId) (node : Node) (known : ℕ) (c : Coordinator) (next : Next) → NodeInFirst setting.layout node
       → NextInFirst setting.layout next → NodeInFirst setting.layout (carried_out setting me node known c next).node
   carried_first me node known c Ignores has is =
@@ -95,6 +98,7 @@ module _ (setting : Setting) where
   carried_first me node known c (Ends answer seen held) has is =
       call_put setting.layout node _ _ _ None has (λ e same. absurd (let never : None ≡ Some e = same in cc))
 
+  -- a brick handles a reply
   replied_first : (me : BrickId) (now : ℕ) (from : BrickId) (node : Node) (call : Call) (reply : Reply)
       → NodeInFirst setting.layout node → NodeInFirst setting.layout (replied setting me now from node call reply).node
   unfolding replied on_reply
@@ -114,6 +118,7 @@ module _ (setting : Setting) where
           (decides c (fresh_stamp me c.call.view now node.boot (known_after node.known reply)) (has.calls call.seq c is)
           (counts_at setting.layout.block c from.0 call reply))
 
+  -- and any message
   received_first : (now : ℕ) (from to : BrickId) (message : Message) (node : Node) → NodeInFirst setting.layout node
       → NodeInFirst setting.layout (received setting to now node (record { from = from; to = to; message = message })).node
   unfolding received

@@ -1,4 +1,5 @@
 -- A coordinator takes a reply: what it then decides keeps the invariant.
+use Rattle.protocol.specs.declared.phases.Counted.{Counted}
 use Rattle.protocol_laws.proofs.Tops.{view_between}
 use Rattle.protocol_laws.proofs.OwnStamps.{call_by, own_in, m_is}
 use Rattle.std.proofs.Common.{◌≡◌, ℕ, ◌+◌, ◌*◌, ◌<◌, ◌≤◌, max, nat_lt, ◌⊎◌, inl, inr, true, false, List, [], length, Option, Some, None, refl, sym, ap, ◌∙◌, subst, ⊎_elim, arith, ◌≢◌}
@@ -194,6 +195,30 @@ module _ (setting : Setting) (views : Views) (sound : IsSound setting) (w : Worl
   own_view : view_of c.stamp ≡ c.call.view.0
   own_view = own_in setting views w stamps books said me.0 c.call.seq c is
 
+  -- the coordinator in its phase, where these replies count
+  counting : (counted : List Counted) → EachCounted (CountedSays setting views w me.0 c) counted → AreOnce counted
+      → CallSays setting views w stamps me.0 c.call.seq (record c { counted = counted })
+  unfolding request_of
+  counting counted each once = record {
+    group = says.group;
+    begun = says.begun;
+    last = says.last;
+    asked = says.asked;
+    fits = says.fits;
+    unbased = says.unbased;
+    given = says.given;
+    above = says.above;
+    from = says.from;
+    covered = says.covered;
+    stores = says.stores;
+    based = λ base has.
+        let on : MadeOn setting views w c base = says.based base has in
+        record { base_is = on.base_is; of = on.of; below = on.below; base_made = on.base_made; stands = on.stands; made = on.made; content = on.content };
+    counted = each_then (CountedSays setting views w me.0 c) (CountedSays setting views w me.0 (record c { counted = counted })) counted
+        (λ x h. record { sent = h.sent; answers = h.answers; seat = h.seat }) each;
+    once = once;
+  }
+
   module _ (from : BrickId) (reply : Reply) (seat : ℕ) (sent : WasSent w (record { from = from; to = me; message = Message.Reply c.call reply }))
       (answers : answers_phase setting.layout.block c.stamp seat c.phase reply ≡ true) (seat_is : seat_in group.members from.0 ≡ Some seat)
       (first : has_seat seat c.counted ≡ false) where
@@ -214,50 +239,9 @@ module _ (setting : Setting) (views : Views) (sound : IsSound setting) (w : Worl
     once : AreOnce d.counted
     once = once_more c.counted (record { seat = seat; brick = from; reply = reply }) says.once first
 
-    -- the coordinator waits for other replies to its phase
-    forgets : (e : Coordinator) → CallSays setting views w stamps me.0 c.call.seq e → CallSays setting views w stamps me.0 c.call.seq (forgetting e)
-    unfolding request_of
-    forgets e e_says = record {
-      group = e_says.group;
-      begun = e_says.begun;
-      last = e_says.last;
-      asked = e_says.asked;
-      fits = e_says.fits;
-      unbased = e_says.unbased;
-      given = e_says.given;
-      above = e_says.above;
-      from = e_says.from;
-      covered = e_says.covered;
-      stores = e_says.stores;
-      based = λ base has.
-          let on : MadeOn setting views w e base = e_says.based base has in
-          record { base_is = on.base_is; of = on.of; below = on.below; base_made = on.base_made; stands = on.stands; made = on.made; content = on.content };
-      counted = tt;
-      once = tt;
-    }
-
     -- the coordinator goes on with the reply
     more_says : CallSays setting views w stamps me.0 c.call.seq d
-    unfolding request_of
-    more_says = record {
-      group = says.group;
-      begun = says.begun;
-      last = says.last;
-      asked = says.asked;
-      fits = says.fits;
-      unbased = says.unbased;
-      given = says.given;
-      above = says.above;
-      from = says.from;
-      covered = says.covered;
-      stores = says.stores;
-      based = λ base has.
-          let on : MadeOn setting views w c base = says.based base has in
-          record { base_is = on.base_is; of = on.of; below = on.below; base_made = on.base_made; stands = on.stands; made = on.made; content = on.content };
-      counted = each_then (CountedSays setting views w me.0 c) (CountedSays setting views w me.0 d) d.counted
-          (λ x h. record { sent = h.sent; answers = h.answers; seat = h.seat }) each;
-      once = once;
-    }
+    more_says = counting d.counted each once
 
     -- the operation's group, by the stripe that is asked for
     of_ask : (P : Ask → Type 0) → P o.ask → P c.ask
@@ -525,7 +509,7 @@ module _ (setting : Setting) (views : Views) (sound : IsSound setting) (w : Worl
             ⊎_elim
             (λ (one : c.call.view.0 ≡ 1).
             absurd (something_found setting views sound w stamps me c books said is d.counted each once many bound looks all one nothing))
-            (λ (later : c.call.view.0 ≢ 1). said_waits (forgetting d) (forgets d more_says))
+            (λ (later : c.call.view.0 ≢ 1). said_waits (forgetting d) (counting [] tt tt))
             (cases_eq c.call.view.0 1)
         reads_on wanted (Some v) greatest =
             cond_both (nat_lt (length (pieces_at v d.counted)) group.m) (Sends (in_phase d (Descends v)))

@@ -172,6 +172,7 @@ none_taught g e (packet ∷ packets) are =
     skipped (Message.Learn group view) never = absurd never
     skipped message is = refl
 
+-- so they are the layout's in every view
 views_are : (setting : Setting) (events : List Event) (g e : ℕ)
     → views_in setting.layout (run setting events (first_world setting.layout)).packets g e ≡ layout_views setting.layout g e
 views_are setting events g e =
@@ -182,7 +183,7 @@ views_are setting events g e =
     (none_taught g e packets (always_views setting events).packets))
     (λ one. refl)
 
--- so a run follows these
+-- a world follows an assignment that is the same
 same_follows : (layout : Layout) (views other : Views) (w : World) → ((g e : ℕ) → other g e ≡ views g e) → Follows layout views w → Follows layout other w
 same_follows layout views other w same follows =
     let at : (g e : ℕ) → group_in layout other g e ≡ group_in layout views g e
@@ -195,6 +196,7 @@ same_follows layout views other w same follows =
       passed = λ i g e s group some before found. follows.passed i g e s group some before (sym (at g e) ∙ found);
     }
 
+-- and so does every run these
 pub follows_its_views : EveryRunFollowsItsViews
 follows_its_views setting events sound earlier later is =
     same_follows setting.layout (layout_views setting.layout) (views_in setting.layout (run setting events (first_world setting.layout)).packets)
