@@ -1,0 +1,291 @@
+//! Sessions.
+
+ghost use Rattle.std.specs.Prelude.{◌≡◌, ◌≤◌, ◌+◌, length, drop, IfOk, OnOk, OnErr, [], option_copied, string_bytes};
+ghost use Rattle.layout.specs.Places.{volume_of};
+ghost use Rattle.nbd_front.specs.Wire.{request_of, request_size};
+ghost use Rattle.nbd_front.specs.declared.steps.End.TheVariants.{Disc, Abort, Eof, Dropped, NoExport};
+ghost use Rattle.nbd_front.specs.declared.steps.Stage.TheVariants.{Replying};
+ghost use Rattle.nbd_front.specs.Sessions.{Session, begun, Move, Waits, Says, Asks, Ends, waiting, export_of, chosen, reply_to, option_move, flags_move, past_request, replied, served, request_move, behind_reply, move_of, step_of, after, Moved, fed, finished, stopped, answered, shown, asked_of, wanted_of, wants_turn};
+
+use crate::fields::u32_at;
+use crate::parts::{
+    Choice, Kind, MOST_BYTES, Request, is_option, is_request, option_data, option_size,
+    request_size,
+};
+use crate::replies::{
+    ACKNOWLEDGED, UNSUPPORTED, export_reply, greeting, option_reply, request_reply,
+};
+use crate::steps::{Command, End, ReplyError, Stage, Step};
+use fab_base::{Bytes, NoMem};
+use front::RangeAnswer;
+use layout::{Layout, Volume};
+use std::alloc::Global;
+use std::marker::Model;
+use std::mem;
+
+/// The session of one client.
+///
+/// A clause sees what the session reads or sends next, the volume that the client chose, the client's bytes that are not read yet,
+/// whether these are its last, and the bytes of a READ that are still to be sent.
+#[derive(Drop)]
+pub struct Session<'l> {
+    alloc: Global,
+    layout: &'l Layout,
+    volume: &'l str,
+    stage: Stage,
+    // The client's bytes, from those on that were not read when room was made last, and how many of them are read.
+    held: Vec<u8>,
+    read: usize,
+    ended: bool,
+    found: Bytes,
+}
+
+impl<'l> Model for Session<'l> {
+    ghost use Rattle.std.specs.Prelude.{◌≤◌, drop, vec_len};
+    ghost use Rattle.nbd_front.specs.Sessions.{Session};
+
+    ghost Value = { Session };
+
+    ghost view = { λ session. record {
+      layout = session.layout.now;
+      stage = session.stage;
+      volume = session.volume.now;
+      unread = drop session.read session.held.items;
+      ended = session.ended;
+      found = session.found;
+    } };
+
+    ghost invariant = { λ session. session.read ≤ vec_len session.held };
+}
+
+// The volume of this name, the empty name being that of the first.
+fn export_of<'l>(layout: &'l Layout, name: &[u8]) -> Option<&'l Volume>
+    ensures { option_copied result ≡ export_of layout.now name.now }
+{
+    if name.is_empty() {
+        layout.volumes().first()
+    } else {
+        volume_of(layout, name)
+    }
+}
+
+// The volume of this name.
+fn volume_of<'l>(layout: &'l Layout, name: &[u8]) -> Option<&'l Volume>
+    ensures { option_copied result ≡ volume_of layout.now name.now }
+{
+    for volume in layout.volumes() {
+        if volume.name().as_bytes() == name {
+            return Some(volume);
+        }
+    }
+    None
+}
+
+impl<'l> Session<'l> {
+    /// A session of which no byte has come.
+    pub fn new(alloc: Global, layout: &'l Layout) -> Session<'l>
+        ensures { result ≡ begun layout.now }
+    {
+        Session {
+            alloc,
+            layout,
+            volume: "",
+            stage: Stage::Greeting,
+            held: Vec::new(alloc),
+            read: 0,
+            ended: false,
+            found: Bytes::empty(alloc),
+        }
+    }
+
+    // The client's bytes that are not read yet.
+    fn unread(&self) -> &[u8]
+        ensures { result.now ≡ self.now.unread }
+    {
+        let (_, unread) = self.held.split_at(self.read);
+        unread
+    }
+
+    /// What the session wants next: the same command until its answer is told, and at last how it ended.
+    ///
+    /// # Errors
+    ///
+    /// `NoMemory` where no memory was left. Nothing has changed then.
+    pub fn next(&mut self) -> Result<Step, NoMem>
+        ensures { Moved result self.old self.new (move_of self.old) }
+    {
+        match self.stage {
+            Stage::Greeting => {
+                let sent = greeting(self.alloc)?;
+                Ok(self.say(sent, Stage::Flags, 0))
+            }
+            Stage::Flags => self.read_flags(),
+            Stage::Options { brief } => self.read_option(brief, 0),
+            Stage::Requests => self.read_request(),
+            Stage::Replying { cookie, error } => self.reply(cookie, error),
+            Stage::Sending => {
+                let found = mem::replace(&mut self.found, Bytes::empty(self.alloc));
+                Ok(self.say(found, Stage::Requests, 0))
+            }
+            Stage::Over(end) => Ok(Step::Ended(end)),
+        }
+    }
+
+    // Sends bytes, so many of the client's being read, and goes on with this.
+    fn say(&mut self, sent: Bytes, next: Stage, taken: usize) -> Step
+        requires { taken ≤ length self.old.unread }
+        ensures step { result ≡ step_of (Says sent self.new) }
+        ensures after { self.new ≡ record self.old { stage = next; unread = drop taken self.old.unread } }
+    {
+        self.stage = next;
+        self.read += taken;
+        Step::Send(sent)
+    }
+
+    // Ends the session.
+    fn end(&mut self, end: End) -> Step
+        ensures step { result ≡ step_of (Ends end) }
+        ensures after { self.new ≡ after self.old (Ends end) }
+    {
+        self.stage = Stage::Over(end);
+        Step::Ended(end)
+    }
+
+    // Waits for more bytes, or ends if there are no more.
+    fn wait(&mut self) -> Step
+        ensures step { result ≡ step_of (waiting self.old) }
+        ensures after { self.new ≡ after self.old (waiting self.old) }
+    {
+        if self.ended {
+            self.end(End::Eof)
+        } else {
+            Step::Need
+        }
+    }
+
+    // Reads the client's flags, and the option behind them.
+    fn read_flags(&mut self) -> Result<Step, NoMem>
+        ensures { Moved result self.old self.new (flags_move self.old) }
+    {
+        let unread = self.unread();
+        if unread.len() < 4 {
+            return Ok(self.wait());
+        }
+        let flags = u32_at(unread, 0);
+        if 3 < flags {
+            return Ok(self.end(End::Dropped));
+        }
+        self.read_option(2 <= flags, 4)
+    }
+
+    // Reads the option that stands behind so many of the bytes.
+    fn read_option(&mut self, brief: bool, at: usize) -> Result<Step, NoMem>
+        requires { at ≤ length self.old.unread }
+        ensures { Moved result self.old self.new (option_move (record self.old { unread = drop at self.old.unread }) brief) }
+    {
+        let (_, bytes) = self.unread().split_at(at);
+        let size = option_size(bytes);
+        if bytes.len() < size {
+            return Ok(self.wait());
+        }
+        if !is_option(bytes) {
+            return Ok(self.end(End::Dropped));
+        }
+        let number = u32_at(bytes, 8);
+        let export = export_of(self.layout, option_data(bytes));
+        match Choice::of(number) {
+            Choice::ExportName => self.choose(export, brief, at + size),
+            Choice::Abort => {
+                let sent = option_reply(self.alloc, number, ACKNOWLEDGED)?;
+                Ok(self.say(sent, Stage::Over(End::Abort), at + size))
+            }
+            Choice::Other => {
+                let sent = option_reply(self.alloc, number, UNSUPPORTED)?;
+                Ok(self.say(sent, Stage::Options { brief }, at + size))
+            }
+        }
+    }
+
+    // Takes the volume that the client chose, if there is one.
+    fn choose(
+        &mut self,
+        export: Option<&'l Volume>,
+        brief: bool,
+        taken: usize,
+    ) -> Result<Step, NoMem>
+        requires { taken ≤ length self.old.unread }
+        ensures { Moved result self.old self.new (chosen (record self.old { unread = drop taken self.old.unread }) brief (option_copied export.entry)) }
+    {
+        let Some(volume) = export else {
+            return Ok(self.end(End::NoExport));
+        };
+        let size = self.layout.length(volume.name()).unwrap_or(0);
+        let sent = export_reply(self.alloc, size, brief)?;
+        self.volume = volume.name();
+        Ok(self.say(sent, Stage::Requests, taken))
+    }
+
+    // Reads a request.
+    fn read_request(&mut self) -> Result<Step, NoMem>
+        ensures { Moved result self.old self.new (request_move self.old) }
+    {
+        let unread = self.unread();
+        let size = request_size(unread);
+        if unread.len() < size {
+            return Ok(self.wait());
+        }
+        if !is_request(unread) {
+            return Ok(self.end(End::Dropped));
+        }
+        let request = Request::of(unread);
+        if request.flags == 0 {
+            self.serve(request, size)
+        } else {
+            self.reply_at_once(request, ReplyError::Invalid, size)
+        }
+    }
+
+    // Serves a request of so many bytes by its kind.
+    fn serve(&mut self, request: Request, size: usize) -> Result<Step, NoMem>
+        requires size { size ≡ request_size self.old.unread }
+        requires whole { size ≤ length self.old.unread }
+        ensures { Moved result self.old self.new (served self.old request request.kind) }
+    {
+        match request.kind {
+            Kind::Read if request.length <= MOST_BYTES => Ok(Step::Ask),
+            Kind::Write => Ok(Step::Ask),
+            Kind::Disc => Ok(self.end(End::Disc)),
+            Kind::Flush => self.reply_at_once(request, ReplyError::Success, size),
+            Kind::Read | Kind::Other => self.reply_at_once(request, ReplyError::Invalid, size),
+        }
+    }
+
+    // Replies to a request of so many bytes for which nothing is asked.
+    fn reply_at_once(
+        &mut self,
+        request: Request,
+        error: ReplyError,
+        size: usize,
+    ) -> Result<Step, NoMem>
+        requires size { size ≡ request_size self.old.unread }
+        requires whole { size ≤ length self.old.unread }
+        ensures { Moved result self.old self.new (replied self.old request error) }
+    {
+        let sent = request_reply(self.alloc, error, request.cookie)?;
+        Ok(self.say(sent, Stage::Requests, size))
+    }
+
+    // Sends the head of a reply.
+    fn reply(&mut self, cookie: u64, error: ReplyError) -> Result<Step, NoMem>
+        requires { self.old.stage ≡ Replying cookie error }
+        ensures { Moved result self.old self.new (move_of self.old) }
+    {
+        let sent = request_reply(self.alloc, error, cookie)?;
+        let next = if self.found.is_empty() {
+            Stage::Requests
+        } else {
+            Stage::Sending
+        };
+        Ok(self.say(sent, next, 0))
+    }
+}
