@@ -5,6 +5,7 @@
 //! (<https://github.com/NetworkBlockDevice/nbd/blob/master/doc/proto.md>).
 #![tactic(auto)]
 
+mod answers;
 mod fields;
 mod parts;
 mod replies;

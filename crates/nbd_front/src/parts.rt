@@ -14,7 +14,7 @@ const MOST_DATA: u32 = 4096;
 // The number by which a request begins.
 const REQUEST_MAGIC: u32 = 0x2560_9513;
 // The bytes of a request before those of a WRITE.
-const REQUEST_HEAD: usize = 28;
+pub(crate) const REQUEST_HEAD: usize = 28;
 // The most bytes that a READ or a WRITE may have.
 pub(crate) const MOST_BYTES: u32 = 33_554_432;
 

@@ -9,8 +9,8 @@ ghost use Rattle.nbd_front.specs.Sessions.{Session, begun, Move, Waits, Says, As
 
 use crate::fields::u32_at;
 use crate::parts::{
-    Choice, Kind, MOST_BYTES, Request, is_option, is_request, option_data, option_size,
-    request_size,
+    Choice, Kind, MOST_BYTES, REQUEST_HEAD, Request, is_option, is_request, option_data,
+    option_size, request_size,
 };
 use crate::replies::{
     ACKNOWLEDGED, UNSUPPORTED, export_reply, greeting, option_reply, request_reply,
@@ -131,15 +131,155 @@ impl<'l> Session<'l> {
         }
     }
 
+    /// The command that the session asks.
+    #[tactic(auto, using(crate::proofs::Asking::asks_whole))]
+    pub fn command(&self) -> Command<'_>
+        requires { move_of self.now ≡ Asks }
+        ensures { shown result ≡ asked_of self.now }
+    {
+        let unread = self.unread();
+        let request = Request::of(unread);
+        match request.kind {
+            Kind::Write => {
+                let (_, bytes) = unread.split_at(REQUEST_HEAD);
+                let (bytes, _) = bytes.split_at(request.length as usize);
+                Command::Write {
+                    volume: self.volume,
+                    byte: request.offset,
+                    bytes,
+                }
+            }
+            _ => Command::Read {
+                volume: self.volume,
+                byte: request.offset,
+                length: u64::from(request.length),
+            },
+        }
+    }
+
+    /// Takes the answer of the command that the session asks.
+    #[tactic(auto, using(crate::proofs::Asking::asks_whole))]
+    pub fn answer(&mut self, answer: RangeAnswer)
+        requires { move_of self.old ≡ Asks }
+        ensures { self.new ≡ answered self.old answer }
+    {
+        let unread = self.unread();
+        let size = request_size(unread);
+        let request = Request::of(unread);
+        self.skip(size);
+        self.stage = Stage::Replying {
+            cookie: request.cookie,
+            error: request.kind.error_of(&answer),
+        };
+        self.found = request.kind.found_by(self.alloc, answer);
+    }
+
+    /// Takes bytes of the client.
+    ///
+    /// # Errors
+    ///
+    /// `NoMemory` where no memory was left. Nothing has changed then.
+    pub fn feed(&mut self, piece: &[u8]) -> Result<(), NoMem>
+        ensures fed { OnOk result (self.new ≡ fed self.old piece.now) }
+        ensures same { OnErr result (self.new ≡ self.old) }
+    {
+        self.let_go()?;
+        self.make_room(piece.len())?;
+        Ok(self.held.extend_from_slice(piece)?)
+    }
+
+    // Lets go of the bytes that are read, if they are at least half of what is held.
+    fn let_go(&mut self) -> Result<(), NoMem>
+        ensures { self.new ≡ self.old }
+    {
+        let unread = self.held.len() - self.read;
+        if unread == 0 {
+            self.held.clear();
+            self.read = 0;
+        } else if unread <= self.read {
+            self.held = Vec::from_slice(self.alloc, self.unread())?;
+            self.read = 0;
+        }
+        Ok(())
+    }
+
+    // Makes room for so many bytes: at least as much more as there is, but no more than the part that is read next has.
+    fn make_room(&mut self, more: usize) -> Result<(), NoMem>
+        ensures { self.new ≡ self.old }
+    {
+        let held = self.held.len();
+        if self.held.capacity() - held < more {
+            let wanted = self.wanted();
+            let ahead = if wanted == 0 { held } else { held.min(wanted) };
+            self.held.reserve_exact(more.max(ahead))?;
+        }
+        Ok(())
+    }
+
+    /// How many bytes the part that is read next still lacks: after a Need, at least one.
+    pub fn wanted(&self) -> usize
+        ensures value { result ≡ wanted_of self.now }
+        ensures some { move_of self.now ≡ Waits → 1 ≤ result }
+    {
+        let unread = self.unread();
+        match self.stage {
+            Stage::Flags if unread.len() < 4 => 4 - unread.len(),
+            Stage::Flags => {
+                let (_, bytes) = unread.split_at(4);
+                option_size(bytes).saturating_sub(bytes.len())
+            }
+            Stage::Options { .. } => option_size(unread).saturating_sub(unread.len()),
+            Stage::Requests => request_size(unread).saturating_sub(unread.len()),
+            Stage::Greeting | Stage::Replying { .. } | Stage::Sending | Stage::Over(_) => 0,
+        }
+    }
+
+    /// Whether the next byte that is read is the first of an option or of a request.
+    pub fn wants_turn(&self) -> bool
+        ensures { result ≡ wants_turn self.now }
+    {
+        let unread = self.unread();
+        match self.stage {
+            Stage::Flags => unread.len() == 4 && u32_at(unread, 0) <= 3,
+            Stage::Options { .. } | Stage::Requests => unread.is_empty(),
+            Stage::Greeting | Stage::Replying { .. } | Stage::Sending | Stage::Over(_) => false,
+        }
+    }
+
+    /// Takes it that no turn is left: a session that has not ended ends here.
+    pub fn turns_over(&mut self)
+        ensures { self.new ≡ stopped self.old }
+    {
+        match self.stage {
+            Stage::Over(_) => (),
+            _ => self.stage = Stage::Over(End::Turns),
+        }
+    }
+
+    /// Takes it that the client's bytes have ended.
+    pub fn finish(&mut self)
+        ensures { self.new ≡ finished self.old }
+    {
+        self.ended = true;
+    }
+
     // Sends bytes, so many of the client's being read, and goes on with this.
     fn say(&mut self, sent: Bytes, next: Stage, taken: usize) -> Step
         requires { taken ≤ length self.old.unread }
         ensures step { result ≡ step_of (Says sent self.new) }
         ensures after { self.new ≡ record self.old { stage = next; unread = drop taken self.old.unread } }
     {
+        self.skip(taken);
         self.stage = next;
-        self.read += taken;
         Step::Send(sent)
+    }
+
+    // Takes it that so many of the client's bytes are read.
+    fn skip(&mut self, taken: usize)
+        requires { taken ≤ length self.old.unread }
+        ensures { self.new ≡ record self.old { unread = drop taken self.old.unread } }
+    {
+        self.read += taken;
     }
 
     // Ends the session.
