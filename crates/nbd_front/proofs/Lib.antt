@@ -1,1 +1,4 @@
 pub mod Asking
+pub mod Prefixes
+pub mod Feeding
+mod Worked
