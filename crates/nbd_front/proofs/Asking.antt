@@ -9,7 +9,7 @@ use Rattle.nbd_front.specs.declared.steps.ReplyError.TheVariants.{Invalid}
 use Rattle.nbd_front.specs.declared.steps.Stage.{Stage}
 use Rattle.nbd_front.specs.declared.steps.Stage.TheVariants as stage
 use Rattle.nbd_front.specs.Wire.{is_option, option_size, option_number, option_data, choice_of, client_flags, is_request, request_size, request_of, bytes_behind}
-use Rattle.nbd_front.specs.Sessions.{Session, Waits, Asks, Ends, waiting, export_of, chosen, reply_to, option_move, opened, flags_move, replied, served, request_move, move_in, move_of}
+use Rattle.nbd_front.specs.Sessions.{Session, Waits, Asks, Ends, waiting, export_of, chosen, reply_to, option_move, opened, flags_move, past_request, replied, served, request_move, move_in, move_of}
 
 -- a request has come whole, with the bytes behind it
 pub record IsWhole (bytes : List ℕ) : Type 0 where
@@ -77,8 +77,8 @@ request_whole session is = by_tests (nat_lt (length session.unread) (request_siz
     by_tests : (short : Bool) → nat_lt (length session.unread) (request_size session.unread) ≡ short → (ok : Bool) → is_request session.unread ≡ ok
         → cond short (waiting session)
         (cond ok
-        (cond (nat_eq (request_of session.unread).flags 0) (served session (request_of session.unread) (request_of session.unread).kind)
-        (replied session (request_of session.unread) Invalid))
+        (cond (nat_eq (request_of session.unread).flags 0) (served (past_request session) (request_of session.unread) (request_of session.unread).kind)
+        (replied (past_request session) (request_of session.unread) Invalid))
         (Ends Dropped))
         ≡ Asks → IsWhole session.unread
     by_tests true test ok right is = absurd (waits_not session.ended is)

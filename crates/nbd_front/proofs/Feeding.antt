@@ -1,16 +1,20 @@
 -- What a session does next is the same whatever bytes come behind those that it reads.
-use Rattle.std.proofs.Common.{◌≡◌, ℕ, ◌≤◌, nat_lt, nat_le, Bool, true, false, cond, List, ◌++◌, length, drop, Option, Some, None, length-append, refl, ap, subst, ◌∙◌, arith}
+use Rattle.std.proofs.Common.{◌≡◌, ℕ, ◌+◌, ◌≤◌, nat_eq, nat_lt, nat_le, Bool, true, false, cond, List, ◌++◌, length, take, drop, Option, Some, None, length-append, refl, sym, ap, subst, ◌∙◌, arith}
 use Rattle.std.proofs.lemmas.Bool.Decides.{nat_tests}
 use Rattle.std.proofs.lemmas.List.{drop-append-le}
 use Rattle.fab_base.specs.Layouts.{Volume}
 use Rattle.nbd_front.specs.declared.parts.Choice.{Choice}
 use Rattle.nbd_front.specs.declared.parts.Choice.TheVariants as choice
+use Rattle.nbd_front.specs.declared.parts.Kind.{Kind}
+use Rattle.nbd_front.specs.declared.parts.Kind.TheVariants as kind
 use Rattle.nbd_front.specs.declared.parts.Request.{Request}
 use Rattle.nbd_front.specs.declared.steps.End.TheVariants.{Eof, Dropped}
-use Rattle.nbd_front.specs.declared.steps.ReplyError.{ReplyError}
-use Rattle.nbd_front.specs.Wire.{client_flags, is_option, option_size, option_number, option_data, choice_of}
-use Rattle.nbd_front.specs.Sessions.{Session, Move, Waits, Says, Ends, waiting, export_of, chosen, reply_to, option_move, opened, flags_move, replied, fed}
-use Rattle.nbd_front.proofs.Prefixes.{field_same, is_option_same, option_size_same, option_head, option_all, option_data_same}
+use Rattle.nbd_front.specs.declared.steps.ReplyError.TheVariants.{Invalid}
+use Rattle.nbd_front.specs.declared.steps.Stage.{Stage}
+use Rattle.nbd_front.specs.declared.steps.Stage.TheVariants as stage
+use Rattle.nbd_front.specs.Wire.{client_flags, is_option, option_size, option_number, option_data, choice_of, is_request, request_size, request_of}
+use Rattle.nbd_front.specs.Sessions.{Session, Move, Waits, Says, Asks, Ends, waiting, export_of, chosen, reply_to, option_move, opened, flags_move, past_request, replied, served, request_move, move_in, move_of, fed}
+use Rattle.nbd_front.proofs.Prefixes.{field_same, is_option_same, option_size_same, option_head, option_all, option_data_same, request_same, is_request_same, request_head, request_size_same}
 
 -- a session that does not wait
 abbrev pub Speaks : Move → Type 0
@@ -22,7 +26,7 @@ abbrev pub fed_move : List ℕ → Move → Move
 fed_move piece (Says sent next) = Says sent (fed next piece)
 fed_move piece move = move
 
-waits_on : (session : Session) → session.ended ≡ false → Speaks (waiting session) → ⊥
+pub waits_on : (session : Session) → session.ended ≡ false → Speaks (waiting session) → ⊥
 waits_on session open_still speaks = subst (λ (t : Bool). Speaks (cond t (Ends Eof) Waits)) open_still speaks
 
 long : (xs ys : List ℕ) (n m : ℕ) → m ≡ n → n ≤ length xs → nat_lt (length (xs ++ ys)) m ≡ false
@@ -125,6 +129,88 @@ flags_fed session piece open_still speaks = by_short (nat_lt (length session.unr
 
 -- ---- requests
 
--- what comes of a request, by its tests and fields, where the session that has read it is this
-abbrev reply_by : Session → Request → ReplyError → Move
-reply_by past request error = replied past request error
+served_same : (past : Session) (piece : List ℕ) (request : Request) (asked : Kind)
+    → served (fed past piece) request asked ≡ fed_move piece (served past request asked)
+served_same past piece request kind.Read = by_length (nat_le request.length 33_554_432)
+  where
+    by_length : (within : Bool)
+        → cond within Asks (replied (fed past piece) request Invalid) ≡ fed_move piece (cond within Asks (replied past request Invalid))
+    by_length true = refl
+    by_length false = refl
+served_same past piece request kind.Write = refl
+served_same past piece request kind.Disc = refl
+served_same past piece request kind.Flush = refl
+served_same past piece request kind.Other = refl
+
+-- what comes of a right request where the session that has read it is this
+abbrev right_by : Session → Request → Move
+right_by past request = cond (nat_eq request.flags 0) (served past request request.kind) (replied past request Invalid)
+
+right_same : (past : Session) (piece : List ℕ) (request : Request) → right_by (fed past piece) request ≡ fed_move piece (right_by past request)
+right_same past piece request = by_flags (nat_eq request.flags 0)
+  where
+    by_flags : (none : Bool)
+        → cond none (served (fed past piece) request request.kind) (replied (fed past piece) request Invalid)
+        ≡ fed_move piece (cond none (served past request request.kind) (replied past request Invalid))
+    by_flags true = served_same past piece request request.kind
+    by_flags false = refl
+
+-- the session once its request is read, of which these bytes are left
+abbrev past_by : Session → List ℕ → Session
+past_by session rest = record session { stage = stage.Requests; unread = rest }
+
+-- what comes of a request, by its tests
+abbrev request_by : Session → Bool → Bool → List ℕ → Request → Move
+request_by session short right rest request =
+    cond short (waiting session) (cond right (right_by (past_by session rest) request) (Ends Dropped))
+
+request_fed : (session : Session) (piece : List ℕ) → session.ended ≡ false → Speaks (request_move session)
+    → request_move (fed session piece) ≡ fed_move piece (request_move session)
+request_fed session piece open_still speaks =
+    by_short (nat_lt (length session.unread) (request_size session.unread)) refl speaks
+  where
+    by_right : (right : Bool)
+        → request_by (fed session piece) false right (drop (request_size session.unread) session.unread ++ piece) (request_of session.unread)
+        ≡ fed_move piece
+          (request_by session false right (drop (request_size session.unread) session.unread) (request_of session.unread))
+    by_right false = refl
+    by_right true = right_same (past_request session) piece (request_of session.unread)
+
+    by_short : (short : Bool) → nat_lt (length session.unread) (request_size session.unread) ≡ short
+        → Speaks (request_by session short (is_request session.unread) (drop (request_size session.unread) session.unread)
+                  (request_of session.unread))
+        → request_move (fed session piece)
+        ≡ fed_move piece
+          (request_by session short (is_request session.unread) (drop (request_size session.unread) session.unread)
+           (request_of session.unread))
+    by_short true test speaks = absurd (waits_on session open_still speaks)
+    by_short false test speaks =
+        let xs = session.unread in
+        let more : Session = fed session piece in
+        let whole : request_size xs ≤ length xs = grind (arith, nat_tests) in
+        let size = request_size_same xs piece whole in
+        let head = request_head xs whole in
+        ap (λ t. request_by more t (is_request (xs ++ piece)) (drop (request_size (xs ++ piece)) (xs ++ piece)) (request_of (xs ++ piece)))
+        (long xs piece (request_size xs) (request_size (xs ++ piece)) size whole)
+        ∙ ap (λ n. request_by more false (is_request (xs ++ piece)) (drop n (xs ++ piece)) (request_of (xs ++ piece))) size
+        ∙ ap (λ l. request_by more false (is_request (xs ++ piece)) l (request_of (xs ++ piece)))
+        (drop-append-le (request_size xs) xs piece whole)
+        ∙ ap (λ t. request_by more false t (drop (request_size xs) xs ++ piece) (request_of (xs ++ piece))) (is_request_same xs piece head)
+        ∙ ap (λ r. request_by more false (is_request xs) (drop (request_size xs) xs ++ piece) r) (request_same xs piece head)
+        ∙ by_right (is_request xs)
+
+-- ---- the session
+
+-- A session whose bytes have not ended, and which does not wait, makes the same move if more bytes have come.
+pub move_fed : (session : Session) (piece : List ℕ) → session.ended ≡ false → Speaks (move_of session)
+    → move_of (fed session piece) ≡ fed_move piece (move_of session)
+move_fed session piece open_still speaks = by_stage session.stage speaks
+  where
+    by_stage : (here : Stage) → Speaks (move_in session here) → move_in (fed session piece) here ≡ fed_move piece (move_in session here)
+    by_stage stage.Greeting speaks = refl
+    by_stage stage.Flags speaks = flags_fed session piece open_still speaks
+    by_stage (stage.Options brief) speaks = option_fed session piece brief open_still speaks
+    by_stage stage.Requests speaks = request_fed session piece open_still speaks
+    by_stage (stage.Replying cookie error) speaks = refl
+    by_stage stage.Sending speaks = refl
+    by_stage (stage.Over end) speaks = refl

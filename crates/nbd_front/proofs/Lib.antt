@@ -1,4 +1,5 @@
 pub mod Asking
 pub mod Prefixes
 pub mod Feeding
+pub mod Finishing
 mod Worked

@@ -91,16 +91,15 @@ flags_move session =
 
 -- ---- requests
 
--- the session once its request is read
+-- the session once its request is read, with requests next
 abbrev pub past_request : Session → Session
-past_request session = record session { unread = drop (request_size session.unread) session.unread }
+past_request session = record session { stage = stage.Requests; unread = drop (request_size session.unread) session.unread }
 
--- a reply at once
+-- a reply at once, after which the session is this
 abbrev pub replied : Session → Request → ReplyError → Move
-replied session request error =
-    Says (request_reply error request.cookie) (record (past_request session) { stage = stage.Requests })
+replied session request error = Says (request_reply error request.cookie) session
 
--- what comes of a request by its kind, if it has no flags
+-- what comes of a request by its kind, if it has no flags, and where the session that has read it is this
 abbrev pub served : Session → Request → Kind → Move
 served session request kind.Read = if nat_le request.length 33_554_432 then Asks else replied session request Invalid
 served session request kind.Write = Asks
@@ -113,8 +112,9 @@ abbrev pub request_move : Session → Move
 request_move session =
     if nat_lt (length session.unread) (request_size session.unread) then waiting session else
     if is_request session.unread then
-    (if nat_eq (request_of session.unread).flags 0 then served session (request_of session.unread) (request_of session.unread).kind
-    else replied session (request_of session.unread) Invalid)
+    (if nat_eq (request_of session.unread).flags 0 then
+    served (past_request session) (request_of session.unread) (request_of session.unread).kind
+    else replied (past_request session) (request_of session.unread) Invalid)
     else Ends Dropped
 
 -- what comes behind the head of a reply: the bytes of a READ, if there are some

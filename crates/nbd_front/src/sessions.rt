@@ -389,7 +389,7 @@ impl<'l> Session<'l> {
     fn serve(&mut self, request: Request, size: usize) -> Result<Step, NoMem>
         requires size { size ≡ request_size self.old.unread }
         requires whole { size ≤ length self.old.unread }
-        ensures { Moved result self.old self.new (served self.old request request.kind) }
+        ensures { Moved result self.old self.new (served (past_request self.old) request request.kind) }
     {
         match request.kind {
             Kind::Read if request.length <= MOST_BYTES => Ok(Step::Ask),
@@ -409,7 +409,7 @@ impl<'l> Session<'l> {
     ) -> Result<Step, NoMem>
         requires size { size ≡ request_size self.old.unread }
         requires whole { size ≤ length self.old.unread }
-        ensures { Moved result self.old self.new (replied self.old request error) }
+        ensures { Moved result self.old self.new (replied (past_request self.old) request error) }
     {
         let sent = request_reply(self.alloc, error, request.cookie)?;
         Ok(self.say(sent, Stage::Requests, size))
