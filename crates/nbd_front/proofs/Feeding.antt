@@ -1,5 +1,5 @@
 -- What a session does next is the same whatever bytes come behind those that it reads.
-use Rattle.std.proofs.Common.{◌≡◌, ℕ, ◌+◌, ◌≤◌, nat_eq, nat_lt, nat_le, Bool, true, false, cond, List, ◌++◌, length, take, drop, Option, Some, None, length-append, refl, sym, ap, subst, ◌∙◌, arith}
+use Rattle.std.proofs.Common.{◌≡◌, ℕ, ◌≤◌, nat_eq, nat_lt, nat_le, Bool, true, false, cond, List, ◌++◌, length, drop, Option, Some, None, length-append, refl, ap, subst, ◌∙◌, arith}
 use Rattle.std.proofs.lemmas.Bool.Decides.{nat_tests}
 use Rattle.std.proofs.lemmas.List.{drop-append-le}
 use Rattle.fab_base.specs.Layouts.{Volume}
@@ -172,17 +172,17 @@ request_fed session piece open_still speaks =
     by_right : (right : Bool)
         → request_by (fed session piece) false right (drop (request_size session.unread) session.unread ++ piece) (request_of session.unread)
         ≡ fed_move piece
-          (request_by session false right (drop (request_size session.unread) session.unread) (request_of session.unread))
+        (request_by session false right (drop (request_size session.unread) session.unread) (request_of session.unread))
     by_right false = refl
     by_right true = right_same (past_request session) piece (request_of session.unread)
 
     by_short : (short : Bool) → nat_lt (length session.unread) (request_size session.unread) ≡ short
         → Speaks (request_by session short (is_request session.unread) (drop (request_size session.unread) session.unread)
-                  (request_of session.unread))
+        (request_of session.unread))
         → request_move (fed session piece)
         ≡ fed_move piece
-          (request_by session short (is_request session.unread) (drop (request_size session.unread) session.unread)
-           (request_of session.unread))
+        (request_by session short (is_request session.unread) (drop (request_size session.unread) session.unread)
+        (request_of session.unread))
     by_short true test speaks = absurd (waits_on session open_still speaks)
     by_short false test speaks =
         let xs = session.unread in

@@ -39,8 +39,8 @@ abbrev option_by : Session → Bool → Bool → Bool → Move
 option_by session brief short right =
     cond short (waiting session)
     (cond right
-     (reply_to (past_option session) brief (option_number session.unread) (option_data session.unread) (choice_of (option_number session.unread)))
-     (Ends Dropped))
+    (reply_to (past_option session) brief (option_number session.unread) (option_data session.unread) (choice_of (option_number session.unread)))
+    (Ends Dropped))
 
 option_ended : (session : Session) (brief : Bool) → session.ended ≡ false → Speaks (option_move session brief)
     → option_move (finished session) brief ≡ finished_move (option_move session brief)
@@ -87,9 +87,9 @@ abbrev request_by : Session → Bool → Bool → Bool → Move
 request_by session short right none =
     cond short (waiting session)
     (cond right
-     (cond none (served (past_request session) (request_of session.unread) (request_of session.unread).kind)
-      (replied (past_request session) (request_of session.unread) Invalid))
-     (Ends Dropped))
+    (cond none (served (past_request session) (request_of session.unread) (request_of session.unread).kind)
+    (replied (past_request session) (request_of session.unread) Invalid))
+    (Ends Dropped))
 
 request_ended : (session : Session) → session.ended ≡ false → Speaks (request_move session)
     → request_move (finished session) ≡ finished_move (request_move session)

@@ -2,4 +2,5 @@ pub mod Asking
 pub mod Prefixes
 pub mod Feeding
 pub mod Finishing
+pub mod Telling
 mod Worked

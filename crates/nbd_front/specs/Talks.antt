@@ -1,5 +1,5 @@
 -- What a session says along a client's bytes.
-use Rattle.std.specs.Prelude.{◌≡◌, ℕ, Bool, List, [], ◌∷◌}
+use Rattle.std.specs.Prelude.{◌≡◌, ℕ, Bool, true, false, List, [], ◌∷◌, ◌++◌}
 use Rattle.fab_base.specs.Layouts.{Layout}
 use Rattle.front.specs.declared.steps.RangeAnswer.{RangeAnswer}
 use Rattle.nbd_front.specs.declared.steps.End.{End}
@@ -38,3 +38,20 @@ said_by step.Need = []
 said_by (step.Send bytes) = Sent bytes ∷ []
 said_by step.Ask = []
 said_by (step.Ended end) = Closed end ∷ []
+
+-- Whatever has been said before, this has been said after it.
+abbrev pub GoesOn : Session → List Saying → Session → Type 0
+GoesOn old more new =
+    (layout : Layout) (bytes : List ℕ) (ended : Bool) (said : List Saying) → HasSaid layout bytes ended said old
+    → HasSaid layout bytes ended (said ++ more) new
+
+-- Whatever has been said, these bytes of the client may as well have come before it all.
+abbrev pub TakesBytes : Session → List ℕ → Session → Type 0
+TakesBytes old piece new =
+    (layout : Layout) (bytes : List ℕ) (said : List Saying) → HasSaid layout bytes false said old
+    → HasSaid layout (bytes ++ piece) false said new
+
+-- Whatever has been said, the client's bytes may as well have ended before it all.
+abbrev pub TakesEnd : Session → Session → Type 0
+TakesEnd old new =
+    (layout : Layout) (bytes : List ℕ) (said : List Saying) → HasSaid layout bytes false said old → HasSaid layout bytes true said new

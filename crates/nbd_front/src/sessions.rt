@@ -1,11 +1,12 @@
 //! Sessions.
 
-ghost use Rattle.std.specs.Prelude.{◌≡◌, ◌≤◌, ◌+◌, length, drop, IfOk, OnOk, OnErr, [], option_copied, string_bytes};
+ghost use Rattle.std.specs.Prelude.{◌≡◌, ◌≤◌, ◌+◌, length, drop, IfOk, OnOk, OnErr, false, [], ◌∷◌, option_copied, string_bytes};
 ghost use Rattle.layout.specs.Places.{volume_of};
 ghost use Rattle.nbd_front.specs.Wire.{request_of, request_size};
 ghost use Rattle.nbd_front.specs.declared.steps.End.TheVariants.{Disc, Abort, Eof, Dropped, NoExport};
 ghost use Rattle.nbd_front.specs.declared.steps.Stage.TheVariants.{Replying};
 ghost use Rattle.nbd_front.specs.Sessions.{Session, begun, Move, Waits, Says, Asks, Ends, waiting, export_of, chosen, reply_to, option_move, flags_move, past_request, replied, served, request_move, behind_reply, move_of, step_of, after, Moved, fed, finished, stopped, answered, shown, asked_of, wanted_of, wants_turn};
+ghost use Rattle.nbd_front.specs.Talks.{Answered, OutOfTurns, HasSaid, said_by, GoesOn, TakesBytes, TakesEnd};
 
 use crate::fields::u32_at;
 use crate::parts::{
@@ -83,8 +84,10 @@ fn volume_of<'l>(layout: &'l Layout, name: &[u8]) -> Option<&'l Volume>
 
 impl<'l> Session<'l> {
     /// A session of which no byte has come.
+    #[tactic(auto, using(crate::proofs::Telling::begins))]
     pub fn new(alloc: Global, layout: &'l Layout) -> Session<'l>
-        ensures { result ≡ begun layout.now }
+        ensures begun { result ≡ begun layout.now }
+        ensures told { HasSaid layout.now [] false [] result }
     {
         Session {
             alloc,
@@ -111,7 +114,18 @@ impl<'l> Session<'l> {
     /// # Errors
     ///
     /// `NoMemory` where no memory was left. Nothing has changed then.
+    #[tactic(auto, using(crate::proofs::Telling::moves_on))]
     pub fn next(&mut self) -> Result<Step, NoMem>
+        ensures step { IfOk result (λ step. step ≡ step_of (move_of self.old)) }
+        ensures after { OnOk result (self.new ≡ after self.old (move_of self.old)) }
+        ensures told { IfOk result (λ step. GoesOn self.old (said_by step) self.new) }
+        ensures same { OnErr result (self.new ≡ self.old) }
+    {
+        self.make_move()
+    }
+
+    // Makes the next move.
+    fn make_move(&mut self) -> Result<Step, NoMem>
         ensures { Moved result self.old self.new (move_of self.old) }
     {
         match self.stage {
@@ -158,10 +172,11 @@ impl<'l> Session<'l> {
     }
 
     /// Takes the answer of the command that the session asks.
-    #[tactic(auto, using(crate::proofs::Asking::asks_whole))]
+    #[tactic(auto, using(crate::proofs::Asking::asks_whole, crate::proofs::Telling::answers_on))]
     pub fn answer(&mut self, answer: RangeAnswer)
         requires { move_of self.old ≡ Asks }
-        ensures { self.new ≡ answered self.old answer }
+        ensures after { self.new ≡ answered self.old answer }
+        ensures told { GoesOn self.old (Answered (asked_of self.old) answer ∷ []) self.new }
     {
         let unread = self.unread();
         let size = request_size(unread);
@@ -179,8 +194,18 @@ impl<'l> Session<'l> {
     /// # Errors
     ///
     /// `NoMemory` where no memory was left. Nothing has changed then.
+    #[tactic(auto, using(crate::proofs::Telling::takes_bytes))]
     pub fn feed(&mut self, piece: &[u8]) -> Result<(), NoMem>
-        ensures fed { OnOk result (self.new ≡ fed self.old piece.now) }
+        ensures after { OnOk result (self.new ≡ fed self.old piece.now) }
+        ensures told { OnOk result (TakesBytes self.old piece.now self.new) }
+        ensures same { OnErr result (self.new ≡ self.old) }
+    {
+        self.hold(piece)
+    }
+
+    // Holds bytes behind those that it holds.
+    fn hold(&mut self, piece: &[u8]) -> Result<(), NoMem>
+        ensures after { OnOk result (self.new ≡ fed self.old piece.now) }
         ensures same { OnErr result (self.new ≡ self.old) }
     {
         self.let_go()?;
@@ -247,8 +272,10 @@ impl<'l> Session<'l> {
     }
 
     /// Takes it that no turn is left: a session that has not ended ends here.
+    #[tactic(auto, using(crate::proofs::Telling::stops))]
     pub fn turns_over(&mut self)
-        ensures { self.new ≡ stopped self.old }
+        ensures after { self.new ≡ stopped self.old }
+        ensures told { GoesOn self.old (OutOfTurns ∷ []) self.new }
     {
         match self.stage {
             Stage::Over(_) => (),
@@ -257,8 +284,10 @@ impl<'l> Session<'l> {
     }
 
     /// Takes it that the client's bytes have ended.
+    #[tactic(auto, using(crate::proofs::Telling::takes_end))]
     pub fn finish(&mut self)
-        ensures { self.new ≡ finished self.old }
+        ensures after { self.new ≡ finished self.old }
+        ensures told { TakesEnd self.old self.new }
     {
         self.ended = true;
     }
