@@ -2,12 +2,12 @@
 use Rattle.std.proofs.Common.{◌≡◌, ℕ, ◌+◌, ◌≤◌, nat_eq, nat_lt, nat_le, Bool, true, false, ◌&&◌, cond, List, length, drop, Option, Some, None, refl, ap, subst, ◌∙◌, arith}
 use Rattle.std.proofs.lemmas.Bool.Decides.{nat_tests}
 use Rattle.fab_base.specs.Layouts.{Volume}
-use Rattle.nbd_front.specs.declared.parts.Choice.{Choice}
-use Rattle.nbd_front.specs.declared.parts.Choice.TheVariants as choice
+use Rattle.nbd_front.specs.declared.parts.NbdOption.{NbdOption}
+use Rattle.nbd_front.specs.declared.parts.NbdOption.TheVariants as choice
 use Rattle.nbd_front.specs.declared.steps.End.TheVariants.{Eof, Dropped, NoExport}
 use Rattle.nbd_front.specs.declared.steps.ReplyError.TheVariants.{Invalid}
-use Rattle.nbd_front.specs.declared.steps.Stage.{Stage}
-use Rattle.nbd_front.specs.declared.steps.Stage.TheVariants as stage
+use Rattle.nbd_front.specs.declared.steps.SessionStage.{SessionStage}
+use Rattle.nbd_front.specs.declared.steps.SessionStage.TheVariants as stage
 use Rattle.nbd_front.specs.Wire.{is_option, option_size, option_number, option_data, choice_of, client_flags, is_request, request_size, request_of, bytes_behind}
 use Rattle.nbd_front.specs.Sessions.{Session, Waits, Asks, Ends, waiting, export_of, chosen, reply_to, option_move, opened, flags_move, past_request, replied, served, request_move, move_in, move_of}
 
@@ -25,7 +25,7 @@ chosen_not : (session : Session) (brief : Bool) (found : Option Volume) → chos
 chosen_not session brief None is = let never : Ends NoExport ≡ Asks = is in cc
 chosen_not session brief (Some volume) is = let never : chosen session brief (Some volume) ≡ Asks = is in cc
 
-reply_not : (session : Session) (brief : Bool) (number : ℕ) (name : List ℕ) (wish : Choice) → reply_to session brief number name wish ≡ Asks → ⊥
+reply_not : (session : Session) (brief : Bool) (number : ℕ) (name : List ℕ) (wish : NbdOption) → reply_to session brief number name wish ≡ Asks → ⊥
 reply_not session brief number name choice.ExportName is = chosen_not session brief (export_of session.layout name) is
 reply_not session brief number name choice.Abort is = let never : reply_to session brief number name choice.Abort ≡ Asks = is in cc
 reply_not session brief number name choice.Other is = let never : reply_to session brief number name choice.Other ≡ Asks = is in cc
@@ -89,7 +89,7 @@ request_whole session is = by_tests (nat_lt (length session.unread) (request_siz
 pub asks_whole : (session : Session) → move_of session ≡ Asks → IsWhole session.unread
 asks_whole session is = by_stage session.stage is
   where
-    by_stage : (here : Stage) → move_in session here ≡ Asks → IsWhole session.unread
+    by_stage : (here : SessionStage) → move_in session here ≡ Asks → IsWhole session.unread
     by_stage stage.Greeting is = let never : move_in session stage.Greeting ≡ Asks = is in cc
     by_stage stage.Flags is = absurd (flags_not session is)
     by_stage (stage.Options brief) is = absurd (option_not session brief is)

@@ -3,31 +3,31 @@ use Rattle.std.proofs.Common.{◌≡◌, ℕ, ◌≤◌, nat_eq, nat_lt, nat_le,
 use Rattle.std.proofs.lemmas.Bool.Decides.{nat_tests}
 use Rattle.std.proofs.lemmas.List.{drop-append-le}
 use Rattle.fab_base.specs.Layouts.{Volume}
-use Rattle.nbd_front.specs.declared.parts.Choice.{Choice}
-use Rattle.nbd_front.specs.declared.parts.Choice.TheVariants as choice
-use Rattle.nbd_front.specs.declared.parts.Kind.{Kind}
-use Rattle.nbd_front.specs.declared.parts.Kind.TheVariants as kind
-use Rattle.nbd_front.specs.declared.parts.Request.{Request}
+use Rattle.nbd_front.specs.declared.parts.NbdOption.{NbdOption}
+use Rattle.nbd_front.specs.declared.parts.NbdOption.TheVariants as choice
+use Rattle.nbd_front.specs.declared.parts.NbdKind.{NbdKind}
+use Rattle.nbd_front.specs.declared.parts.NbdKind.TheVariants as kind
+use Rattle.nbd_front.specs.declared.parts.NbdRequest.{NbdRequest}
 use Rattle.nbd_front.specs.declared.steps.End.TheVariants.{Eof, Dropped}
 use Rattle.nbd_front.specs.declared.steps.ReplyError.TheVariants.{Invalid}
-use Rattle.nbd_front.specs.declared.steps.Stage.{Stage}
-use Rattle.nbd_front.specs.declared.steps.Stage.TheVariants as stage
+use Rattle.nbd_front.specs.declared.steps.SessionStage.{SessionStage}
+use Rattle.nbd_front.specs.declared.steps.SessionStage.TheVariants as stage
 use Rattle.nbd_front.specs.Wire.{client_flags, is_option, option_size, option_number, option_data, choice_of, is_request, request_size, request_of}
 use Rattle.nbd_front.specs.Sessions.{Session, Move, Waits, Says, Asks, Ends, waiting, export_of, chosen, reply_to, option_move, opened, flags_move, past_request, replied, served, request_move, move_in, move_of, fed}
 use Rattle.nbd_front.proofs.Prefixes.{field_same, is_option_same, option_size_same, option_head, option_all, option_data_same, request_same, is_request_same, request_head, request_size_same}
 
 -- a session that does not wait
-abbrev pub Speaks : Move → Type 0
-Speaks Waits = ⊥
-Speaks move = Unit {0}
+abbrev pub MovesOn : Move → Type 0
+MovesOn Waits = ⊥
+MovesOn move = Unit {0}
 
 -- the same move of a session to which these bytes have come too
 abbrev pub fed_move : List ℕ → Move → Move
 fed_move piece (Says sent next) = Says sent (fed next piece)
 fed_move piece move = move
 
-pub waits_on : (session : Session) → session.ended ≡ false → Speaks (waiting session) → ⊥
-waits_on session open_still speaks = subst (λ (t : Bool). Speaks (cond t (Ends Eof) Waits)) open_still speaks
+pub waits_on : (session : Session) → session.ended ≡ false → MovesOn (waiting session) → ⊥
+waits_on session open_still speaks = subst (λ (t : Bool). MovesOn (cond t (Ends Eof) Waits)) open_still speaks
 
 long : (xs ys : List ℕ) (n m : ℕ) → m ≡ n → n ≤ length xs → nat_lt (length (xs ++ ys)) m ≡ false
 long xs ys n m same whole = let sum = length-append xs ys in grind (arith, nat_tests)
@@ -39,7 +39,7 @@ chosen_same : (session : Session) (piece : List ℕ) (brief : Bool) (found : Opt
 chosen_same session piece brief None = refl
 chosen_same session piece brief (Some volume) = refl
 
-reply_same : (session : Session) (piece : List ℕ) (brief : Bool) (number : ℕ) (name : List ℕ) (wish : Choice)
+reply_same : (session : Session) (piece : List ℕ) (brief : Bool) (number : ℕ) (name : List ℕ) (wish : NbdOption)
     → reply_to (fed session piece) brief number name wish ≡ fed_move piece (reply_to session brief number name wish)
 reply_same session piece brief number name choice.ExportName = chosen_same session piece brief (export_of session.layout name)
 reply_same session piece brief number name choice.Abort = refl
@@ -51,7 +51,7 @@ option_by session brief short right rest number name =
     cond short (waiting session)
     (cond right (reply_to (record session { unread = rest }) brief number name (choice_of number)) (Ends Dropped))
 
-pub option_fed : (session : Session) (piece : List ℕ) (brief : Bool) → session.ended ≡ false → Speaks (option_move session brief)
+pub option_fed : (session : Session) (piece : List ℕ) (brief : Bool) → session.ended ≡ false → MovesOn (option_move session brief)
     → option_move (fed session piece) brief ≡ fed_move piece (option_move session brief)
 option_fed session piece brief open_still speaks =
     by_short (nat_lt (length session.unread) (option_size session.unread)) refl speaks
@@ -71,7 +71,7 @@ option_fed session piece brief open_still speaks =
         ∙ reply_same at piece brief (option_number xs) (option_data xs) (choice_of (option_number xs))
 
     by_short : (short : Bool) → nat_lt (length session.unread) (option_size session.unread) ≡ short
-        → Speaks (option_by session brief short (is_option session.unread) (drop (option_size session.unread) session.unread)
+        → MovesOn (option_by session brief short (is_option session.unread) (drop (option_size session.unread) session.unread)
         (option_number session.unread) (option_data session.unread))
         → option_move (fed session piece) brief
         ≡ fed_move piece
@@ -103,19 +103,19 @@ flags_by session short flags rest =
     cond short (waiting session)
     (cond (nat_lt 3 flags) (Ends Dropped) (option_move (record session { unread = rest }) (nat_le 2 flags)))
 
-flags_fed : (session : Session) (piece : List ℕ) → session.ended ≡ false → Speaks (flags_move session)
+flags_fed : (session : Session) (piece : List ℕ) → session.ended ≡ false → MovesOn (flags_move session)
     → flags_move (fed session piece) ≡ fed_move piece (flags_move session)
 flags_fed session piece open_still speaks = by_short (nat_lt (length session.unread) 4) refl speaks
   where
     by_bad : (bad : Bool)
-        → Speaks (cond bad (Ends Dropped) (option_move (opened session) (nat_le 2 (client_flags session.unread))))
+        → MovesOn (cond bad (Ends Dropped) (option_move (opened session) (nat_le 2 (client_flags session.unread))))
         → cond bad (Ends Dropped) (option_move (fed (opened session) piece) (nat_le 2 (client_flags session.unread)))
         ≡ fed_move piece (cond bad (Ends Dropped) (option_move (opened session) (nat_le 2 (client_flags session.unread))))
     by_bad true speaks = refl
     by_bad false speaks = option_fed (opened session) piece (nat_le 2 (client_flags session.unread)) open_still speaks
 
     by_short : (short : Bool) → nat_lt (length session.unread) 4 ≡ short
-        → Speaks (flags_by session short (client_flags session.unread) (drop 4 session.unread))
+        → MovesOn (flags_by session short (client_flags session.unread) (drop 4 session.unread))
         → flags_move (fed session piece) ≡ fed_move piece (flags_by session short (client_flags session.unread) (drop 4 session.unread))
     by_short true test speaks = absurd (waits_on session open_still speaks)
     by_short false test speaks =
@@ -129,7 +129,7 @@ flags_fed session piece open_still speaks = by_short (nat_lt (length session.unr
 
 -- ---- requests
 
-served_same : (past : Session) (piece : List ℕ) (request : Request) (asked : Kind)
+served_same : (past : Session) (piece : List ℕ) (request : NbdRequest) (asked : NbdKind)
     → served (fed past piece) request asked ≡ fed_move piece (served past request asked)
 served_same past piece request kind.Read = by_length (nat_le request.length 33_554_432)
   where
@@ -143,10 +143,10 @@ served_same past piece request kind.Flush = refl
 served_same past piece request kind.Other = refl
 
 -- what comes of a right request where the session that has read it is this
-abbrev right_by : Session → Request → Move
+abbrev right_by : Session → NbdRequest → Move
 right_by past request = cond (nat_eq request.flags 0) (served past request request.kind) (replied past request Invalid)
 
-right_same : (past : Session) (piece : List ℕ) (request : Request) → right_by (fed past piece) request ≡ fed_move piece (right_by past request)
+right_same : (past : Session) (piece : List ℕ) (request : NbdRequest) → right_by (fed past piece) request ≡ fed_move piece (right_by past request)
 right_same past piece request = by_flags (nat_eq request.flags 0)
   where
     by_flags : (none : Bool)
@@ -160,11 +160,11 @@ abbrev past_by : Session → List ℕ → Session
 past_by session rest = record session { stage = stage.Requests; unread = rest }
 
 -- what comes of a request, by its tests
-abbrev request_by : Session → Bool → Bool → List ℕ → Request → Move
+abbrev request_by : Session → Bool → Bool → List ℕ → NbdRequest → Move
 request_by session short right rest request =
     cond short (waiting session) (cond right (right_by (past_by session rest) request) (Ends Dropped))
 
-request_fed : (session : Session) (piece : List ℕ) → session.ended ≡ false → Speaks (request_move session)
+request_fed : (session : Session) (piece : List ℕ) → session.ended ≡ false → MovesOn (request_move session)
     → request_move (fed session piece) ≡ fed_move piece (request_move session)
 request_fed session piece open_still speaks =
     by_short (nat_lt (length session.unread) (request_size session.unread)) refl speaks
@@ -177,7 +177,7 @@ request_fed session piece open_still speaks =
     by_right true = right_same (past_request session) piece (request_of session.unread)
 
     by_short : (short : Bool) → nat_lt (length session.unread) (request_size session.unread) ≡ short
-        → Speaks (request_by session short (is_request session.unread) (drop (request_size session.unread) session.unread)
+        → MovesOn (request_by session short (is_request session.unread) (drop (request_size session.unread) session.unread)
         (request_of session.unread))
         → request_move (fed session piece)
         ≡ fed_move piece
@@ -202,11 +202,11 @@ request_fed session piece open_still speaks =
 -- ---- the session
 
 -- A session whose bytes have not ended, and which does not wait, makes the same move if more bytes have come.
-pub move_fed : (session : Session) (piece : List ℕ) → session.ended ≡ false → Speaks (move_of session)
+pub move_fed : (session : Session) (piece : List ℕ) → session.ended ≡ false → MovesOn (move_of session)
     → move_of (fed session piece) ≡ fed_move piece (move_of session)
 move_fed session piece open_still speaks = by_stage session.stage speaks
   where
-    by_stage : (here : Stage) → Speaks (move_in session here) → move_in (fed session piece) here ≡ fed_move piece (move_in session here)
+    by_stage : (here : SessionStage) → MovesOn (move_in session here) → move_in (fed session piece) here ≡ fed_move piece (move_in session here)
     by_stage stage.Greeting speaks = refl
     by_stage stage.Flags speaks = flags_fed session piece open_still speaks
     by_stage (stage.Options brief) speaks = option_fed session piece brief open_still speaks

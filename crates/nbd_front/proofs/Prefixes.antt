@@ -4,7 +4,7 @@ use Rattle.std.proofs.lemmas.Bool.Decides.{nat_tests}
 use Rattle.std.proofs.lemmas.List.{drop-append-le, take-append-le, length-drop}
 use Rattle.byteorder.specs.Endian.{big_number}
 use Rattle.byteorder.specs.Numbers.{big_from-append}
-use Rattle.nbd_front.specs.declared.parts.Request.{Request}
+use Rattle.nbd_front.specs.declared.parts.NbdRequest.{NbdRequest}
 use Rattle.nbd_front.specs.Wire.{field, option_magic, option_length, option_data, is_option, option_size, kind_of, request_of, request_magic, bytes_behind, is_request, request_size}
 
 -- a field that has come whole
@@ -67,7 +67,7 @@ option_data_same xs ys all =
 
 -- ---- requests
 
-abbrev request_with : ℕ → ℕ → ℕ → ℕ → ℕ → Request
+abbrev request_with : ℕ → ℕ → ℕ → ℕ → ℕ → NbdRequest
 request_with flags number cookie offset length =
     record { flags = flags; kind = kind_of number; cookie = cookie; offset = offset; length = length }
 
@@ -83,7 +83,7 @@ request_same xs ys head =
     (field_same 16 8 xs ys (omega (arith, head)))
     ∙ ap (λ n. request_with (field 4 2 xs) (field 6 2 xs) (field 8 8 xs) (field 16 8 xs) n) (field_same 24 4 xs ys head)
 
-abbrev right_request : ℕ → Request → Bool
+abbrev right_request : ℕ → NbdRequest → Bool
 right_request magic request = nat_eq magic 0x2560_9513 && nat_le (bytes_behind request.kind request.length) 33_554_432
 
 pub is_request_same : (xs ys : List ℕ) → 28 ≤ length xs → is_request (xs ++ ys) ≡ is_request xs
@@ -101,7 +101,7 @@ request_size_same xs ys whole =
     let longer : 28 ≤ length (xs ++ ys) = omega (arith, head, length-append xs ys) in
     let here : nat_le 28 (length xs) ≡ true = grind (arith, nat_tests) in
     let there : nat_le 28 (length (xs ++ ys)) ≡ true = grind (arith, nat_tests) in
-    let behind : Request → ℕ = λ request. bytes_behind request.kind request.length in
+    let behind : NbdRequest → ℕ = λ request. bytes_behind request.kind request.length in
     ap (λ t. sized (t && is_request (xs ++ ys)) 28 (behind (request_of (xs ++ ys)))) there
     ∙ ap (λ t. sized t 28 (behind (request_of (xs ++ ys)))) (is_request_same xs ys head)
     ∙ ap (λ r. sized (is_request xs) 28 (behind r)) (request_same xs ys head)

@@ -5,19 +5,19 @@ use Rattle.layout.specs.Places.{volume_of, length_of}
 use Rattle.fab_base.specs.declared.faults.NoMem.{NoMem}
 use Rattle.front.specs.declared.steps.RangeAnswer.{RangeAnswer}
 use Rattle.front.specs.declared.steps.RangeAnswer.TheVariants as range
-use Rattle.nbd_front.specs.declared.parts.Choice.{Choice}
-use Rattle.nbd_front.specs.declared.parts.Choice.TheVariants as choice
-use Rattle.nbd_front.specs.declared.parts.Kind.{Kind}
-use Rattle.nbd_front.specs.declared.parts.Kind.TheVariants as kind
-use Rattle.nbd_front.specs.declared.parts.Request.{Request}
+use Rattle.nbd_front.specs.declared.parts.NbdOption.{NbdOption}
+use Rattle.nbd_front.specs.declared.parts.NbdOption.TheVariants as choice
+use Rattle.nbd_front.specs.declared.parts.NbdKind.{NbdKind}
+use Rattle.nbd_front.specs.declared.parts.NbdKind.TheVariants as kind
+use Rattle.nbd_front.specs.declared.parts.NbdRequest.{NbdRequest}
 use Rattle.nbd_front.specs.declared.steps.Command.{Command}
 use Rattle.nbd_front.specs.declared.steps.Command.TheVariants as command
 use Rattle.nbd_front.specs.declared.steps.End.{End}
 use Rattle.nbd_front.specs.declared.steps.End.TheVariants.{Disc, Abort, Eof, Dropped, NoExport, Turns}
 use Rattle.nbd_front.specs.declared.steps.ReplyError.{ReplyError}
 use Rattle.nbd_front.specs.declared.steps.ReplyError.TheVariants.{Success, Io, Invalid, NoSpace}
-use Rattle.nbd_front.specs.declared.steps.Stage.{Stage}
-use Rattle.nbd_front.specs.declared.steps.Stage.TheVariants as stage
+use Rattle.nbd_front.specs.declared.steps.SessionStage.{SessionStage}
+use Rattle.nbd_front.specs.declared.steps.SessionStage.TheVariants as stage
 use Rattle.nbd_front.specs.declared.steps.Step.{Step}
 use Rattle.nbd_front.specs.declared.steps.Step.TheVariants as step
 use Rattle.nbd_front.specs.Wire.{client_flags, is_option, option_size, option_number, option_data, choice_of, is_request, request_size, request_of, greeting, option_reply, acknowledged, unsupported, export_reply, request_reply}
@@ -26,7 +26,7 @@ use Rattle.nbd_front.specs.Wire.{client_flags, is_option, option_size, option_nu
 -- yet, whether these are its last, and the bytes of a READ that are still to be sent.
 pub record Session : Type 0 where
   pub layout : Layout
-  pub stage : Stage
+  pub stage : SessionStage
   pub volume : List ℕ
   pub unread : List ℕ
   pub ended : Bool
@@ -64,7 +64,7 @@ chosen session brief (Some volume) =
     Says (export_reply (size_of session.layout volume.name) brief) (record session { stage = stage.Requests; volume = volume.name })
 
 -- the reply to an option, after which the session is this
-abbrev pub reply_to : Session → Bool → ℕ → List ℕ → Choice → Move
+abbrev pub reply_to : Session → Bool → ℕ → List ℕ → NbdOption → Move
 reply_to session brief number name choice.ExportName = chosen session brief (export_of session.layout name)
 reply_to session brief number name choice.Abort = Says (option_reply number acknowledged) (record session { stage = stage.Over Abort })
 reply_to session brief number name choice.Other = Says (option_reply number unsupported) (record session { stage = stage.Options brief })
@@ -96,11 +96,11 @@ abbrev pub past_request : Session → Session
 past_request session = record session { stage = stage.Requests; unread = drop (request_size session.unread) session.unread }
 
 -- a reply at once, after which the session is this
-abbrev pub replied : Session → Request → ReplyError → Move
+abbrev pub replied : Session → NbdRequest → ReplyError → Move
 replied session request error = Says (request_reply error request.cookie) session
 
 -- what comes of a request by its kind, if it has no flags, and where the session that has read it is this
-abbrev pub served : Session → Request → Kind → Move
+abbrev pub served : Session → NbdRequest → NbdKind → Move
 served session request kind.Read = if nat_le request.length 33_554_432 then Asks else replied session request Invalid
 served session request kind.Write = Asks
 served session request kind.Disc = Ends Disc
@@ -118,12 +118,12 @@ request_move session =
     else Ends Dropped
 
 -- what comes behind the head of a reply: the bytes of a READ, if there are some
-abbrev pub behind_reply : List ℕ → Stage
+abbrev pub behind_reply : List ℕ → SessionStage
 behind_reply found = if nat_eq (length found) 0 then stage.Requests else stage.Sending
 
 -- ---- the session
 
-abbrev pub move_in : Session → Stage → Move
+abbrev pub move_in : Session → SessionStage → Move
 move_in session stage.Greeting = Says greeting (record session { stage = stage.Flags })
 move_in session stage.Flags = flags_move session
 move_in session (stage.Options brief) = option_move session brief
@@ -152,9 +152,9 @@ after session Asks = session
 after session (Ends end) = record session { stage = stage.Over end }
 
 -- the caller was told this move, and the session has made it; or memory ran out, and it is as it was
-abbrev pub Moved : Result Step NoMem → Session → Session → Move → Type 0
-Moved (Ok step) old new move = (step ≡ step_of move) × (new ≡ after old move)
-Moved (Err fault) old new move = new ≡ old
+abbrev pub MakesMove : Result Step NoMem → Session → Session → Move → Type 0
+MakesMove (Ok step) old new move = (step ≡ step_of move) × (new ≡ after old move)
+MakesMove (Err fault) old new move = new ≡ old
 
 -- ---- what the caller tells
 
@@ -167,7 +167,7 @@ abbrev pub finished : Session → Session
 finished session = record session { ended = true }
 
 -- no turn is left: a session that has not ended ends
-abbrev pub stopped_in : Stage → Stage
+abbrev pub stopped_in : SessionStage → SessionStage
 stopped_in (stage.Over end) = stage.Over end
 stopped_in here = stage.Over Turns
 
@@ -175,7 +175,7 @@ abbrev pub stopped : Session → Session
 stopped session = record session { stage = stopped_in session.stage }
 
 -- the error of an answer to a command of this kind
-abbrev pub error_of : Kind → RangeAnswer → ReplyError
+abbrev pub error_of : NbdKind → RangeAnswer → ReplyError
 error_of asked (range.Done bytes) = Success
 error_of asked (range.Stopped blocks why) = Io
 error_of asked range.Unaligned = Invalid
@@ -183,7 +183,7 @@ error_of kind.Write range.Beyond = NoSpace
 error_of asked range.Beyond = Invalid
 
 -- the bytes that are sent for an answer: those of a READ that was done
-abbrev pub found_by : Kind → RangeAnswer → List ℕ
+abbrev pub found_by : NbdKind → RangeAnswer → List ℕ
 found_by kind.Read (range.Done bytes) = bytes
 found_by asked answer = []
 
@@ -198,27 +198,27 @@ answered session answer =
 -- ---- the command of a session that asks one
 
 -- what is asked of the disk: bytes of a volume are read, or these are written
-pub data Asked : Type 0 where
-  Reading : (volume : List ℕ) (byte length : ℕ) → Asked
-  Writing : (volume : List ℕ) (byte : ℕ) (bytes : List ℕ) → Asked
+pub data AskedCommand : Type 0 where
+  Reading : (volume : List ℕ) (byte length : ℕ) → AskedCommand
+  Writing : (volume : List ℕ) (byte : ℕ) (bytes : List ℕ) → AskedCommand
 
-abbrev pub asked_by : List ℕ → List ℕ → Request → Kind → Asked
+abbrev pub asked_by : List ℕ → List ℕ → NbdRequest → NbdKind → AskedCommand
 asked_by volume bytes request kind.Write = Writing volume request.offset (take request.length (drop 28 bytes))
 asked_by volume bytes request asked = Reading volume request.offset request.length
 
 -- the command of a session that asks one
-abbrev pub asked_of : Session → Asked
+abbrev pub asked_of : Session → AskedCommand
 asked_of session = asked_by session.volume session.unread (request_of session.unread) (request_of session.unread).kind
 
 -- the same of a command as it is lent
-abbrev pub shown : Command → Asked
+abbrev pub shown : Command → AskedCommand
 shown (command.Read volume byte length) = Reading volume.now byte length
 shown (command.Write volume byte bytes) = Writing volume.now byte bytes.now
 
 -- ---- how much is read, and when a turn is taken
 
 -- how many bytes the part that is read next still lacks
-abbrev pub wanted_in : List ℕ → Stage → ℕ
+abbrev pub wanted_in : List ℕ → SessionStage → ℕ
 wanted_in bytes stage.Flags =
     if nat_lt (length bytes) 4 then 4 - length bytes else option_size (drop 4 bytes) - length (drop 4 bytes)
 wanted_in bytes (stage.Options brief) = option_size bytes - length bytes
@@ -229,7 +229,7 @@ abbrev pub wanted_of : Session → ℕ
 wanted_of session = wanted_in session.unread session.stage
 
 -- The next byte that is read is the first of an option or of a request.
-abbrev pub turn_in : List ℕ → Stage → Bool
+abbrev pub turn_in : List ℕ → SessionStage → Bool
 turn_in bytes stage.Flags = nat_eq (length bytes) 4 && nat_le (client_flags bytes) 3
 turn_in bytes (stage.Options brief) = nat_eq (length bytes) 0
 turn_in bytes stage.Requests = nat_eq (length bytes) 0

@@ -1,11 +1,11 @@
 -- The bytes of a session. Numbers stand from the high byte on.
 use Rattle.std.specs.Prelude.{ℕ, ◌+◌, nat_eq, nat_le, Bool, ◌&&◌, if◌then◌else◌, List, [], ◌++◌, length, take, drop, replicate, codes}
 use Rattle.byteorder.specs.Endian.{big_number, big_bytes}
-use Rattle.nbd_front.specs.declared.parts.Choice.{Choice}
-use Rattle.nbd_front.specs.declared.parts.Choice.TheVariants as choice
-use Rattle.nbd_front.specs.declared.parts.Kind.{Kind}
-use Rattle.nbd_front.specs.declared.parts.Kind.TheVariants as kind
-use Rattle.nbd_front.specs.declared.parts.Request.{Request}
+use Rattle.nbd_front.specs.declared.parts.NbdOption.{NbdOption}
+use Rattle.nbd_front.specs.declared.parts.NbdOption.TheVariants as choice
+use Rattle.nbd_front.specs.declared.parts.NbdKind.{NbdKind}
+use Rattle.nbd_front.specs.declared.parts.NbdKind.TheVariants as kind
+use Rattle.nbd_front.specs.declared.parts.NbdRequest.{NbdRequest}
 use Rattle.nbd_front.specs.declared.steps.ReplyError.{ReplyError}
 use Rattle.nbd_front.specs.declared.steps.ReplyError.TheVariants.{Success, Io, Invalid, NoSpace}
 
@@ -33,7 +33,7 @@ abbrev pub option_data : List ℕ → List ℕ
 option_data bytes = take (option_length bytes) (drop 16 bytes)
 
 -- what the number of an option asks for
-abbrev pub choice_of : ℕ → Choice
+abbrev pub choice_of : ℕ → NbdOption
 choice_of number =
     if nat_eq number 1 then choice.ExportName else
     if nat_eq number 2 then choice.Abort else choice.Other
@@ -52,14 +52,14 @@ abbrev pub request_magic : List ℕ → ℕ
 request_magic bytes = field 0 4 bytes
 
 -- what the number of a kind asks for
-abbrev pub kind_of : ℕ → Kind
+abbrev pub kind_of : ℕ → NbdKind
 kind_of number =
     if nat_eq number 0 then kind.Read else
     if nat_eq number 1 then kind.Write else
     if nat_eq number 2 then kind.Disc else
     if nat_eq number 3 then kind.Flush else kind.Other
 
-abbrev pub request_of : List ℕ → Request
+abbrev pub request_of : List ℕ → NbdRequest
 request_of bytes =
     record {
       flags = field 4 2 bytes;
@@ -70,7 +70,7 @@ request_of bytes =
     }
 
 -- how many bytes come behind a request's head: those of a WRITE
-abbrev pub bytes_behind : Kind → ℕ → ℕ
+abbrev pub bytes_behind : NbdKind → ℕ → ℕ
 bytes_behind kind.Write length = length
 bytes_behind asked length = 0
 

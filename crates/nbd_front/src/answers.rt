@@ -3,13 +3,13 @@
 ghost use Rattle.std.specs.Prelude.{◌≡◌};
 ghost use Rattle.nbd_front.specs.Sessions.{error_of, found_by};
 
-use crate::parts::Kind;
+use crate::parts::NbdKind;
 use crate::steps::ReplyError;
 use fab_base::Bytes;
 use front::RangeAnswer;
 use std::alloc::Global;
 
-impl Kind {
+impl NbdKind {
     // The error of an answer to a command of this kind.
     pub(crate) fn error_of(self, answer: &RangeAnswer) -> ReplyError
         ensures { result ≡ error_of self answer.now }
@@ -17,7 +17,7 @@ impl Kind {
         match answer {
             RangeAnswer::Done(_) => ReplyError::Success,
             RangeAnswer::Stopped { .. } => ReplyError::Io,
-            RangeAnswer::Beyond if self == Kind::Write => ReplyError::NoSpace,
+            RangeAnswer::Beyond if self == NbdKind::Write => ReplyError::NoSpace,
             RangeAnswer::Unaligned | RangeAnswer::Beyond => ReplyError::Invalid,
         }
     }
@@ -27,7 +27,7 @@ impl Kind {
         ensures { result ≡ found_by self answer }
     {
         match answer {
-            RangeAnswer::Done(bytes) if self == Kind::Read => bytes,
+            RangeAnswer::Done(bytes) if self == NbdKind::Read => bytes,
             _ => Bytes::empty(alloc),
         }
     }

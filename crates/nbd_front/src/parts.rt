@@ -20,7 +20,7 @@ pub(crate) const MOST_BYTES: u32 = 33_554_432;
 
 // What a client wants by an option.
 #[derive(Clone, Copy, PartialEq, Eq)]
-pub(crate) enum Choice {
+pub(crate) enum NbdOption {
     // The volume that the option's data names.
     ExportName,
     // The end of the session.
@@ -31,7 +31,7 @@ pub(crate) enum Choice {
 
 // What a client wants by a request.
 #[derive(Clone, Copy, PartialEq, Eq)]
-pub(crate) enum Kind {
+pub(crate) enum NbdKind {
     Read,
     Write,
     Disc,
@@ -41,9 +41,9 @@ pub(crate) enum Kind {
 
 // A request before the bytes of a WRITE.
 #[derive(Clone, Copy)]
-pub(crate) struct Request {
+pub(crate) struct NbdRequest {
     pub(crate) flags: u16,
-    pub(crate) kind: Kind,
+    pub(crate) kind: NbdKind,
     pub(crate) cookie: u64,
     pub(crate) offset: u64,
     pub(crate) length: u32,
@@ -78,49 +78,49 @@ pub(crate) fn option_data(bytes: &[u8]) -> &[u8]
     data
 }
 
-impl Choice {
+impl NbdOption {
     // What the number of an option asks for.
-    pub(crate) fn of(number: u32) -> Choice
+    pub(crate) fn of(number: u32) -> NbdOption
         ensures { result ≡ choice_of number }
     {
         if number == 1 {
-            Choice::ExportName
+            NbdOption::ExportName
         } else if number == 2 {
-            Choice::Abort
+            NbdOption::Abort
         } else {
-            Choice::Other
+            NbdOption::Other
         }
     }
 }
 
-impl Kind {
+impl NbdKind {
     // What the number of a kind asks for.
-    fn of(number: u16) -> Kind
+    fn of(number: u16) -> NbdKind
         ensures { result ≡ kind_of number }
     {
         if number == 0 {
-            Kind::Read
+            NbdKind::Read
         } else if number == 1 {
-            Kind::Write
+            NbdKind::Write
         } else if number == 2 {
-            Kind::Disc
+            NbdKind::Disc
         } else if number == 3 {
-            Kind::Flush
+            NbdKind::Flush
         } else {
-            Kind::Other
+            NbdKind::Other
         }
     }
 }
 
-impl Request {
+impl NbdRequest {
     // The request that begins with these bytes.
-    pub(crate) fn of(bytes: &[u8]) -> Request
+    pub(crate) fn of(bytes: &[u8]) -> NbdRequest
         requires { 28 ≤ length bytes.now }
         ensures { result ≡ request_of bytes.now }
     {
-        Request {
+        NbdRequest {
             flags: u16_at(bytes, 4),
-            kind: Kind::of(u16_at(bytes, 6)),
+            kind: NbdKind::of(u16_at(bytes, 6)),
             cookie: u64_at(bytes, 8),
             offset: u64_at(bytes, 16),
             length: u32_at(bytes, 24),
@@ -131,7 +131,7 @@ impl Request {
     fn bytes_behind(self) -> u32
         ensures { result ≡ bytes_behind self.kind self.length }
     {
-        if self.kind == Kind::Write {
+        if self.kind == NbdKind::Write {
             self.length
         } else {
             0
@@ -144,7 +144,7 @@ pub(crate) fn is_request(bytes: &[u8]) -> bool
     requires { 28 ≤ length bytes.now }
     ensures { result ≡ is_request bytes.now }
 {
-    u32_at(bytes, 0) == REQUEST_MAGIC && Request::of(bytes).bytes_behind() <= MOST_BYTES
+    u32_at(bytes, 0) == REQUEST_MAGIC && NbdRequest::of(bytes).bytes_behind() <= MOST_BYTES
 }
 
 // How many bytes a request has, as far as those of it that came tell.
@@ -152,7 +152,7 @@ pub(crate) fn request_size(bytes: &[u8]) -> usize
     ensures { result ≡ request_size bytes.now }
 {
     if REQUEST_HEAD <= bytes.len() && is_request(bytes) {
-        REQUEST_HEAD + Request::of(bytes).bytes_behind() as usize
+        REQUEST_HEAD + NbdRequest::of(bytes).bytes_behind() as usize
     } else {
         REQUEST_HEAD
     }

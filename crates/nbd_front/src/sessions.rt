@@ -4,19 +4,19 @@ ghost use Rattle.std.specs.Prelude.{◌≡◌, ◌≤◌, ◌+◌, length, drop,
 ghost use Rattle.layout.specs.Places.{volume_of};
 ghost use Rattle.nbd_front.specs.Wire.{request_of, request_size};
 ghost use Rattle.nbd_front.specs.declared.steps.End.TheVariants.{Disc, Abort, Eof, Dropped, NoExport};
-ghost use Rattle.nbd_front.specs.declared.steps.Stage.TheVariants.{Replying};
-ghost use Rattle.nbd_front.specs.Sessions.{Session, begun, Move, Waits, Says, Asks, Ends, waiting, export_of, chosen, reply_to, option_move, flags_move, past_request, replied, served, request_move, behind_reply, move_of, step_of, after, Moved, fed, finished, stopped, answered, shown, asked_of, wanted_of, wants_turn};
-ghost use Rattle.nbd_front.specs.Talks.{Answered, OutOfTurns, HasSaid, said_by, GoesOn, TakesBytes, TakesEnd};
+ghost use Rattle.nbd_front.specs.declared.steps.SessionStage.TheVariants.{Replying};
+ghost use Rattle.nbd_front.specs.Sessions.{Session, begun, Move, Waits, Says, Asks, Ends, waiting, export_of, chosen, reply_to, option_move, flags_move, past_request, replied, served, request_move, behind_reply, move_of, step_of, after, MakesMove, fed, finished, stopped, answered, shown, asked_of, wanted_of, wants_turn};
+ghost use Rattle.nbd_front.specs.Talks.{Answered, OutOfTurns, HasSaid, said_by, TalkGoesOn, TakesBytes, TakesEnd};
 
 use crate::fields::u32_at;
 use crate::parts::{
-    Choice, Kind, MOST_BYTES, REQUEST_HEAD, Request, is_option, is_request, option_data,
+    MOST_BYTES, NbdKind, NbdOption, NbdRequest, REQUEST_HEAD, is_option, is_request, option_data,
     option_size, request_size,
 };
 use crate::replies::{
     ACKNOWLEDGED, UNSUPPORTED, export_reply, greeting, option_reply, request_reply,
 };
-use crate::steps::{Command, End, ReplyError, Stage, Step};
+use crate::steps::{Command, End, ReplyError, SessionStage, Step};
 use fab_base::{Bytes, NoMem};
 use front::RangeAnswer;
 use layout::{Layout, Volume};
@@ -33,7 +33,7 @@ pub struct Session<'l> {
     alloc: Global,
     layout: &'l Layout,
     volume: &'l str,
-    stage: Stage,
+    stage: SessionStage,
     // The client's bytes, from those on that were not read when room was made last, and how many of them are read.
     held: Vec<u8>,
     read: usize,
@@ -93,7 +93,7 @@ impl<'l> Session<'l> {
             alloc,
             layout,
             volume: "",
-            stage: Stage::Greeting,
+            stage: SessionStage::Greeting,
             held: Vec::new(alloc),
             read: 0,
             ended: false,
@@ -118,7 +118,7 @@ impl<'l> Session<'l> {
     pub fn next(&mut self) -> Result<Step, NoMem>
         ensures step { IfOk result (λ step. step ≡ step_of (move_of self.old)) }
         ensures after { OnOk result (self.new ≡ after self.old (move_of self.old)) }
-        ensures told { IfOk result (λ step. GoesOn self.old (said_by step) self.new) }
+        ensures told { IfOk result (λ step. TalkGoesOn self.old (said_by step) self.new) }
         ensures same { OnErr result (self.new ≡ self.old) }
     {
         self.make_move()
@@ -126,22 +126,22 @@ impl<'l> Session<'l> {
 
     // Makes the next move.
     fn make_move(&mut self) -> Result<Step, NoMem>
-        ensures { Moved result self.old self.new (move_of self.old) }
+        ensures { MakesMove result self.old self.new (move_of self.old) }
     {
         match self.stage {
-            Stage::Greeting => {
+            SessionStage::Greeting => {
                 let sent = greeting(self.alloc)?;
-                Ok(self.say(sent, Stage::Flags, 0))
+                Ok(self.say(sent, SessionStage::Flags, 0))
             }
-            Stage::Flags => self.read_flags(),
-            Stage::Options { brief } => self.read_option(brief, 0),
-            Stage::Requests => self.read_request(),
-            Stage::Replying { cookie, error } => self.reply(cookie, error),
-            Stage::Sending => {
+            SessionStage::Flags => self.read_flags(),
+            SessionStage::Options { brief } => self.read_option(brief, 0),
+            SessionStage::Requests => self.read_request(),
+            SessionStage::Replying { cookie, error } => self.reply(cookie, error),
+            SessionStage::Sending => {
                 let found = mem::replace(&mut self.found, Bytes::empty(self.alloc));
-                Ok(self.say(found, Stage::Requests, 0))
+                Ok(self.say(found, SessionStage::Requests, 0))
             }
-            Stage::Over(end) => Ok(Step::Ended(end)),
+            SessionStage::Over(end) => Ok(Step::Ended(end)),
         }
     }
 
@@ -152,9 +152,9 @@ impl<'l> Session<'l> {
         ensures { shown result ≡ asked_of self.now }
     {
         let unread = self.unread();
-        let request = Request::of(unread);
+        let request = NbdRequest::of(unread);
         match request.kind {
-            Kind::Write => {
+            NbdKind::Write => {
                 let (_, bytes) = unread.split_at(REQUEST_HEAD);
                 let (bytes, _) = bytes.split_at(request.length as usize);
                 Command::Write {
@@ -176,13 +176,13 @@ impl<'l> Session<'l> {
     pub fn answer(&mut self, answer: RangeAnswer)
         requires { move_of self.old ≡ Asks }
         ensures after { self.new ≡ answered self.old answer }
-        ensures told { GoesOn self.old (Answered (asked_of self.old) answer ∷ []) self.new }
+        ensures told { TalkGoesOn self.old (Answered (asked_of self.old) answer ∷ []) self.new }
     {
         let unread = self.unread();
         let size = request_size(unread);
-        let request = Request::of(unread);
+        let request = NbdRequest::of(unread);
         self.skip(size);
-        self.stage = Stage::Replying {
+        self.stage = SessionStage::Replying {
             cookie: request.cookie,
             error: request.kind.error_of(&answer),
         };
@@ -248,14 +248,17 @@ impl<'l> Session<'l> {
     {
         let unread = self.unread();
         match self.stage {
-            Stage::Flags if unread.len() < 4 => 4 - unread.len(),
-            Stage::Flags => {
+            SessionStage::Flags if unread.len() < 4 => 4 - unread.len(),
+            SessionStage::Flags => {
                 let (_, bytes) = unread.split_at(4);
                 option_size(bytes).saturating_sub(bytes.len())
             }
-            Stage::Options { .. } => option_size(unread).saturating_sub(unread.len()),
-            Stage::Requests => request_size(unread).saturating_sub(unread.len()),
-            Stage::Greeting | Stage::Replying { .. } | Stage::Sending | Stage::Over(_) => 0,
+            SessionStage::Options { .. } => option_size(unread).saturating_sub(unread.len()),
+            SessionStage::Requests => request_size(unread).saturating_sub(unread.len()),
+            SessionStage::Greeting
+            | SessionStage::Replying { .. }
+            | SessionStage::Sending
+            | SessionStage::Over(_) => 0,
         }
     }
 
@@ -265,9 +268,12 @@ impl<'l> Session<'l> {
     {
         let unread = self.unread();
         match self.stage {
-            Stage::Flags => unread.len() == 4 && u32_at(unread, 0) <= 3,
-            Stage::Options { .. } | Stage::Requests => unread.is_empty(),
-            Stage::Greeting | Stage::Replying { .. } | Stage::Sending | Stage::Over(_) => false,
+            SessionStage::Flags => unread.len() == 4 && u32_at(unread, 0) <= 3,
+            SessionStage::Options { .. } | SessionStage::Requests => unread.is_empty(),
+            SessionStage::Greeting
+            | SessionStage::Replying { .. }
+            | SessionStage::Sending
+            | SessionStage::Over(_) => false,
         }
     }
 
@@ -275,11 +281,11 @@ impl<'l> Session<'l> {
     #[tactic(auto, using(crate::proofs::Telling::stops))]
     pub fn turns_over(&mut self)
         ensures after { self.new ≡ stopped self.old }
-        ensures told { GoesOn self.old (OutOfTurns ∷ []) self.new }
+        ensures told { TalkGoesOn self.old (OutOfTurns ∷ []) self.new }
     {
         match self.stage {
-            Stage::Over(_) => (),
-            _ => self.stage = Stage::Over(End::Turns),
+            SessionStage::Over(_) => (),
+            _ => self.stage = SessionStage::Over(End::Turns),
         }
     }
 
@@ -293,7 +299,7 @@ impl<'l> Session<'l> {
     }
 
     // Sends bytes, so many of the client's being read, and goes on with this.
-    fn say(&mut self, sent: Bytes, next: Stage, taken: usize) -> Step
+    fn say(&mut self, sent: Bytes, next: SessionStage, taken: usize) -> Step
         requires { taken ≤ length self.old.unread }
         ensures step { result ≡ step_of (Says sent self.new) }
         ensures after { self.new ≡ record self.old { stage = next; unread = drop taken self.old.unread } }
@@ -316,7 +322,7 @@ impl<'l> Session<'l> {
         ensures step { result ≡ step_of (Ends end) }
         ensures after { self.new ≡ after self.old (Ends end) }
     {
-        self.stage = Stage::Over(end);
+        self.stage = SessionStage::Over(end);
         Step::Ended(end)
     }
 
@@ -334,7 +340,7 @@ impl<'l> Session<'l> {
 
     // Reads the client's flags, and the option behind them.
     fn read_flags(&mut self) -> Result<Step, NoMem>
-        ensures { Moved result self.old self.new (flags_move self.old) }
+        ensures { MakesMove result self.old self.new (flags_move self.old) }
     {
         let unread = self.unread();
         if unread.len() < 4 {
@@ -350,7 +356,7 @@ impl<'l> Session<'l> {
     // Reads the option that stands behind so many of the bytes.
     fn read_option(&mut self, brief: bool, at: usize) -> Result<Step, NoMem>
         requires { at ≤ length self.old.unread }
-        ensures { Moved result self.old self.new (option_move (record self.old { unread = drop at self.old.unread }) brief) }
+        ensures { MakesMove result self.old self.new (option_move (record self.old { unread = drop at self.old.unread }) brief) }
     {
         let (_, bytes) = self.unread().split_at(at);
         let size = option_size(bytes);
@@ -362,15 +368,15 @@ impl<'l> Session<'l> {
         }
         let number = u32_at(bytes, 8);
         let export = export_of(self.layout, option_data(bytes));
-        match Choice::of(number) {
-            Choice::ExportName => self.choose(export, brief, at + size),
-            Choice::Abort => {
+        match NbdOption::of(number) {
+            NbdOption::ExportName => self.choose(export, brief, at + size),
+            NbdOption::Abort => {
                 let sent = option_reply(self.alloc, number, ACKNOWLEDGED)?;
-                Ok(self.say(sent, Stage::Over(End::Abort), at + size))
+                Ok(self.say(sent, SessionStage::Over(End::Abort), at + size))
             }
-            Choice::Other => {
+            NbdOption::Other => {
                 let sent = option_reply(self.alloc, number, UNSUPPORTED)?;
-                Ok(self.say(sent, Stage::Options { brief }, at + size))
+                Ok(self.say(sent, SessionStage::Options { brief }, at + size))
             }
         }
     }
@@ -383,7 +389,7 @@ impl<'l> Session<'l> {
         taken: usize,
     ) -> Result<Step, NoMem>
         requires { taken ≤ length self.old.unread }
-        ensures { Moved result self.old self.new (chosen (record self.old { unread = drop taken self.old.unread }) brief (option_copied export.entry)) }
+        ensures { MakesMove result self.old self.new (chosen (record self.old { unread = drop taken self.old.unread }) brief (option_copied export.entry)) }
     {
         let Some(volume) = export else {
             return Ok(self.end(End::NoExport));
@@ -391,12 +397,12 @@ impl<'l> Session<'l> {
         let size = self.layout.length(volume.name()).unwrap_or(0);
         let sent = export_reply(self.alloc, size, brief)?;
         self.volume = volume.name();
-        Ok(self.say(sent, Stage::Requests, taken))
+        Ok(self.say(sent, SessionStage::Requests, taken))
     }
 
     // Reads a request.
     fn read_request(&mut self) -> Result<Step, NoMem>
-        ensures { Moved result self.old self.new (request_move self.old) }
+        ensures { MakesMove result self.old self.new (request_move self.old) }
     {
         let unread = self.unread();
         let size = request_size(unread);
@@ -406,7 +412,7 @@ impl<'l> Session<'l> {
         if !is_request(unread) {
             return Ok(self.end(End::Dropped));
         }
-        let request = Request::of(unread);
+        let request = NbdRequest::of(unread);
         if request.flags == 0 {
             self.serve(request, size)
         } else {
@@ -415,45 +421,49 @@ impl<'l> Session<'l> {
     }
 
     // Serves a request of so many bytes by its kind.
-    fn serve(&mut self, request: Request, size: usize) -> Result<Step, NoMem>
+    fn serve(&mut self, request: NbdRequest, size: usize) -> Result<Step, NoMem>
         requires size { size ≡ request_size self.old.unread }
         requires whole { size ≤ length self.old.unread }
-        ensures { Moved result self.old self.new (served (past_request self.old) request request.kind) }
+        ensures { MakesMove result self.old self.new (served (past_request self.old) request request.kind) }
     {
         match request.kind {
-            Kind::Read if request.length <= MOST_BYTES => Ok(Step::Ask),
-            Kind::Write => Ok(Step::Ask),
-            Kind::Disc => Ok(self.end(End::Disc)),
-            Kind::Flush => self.reply_at_once(request, ReplyError::Success, size),
-            Kind::Read | Kind::Other => self.reply_at_once(request, ReplyError::Invalid, size),
+            NbdKind::Read if request.length <= MOST_BYTES => Ok(Step::Ask),
+            NbdKind::Write => Ok(Step::Ask),
+            NbdKind::Disc => Ok(self.end(End::Disc)),
+            NbdKind::Flush => self.reply_at_once(request, ReplyError::Success, size),
+            NbdKind::Read | NbdKind::Other => self.reply_at_once(
+                request,
+                ReplyError::Invalid,
+                size,
+            ),
         }
     }
 
     // Replies to a request of so many bytes for which nothing is asked.
     fn reply_at_once(
         &mut self,
-        request: Request,
+        request: NbdRequest,
         error: ReplyError,
         size: usize,
     ) -> Result<Step, NoMem>
         requires size { size ≡ request_size self.old.unread }
         requires whole { size ≤ length self.old.unread }
-        ensures { Moved result self.old self.new (replied (past_request self.old) request error) }
+        ensures { MakesMove result self.old self.new (replied (past_request self.old) request error) }
     {
         let sent = request_reply(self.alloc, error, request.cookie)?;
-        Ok(self.say(sent, Stage::Requests, size))
+        Ok(self.say(sent, SessionStage::Requests, size))
     }
 
     // Sends the head of a reply.
     fn reply(&mut self, cookie: u64, error: ReplyError) -> Result<Step, NoMem>
         requires { self.old.stage ≡ Replying cookie error }
-        ensures { Moved result self.old self.new (move_of self.old) }
+        ensures { MakesMove result self.old self.new (move_of self.old) }
     {
         let sent = request_reply(self.alloc, error, cookie)?;
         let next = if self.found.is_empty() {
-            Stage::Requests
+            SessionStage::Requests
         } else {
-            Stage::Sending
+            SessionStage::Sending
         };
         Ok(self.say(sent, next, 0))
     }

@@ -66,7 +66,7 @@ pub(crate) enum ReplyError {
 
 // What a session reads or sends next.
 #[derive(Clone, Copy, PartialEq, Eq)]
-pub(crate) enum Stage {
+pub(crate) enum SessionStage {
     // The server's greeting is to be sent.
     Greeting,
     // The client's flags are to be read.
