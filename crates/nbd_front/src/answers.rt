@@ -17,8 +17,11 @@ impl NbdKind {
         match answer {
             RangeAnswer::Done(_) => ReplyError::Success,
             RangeAnswer::Stopped { .. } => ReplyError::Io,
-            RangeAnswer::Beyond if self == NbdKind::Write => ReplyError::NoSpace,
-            RangeAnswer::Unaligned | RangeAnswer::Beyond => ReplyError::Invalid,
+            RangeAnswer::Unaligned => ReplyError::Invalid,
+            RangeAnswer::Beyond => match self {
+                NbdKind::Write => ReplyError::NoSpace,
+                _ => ReplyError::Invalid,
+            },
         }
     }
 
@@ -27,8 +30,13 @@ impl NbdKind {
         ensures { result ≡ found_by self answer }
     {
         match answer {
-            RangeAnswer::Done(bytes) if self == NbdKind::Read => bytes,
-            _ => Bytes::empty(alloc),
+            RangeAnswer::Done(bytes) => match self {
+                NbdKind::Read => bytes,
+                _ => Bytes::empty(alloc),
+            },
+            RangeAnswer::Stopped { .. } | RangeAnswer::Unaligned | RangeAnswer::Beyond => {
+                Bytes::empty(alloc)
+            }
         }
     }
 }

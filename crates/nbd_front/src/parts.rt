@@ -19,7 +19,7 @@ pub(crate) const REQUEST_HEAD: usize = 28;
 pub(crate) const MOST_BYTES: u32 = 33_554_432;
 
 // What a client wants by an option.
-#[derive(Clone, Copy, PartialEq, Eq)]
+#[derive(Clone, Copy)]
 pub(crate) enum NbdOption {
     // The volume that the option's data names.
     ExportName,
@@ -30,7 +30,7 @@ pub(crate) enum NbdOption {
 }
 
 // What a client wants by a request.
-#[derive(Clone, Copy, PartialEq, Eq)]
+#[derive(Clone, Copy)]
 pub(crate) enum NbdKind {
     Read,
     Write,
@@ -131,10 +131,9 @@ impl NbdRequest {
     fn bytes_behind(self) -> u32
         ensures { result ≡ bytes_behind self.kind self.length }
     {
-        if self.kind == NbdKind::Write {
-            self.length
-        } else {
-            0
+        match self.kind {
+            NbdKind::Write => self.length,
+            _ => 0,
         }
     }
 }

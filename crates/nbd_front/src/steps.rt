@@ -3,7 +3,7 @@
 use fab_base::Bytes;
 
 /// How a session ends.
-#[derive(Clone, Copy, PartialEq, Eq)]
+#[derive(Clone, Copy)]
 pub enum End {
     /// The client said that it goes, by a request.
     Disc,
@@ -56,7 +56,7 @@ pub enum Command<'s> {
 }
 
 // The error of a reply to a request.
-#[derive(Clone, Copy, PartialEq, Eq)]
+#[derive(Clone, Copy)]
 pub(crate) enum ReplyError {
     Success,
     Io,
@@ -65,7 +65,7 @@ pub(crate) enum ReplyError {
 }
 
 // What a session reads or sends next.
-#[derive(Clone, Copy, PartialEq, Eq)]
+#[derive(Clone, Copy)]
 pub(crate) enum SessionStage {
     // The server's greeting is to be sent.
     Greeting,
