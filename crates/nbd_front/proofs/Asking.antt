@@ -97,3 +97,16 @@ asks_whole session is = by_stage session.stage is
     by_stage (stage.Replying cookie error) is = let never : move_in session (stage.Replying cookie error) ≡ Asks = is in cc
     by_stage stage.Sending is = let never : move_in session stage.Sending ≡ Asks = is in cc
     by_stage (stage.Over end) is = let never : Ends end ≡ Asks = is in cc
+
+-- a session that asks reads requests
+pub asks_stage : (session : Session) → move_of session ≡ Asks → session.stage ≡ stage.Requests
+asks_stage session is = by_stage session.stage refl is
+  where
+    by_stage : (here : SessionStage) → session.stage ≡ here → move_in session here ≡ Asks → session.stage ≡ stage.Requests
+    by_stage stage.Greeting at is = let never : move_in session stage.Greeting ≡ Asks = is in cc
+    by_stage stage.Flags at is = absurd (flags_not session is)
+    by_stage (stage.Options brief) at is = absurd (option_not session brief is)
+    by_stage stage.Requests at is = at
+    by_stage (stage.Replying cookie error) at is = let never : move_in session (stage.Replying cookie error) ≡ Asks = is in cc
+    by_stage stage.Sending at is = let never : move_in session stage.Sending ≡ Asks = is in cc
+    by_stage (stage.Over end) at is = let never : Ends end ≡ Asks = is in cc

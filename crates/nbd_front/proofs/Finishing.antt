@@ -31,11 +31,11 @@ reply_ended session brief number name choice.Abort = refl
 reply_ended session brief number name choice.Other = refl
 
 -- the session once its option is read
-abbrev past_option : Session → Session
+abbrev pub past_option : Session → Session
 past_option session = record session { unread = drop (option_size session.unread) session.unread }
 
 -- what comes of an option, by its tests
-abbrev option_by : Session → Bool → Bool → Bool → Move
+abbrev pub option_by : Session → Bool → Bool → Bool → Move
 option_by session brief short right =
     cond short (waiting session)
     (cond right
@@ -55,7 +55,7 @@ option_ended session brief open_still speaks =
     by_tests false false speaks = refl
 
 -- what comes of the client's flags, by their tests
-abbrev flags_by : Session → Bool → Bool → Move
+abbrev pub flags_by : Session → Bool → Bool → Move
 flags_by session short bad =
     cond short (waiting session) (cond bad (Ends Dropped) (option_move (opened session) (nat_le 2 (client_flags session.unread))))
 
@@ -83,7 +83,7 @@ served_ended past request kind.Flush = refl
 served_ended past request kind.Other = refl
 
 -- what comes of a request, by its tests
-abbrev request_by : Session → Bool → Bool → Bool → Move
+abbrev pub request_by : Session → Bool → Bool → Bool → Move
 request_by session short right none =
     cond short (waiting session)
     (cond right

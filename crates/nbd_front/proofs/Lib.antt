@@ -3,4 +3,5 @@ pub mod Prefixes
 pub mod Feeding
 pub mod Finishing
 pub mod Telling
+pub mod Within
 mod Worked

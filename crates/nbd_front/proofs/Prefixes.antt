@@ -23,16 +23,15 @@ is_option_same xs ys head =
     ∙ ap (λ n. nat_eq (option_magic xs) 0x4948_4156_454f_5054 && nat_le n 4096) (field_same 12 4 xs ys head)
 
 -- how long an option is, by a test
-abbrev sized : Bool → ℕ → ℕ → ℕ
+abbrev pub sized : Bool → ℕ → ℕ → ℕ
 sized t head behind = cond t (head + behind) head
 
-some_head : (t : Bool) (head behind : ℕ) → head ≤ sized t head behind
+pub some_head : (t : Bool) (head behind : ℕ) → head ≤ sized t head behind
 some_head true head behind = omega arith
 some_head false head behind = omega arith
 
-pub option_size_same : (xs ys : List ℕ) → option_size xs ≤ length xs → option_size (xs ++ ys) ≡ option_size xs
-option_size_same xs ys whole =
-    let head : 16 ≤ length xs = omega (arith, whole, some_head (nat_le 16 (length xs) && is_option xs) 16 (option_length xs)) in
+pub option_size_known : (xs ys : List ℕ) → 16 ≤ length xs → option_size (xs ++ ys) ≡ option_size xs
+option_size_known xs ys head =
     let longer : 16 ≤ length (xs ++ ys) = omega (arith, head, length-append xs ys) in
     let here : nat_le 16 (length xs) ≡ true = grind (arith, nat_tests) in
     let there : nat_le 16 (length (xs ++ ys)) ≡ true = grind (arith, nat_tests) in
@@ -44,6 +43,9 @@ option_size_same xs ys whole =
 -- the head of an option that has come whole has come
 pub option_head : (xs : List ℕ) → option_size xs ≤ length xs → 16 ≤ length xs
 option_head xs whole = omega (arith, whole, some_head (nat_le 16 (length xs) && is_option xs) 16 (option_length xs))
+
+pub option_size_same : (xs ys : List ℕ) → option_size xs ≤ length xs → option_size (xs ++ ys) ≡ option_size xs
+option_size_same xs ys whole = option_size_known xs ys (option_head xs whole)
 
 -- so has the data of a right one
 pub option_all : (xs : List ℕ) → option_size xs ≤ length xs → is_option xs ≡ true → 16 + option_length xs ≤ length xs
@@ -95,9 +97,8 @@ pub request_head : (xs : List ℕ) → request_size xs ≤ length xs → 28 ≤ 
 request_head xs whole =
     omega (arith, whole, some_head (nat_le 28 (length xs) && is_request xs) 28 (bytes_behind (request_of xs).kind (request_of xs).length))
 
-pub request_size_same : (xs ys : List ℕ) → request_size xs ≤ length xs → request_size (xs ++ ys) ≡ request_size xs
-request_size_same xs ys whole =
-    let head : 28 ≤ length xs = request_head xs whole in
+pub request_size_known : (xs ys : List ℕ) → 28 ≤ length xs → request_size (xs ++ ys) ≡ request_size xs
+request_size_known xs ys head =
     let longer : 28 ≤ length (xs ++ ys) = omega (arith, head, length-append xs ys) in
     let here : nat_le 28 (length xs) ≡ true = grind (arith, nat_tests) in
     let there : nat_le 28 (length (xs ++ ys)) ≡ true = grind (arith, nat_tests) in
@@ -106,3 +107,6 @@ request_size_same xs ys whole =
     ∙ ap (λ t. sized t 28 (behind (request_of (xs ++ ys)))) (is_request_same xs ys head)
     ∙ ap (λ r. sized (is_request xs) 28 (behind r)) (request_same xs ys head)
     ∙ ap (λ t. sized (t && is_request xs) 28 (behind (request_of xs))) (sym here)
+
+pub request_size_same : (xs ys : List ℕ) → request_size xs ≤ length xs → request_size (xs ++ ys) ≡ request_size xs
+request_size_same xs ys whole = request_size_known xs ys (request_head xs whole)

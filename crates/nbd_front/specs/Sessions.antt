@@ -1,5 +1,5 @@
 -- A session over NBD: what it does next, and how it goes on.
-use Rattle.std.specs.Prelude.{◌≡◌, ℕ, ◌-◌, nat_eq, nat_lt, nat_le, Bool, true, false, ◌&&◌, if◌then◌else◌, List, [], ◌++◌, length, drop, Option, Some, None, Result, Ok, Err, slice_get, take, unwrap_or}
+use Rattle.std.specs.Prelude.{◌≡◌, ◌+◌, ◌≤◌, ℕ, ◌-◌, nat_eq, nat_lt, nat_le, Bool, true, false, ◌&&◌, if◌then◌else◌, List, [], ◌++◌, length, drop, Option, Some, None, Result, Ok, Err, slice_get, take, unwrap_or}
 use Rattle.fab_base.specs.Layouts.{Volume, Layout}
 use Rattle.layout.specs.Places.{volume_of, length_of}
 use Rattle.fab_base.specs.declared.faults.NoMem.{NoMem}
@@ -217,16 +217,24 @@ shown (command.Write volume byte bytes) = Writing volume.now byte bytes.now
 
 -- ---- how much is read, and when a turn is taken
 
--- how many bytes the part that is read next still lacks
-abbrev pub wanted_in : List ℕ → SessionStage → ℕ
-wanted_in bytes stage.Flags =
-    if nat_lt (length bytes) 4 then 4 - length bytes else option_size (drop 4 bytes) - length (drop 4 bytes)
-wanted_in bytes (stage.Options brief) = option_size bytes - length bytes
-wanted_in bytes stage.Requests = request_size bytes - length bytes
-wanted_in bytes here = 0
+-- how many bytes the part has that is read next, as far as those of it that came tell
+abbrev pub part_size : List ℕ → SessionStage → ℕ
+part_size bytes stage.Flags = if nat_lt (length bytes) 4 then 4 else 4 + option_size (drop 4 bytes)
+part_size bytes (stage.Options brief) = option_size bytes
+part_size bytes stage.Requests = request_size bytes
+part_size bytes here = 0
 
+-- how many bytes that part still lacks
 abbrev pub wanted_of : Session → ℕ
-wanted_of session = wanted_in session.unread session.stage
+wanted_of session = part_size session.unread session.stage - length session.unread
+
+-- no byte has come behind that part, or the session has ended
+abbrev pub EndsInPart : List ℕ → SessionStage → Type 0
+EndsInPart bytes (stage.Over end) = Unit {0}
+EndsInPart bytes here = length bytes ≤ part_size bytes here
+
+abbrev pub ReadsNoFurther : Session → Type 0
+ReadsNoFurther session = EndsInPart session.unread session.stage
 
 -- The next byte that is read is the first of an option or of a request.
 abbrev pub turn_in : List ℕ → SessionStage → Bool

@@ -5,7 +5,7 @@ ghost use Rattle.layout.specs.Places.{volume_of};
 ghost use Rattle.nbd_front.specs.Wire.{request_of, request_size};
 ghost use Rattle.nbd_front.specs.declared.steps.End.TheVariants.{Disc, Abort, Eof, Dropped, NoExport};
 ghost use Rattle.nbd_front.specs.declared.steps.SessionStage.TheVariants.{Replying};
-ghost use Rattle.nbd_front.specs.Sessions.{Session, begun, Move, Waits, Says, Asks, Ends, waiting, export_of, chosen, reply_to, option_move, flags_move, past_request, replied, served, request_move, behind_reply, move_of, step_of, after, MakesMove, fed, finished, stopped, answered, shown, asked_of, wanted_of, wants_turn};
+ghost use Rattle.nbd_front.specs.Sessions.{Session, begun, Move, Waits, Says, Asks, Ends, waiting, export_of, chosen, reply_to, option_move, flags_move, past_request, replied, served, request_move, behind_reply, move_of, step_of, after, MakesMove, fed, finished, stopped, answered, shown, asked_of, wanted_of, wants_turn, part_size, ReadsNoFurther};
 ghost use Rattle.nbd_front.specs.Talks.{Answered, OutOfTurns, HasSaid, said_by, TalkGoesOn, TakesBytes, TakesEnd};
 
 use crate::fields::u32_at;
@@ -88,6 +88,7 @@ impl<'l> Session<'l> {
     pub fn new(alloc: Global, layout: &'l Layout) -> Session<'l>
         ensures begun { result ≡ begun layout.now }
         ensures told { HasSaid layout.now [] false [] result }
+        ensures within { ReadsNoFurther result }
     {
         Session {
             alloc,
@@ -114,11 +115,12 @@ impl<'l> Session<'l> {
     /// # Errors
     ///
     /// `NoMemory` where no memory was left. Nothing has changed then.
-    #[tactic(auto, using(crate::proofs::Telling::moves_on))]
+    #[tactic(auto, using(crate::proofs::Telling::moves_on, crate::proofs::Within::moves_within))]
     pub fn next(&mut self) -> Result<Step, NoMem>
         ensures step { IfOk result (λ step. step ≡ step_of (move_of self.old)) }
         ensures after { OnOk result (self.new ≡ after self.old (move_of self.old)) }
         ensures told { IfOk result (λ step. TalkGoesOn self.old (said_by step) self.new) }
+        ensures within { OnOk result (ReadsNoFurther self.old → ReadsNoFurther self.new) }
         ensures same { OnErr result (self.new ≡ self.old) }
     {
         self.make_move()
@@ -172,11 +174,21 @@ impl<'l> Session<'l> {
     }
 
     /// Takes the answer of the command that the session asks.
-    #[tactic(auto, using(crate::proofs::Asking::asks_whole, crate::proofs::Telling::answers_on))]
+    #[tactic(auto, using(crate::proofs::Telling::answers_on))]
     pub fn answer(&mut self, answer: RangeAnswer)
         requires { move_of self.old ≡ Asks }
         ensures after { self.new ≡ answered self.old answer }
         ensures told { TalkGoesOn self.old (Answered (asked_of self.old) answer ∷ []) self.new }
+        ensures within { ReadsNoFurther self.old → ReadsNoFurther self.new }
+    {
+        self.take_answer(answer);
+    }
+
+    // Takes the answer of the command.
+    #[tactic(auto, using(crate::proofs::Asking::asks_whole))]
+    fn take_answer(&mut self, answer: RangeAnswer)
+        requires { move_of self.old ≡ Asks }
+        ensures { self.new ≡ answered self.old answer }
     {
         let unread = self.unread();
         let size = request_size(unread);
@@ -194,10 +206,11 @@ impl<'l> Session<'l> {
     /// # Errors
     ///
     /// `NoMemory` where no memory was left. Nothing has changed then.
-    #[tactic(auto, using(crate::proofs::Telling::takes_bytes))]
+    #[tactic(auto, using(crate::proofs::Telling::takes_bytes, crate::proofs::Within::feeds_within))]
     pub fn feed(&mut self, piece: &[u8]) -> Result<(), NoMem>
         ensures after { OnOk result (self.new ≡ fed self.old piece.now) }
         ensures told { OnOk result (TakesBytes self.old piece.now self.new) }
+        ensures within { OnOk result (length piece.now ≤ wanted_of self.old → ReadsNoFurther self.old → ReadsNoFurther self.new) }
         ensures same { OnErr result (self.new ≡ self.old) }
     {
         self.hold(piece)
@@ -241,20 +254,28 @@ impl<'l> Session<'l> {
         Ok(())
     }
 
-    /// How many bytes the part that is read next still lacks: after a Need, at least one.
+    /// How many bytes the part that is read next still lacks, as far as those of it that came tell: after a Need, at least one. If no
+    /// more bytes come at a time, none comes behind that part.
     pub fn wanted(&self) -> usize
         ensures value { result ≡ wanted_of self.now }
         ensures some { move_of self.now ≡ Waits → 1 ≤ result }
     {
+        self.part_size().saturating_sub(self.unread().len())
+    }
+
+    // How many bytes the part has that is read next, as far as those of it that came tell.
+    fn part_size(&self) -> usize
+        ensures { result ≡ part_size self.now.unread self.now.stage }
+    {
         let unread = self.unread();
         match self.stage {
-            SessionStage::Flags if unread.len() < 4 => 4 - unread.len(),
+            SessionStage::Flags if unread.len() < 4 => 4,
             SessionStage::Flags => {
                 let (_, bytes) = unread.split_at(4);
-                option_size(bytes).saturating_sub(bytes.len())
+                4 + option_size(bytes)
             }
-            SessionStage::Options { .. } => option_size(unread).saturating_sub(unread.len()),
-            SessionStage::Requests => request_size(unread).saturating_sub(unread.len()),
+            SessionStage::Options { .. } => option_size(unread),
+            SessionStage::Requests => request_size(unread),
             SessionStage::Greeting
             | SessionStage::Replying { .. }
             | SessionStage::Sending
