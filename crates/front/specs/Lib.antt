@@ -1,4 +1,5 @@
 pub mod Pieces
+pub mod Contents
 pub mod Halts
 pub mod Ranges
 pub mod Inside

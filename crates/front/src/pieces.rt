@@ -3,10 +3,35 @@
 ghost use Rattle.std.specs.Prelude.{◌≡◌, ◌+◌, ◌*◌, ◌<◌, ◌≤◌, ◌^◌, length, option_copied, IfOk, IfSome};
 ghost use Rattle.std.specs.Option.{ForSome};
 ghost use Rattle.front.specs.Pieces.{piece_at, op_of, cut_of, ask_of};
+ghost use Rattle.front.specs.Contents.{written_by};
 
 use fab_base::{Ask, Bytes, NoMem, Op};
 use layout::{Layout, Place};
 use std::alloc::Global;
+
+// What a range writes.
+#[derive(Drop)]
+pub(crate) enum Content<'l> {
+    // Nothing: it is a read.
+    Nothing,
+    // Bytes that it keeps.
+    Kept(Bytes),
+    // Bytes that were lent to it.
+    Lent(&'l [u8]),
+}
+
+impl<'l> Content<'l> {
+    // The bytes that are written, if it is a write.
+    pub(crate) fn bytes(&self) -> Option<&[u8]>
+        ensures { option_copied result ≡ written_by self.now }
+    {
+        match self {
+            Content::Nothing => None,
+            Content::Kept(bytes) => Some(bytes.as_slice()),
+            Content::Lent(bytes) => Some(bytes),
+        }
+    }
+}
 
 // What one operation of a range is on: one data block, or all data blocks of a stripe.
 #[derive(Clone, Copy)]
@@ -67,7 +92,7 @@ impl StripePart {
     pub(crate) fn ask(
         self,
         alloc: Global,
-        content: Option<&Bytes>,
+        content: Option<&[u8]>,
         block: u16,
         done: u64,
     ) -> Result<Ask, NoMem>
@@ -76,7 +101,7 @@ impl StripePart {
         ensures { IfOk result (λ ask. ask ≡ ask_of block (option_copied content.entry) done self) }
     {
         let bytes = match content {
-            Some(content) => Some(self.cut(content.as_slice(), block, done)),
+            Some(content) => Some(self.cut(content, block, done)),
             None => None,
         };
         Ok(Ask {

@@ -4,12 +4,13 @@ ghost use Rattle.std.specs.Prelude.{◌≡◌, ◌+◌, ◌*◌, ◌<◌, ◌≤
 ghost use Rattle.std.specs.Option.{ForSome};
 ghost use Rattle.layout.specs.Places.{length_of, volume_of};
 ghost use Rattle.front.specs.Blocks.{AsksEach, WritesAll};
+ghost use Rattle.front.specs.Contents.{written_by};
 ghost use Rattle.front.specs.Halts.{halt_of};
 ghost use Rattle.front.specs.declared.steps.Halt.TheVariants.{Stopped};
 ghost use Rattle.front.specs.Inside.{first_piece, progress_of, IsSound};
 ghost use Rattle.front.specs.Ranges.{begun, next_of, after_end, stopped, FitsEnd};
 
-use crate::pieces::{StripePart, piece_at};
+use crate::pieces::{Content, StripePart, piece_at};
 use crate::steps::{Halt, RangeAnswer, RangeStep, Why};
 use fab_base::{Answer, Ask, Bytes, NoMem, Refusal};
 use layout::Layout;
@@ -25,8 +26,8 @@ pub struct Range<'l> {
     alloc: Global,
     layout: &'l Layout,
     volume: &'l str,
-    // What is to be written, from the range's first byte on; none for a read.
-    content: Option<Bytes>,
+    // What is to be written, from the range's first byte on.
+    content: Content<'l>,
     // The volume's data block that the range begins with, how many data blocks it has, and how many of them are done.
     first: u64,
     total: u64,
@@ -37,6 +38,7 @@ pub struct Range<'l> {
 
 impl<'l> Model for Range<'l> {
     ghost use Rattle.front.specs.Ranges.{Progress};
+    ghost use Rattle.front.specs.Contents.{written_by};
     ghost use Rattle.front.specs.Inside.{progress_of, IsSound};
 
     ghost Value = { Progress };
@@ -45,14 +47,14 @@ impl<'l> Model for Range<'l> {
       layout = range.layout.now;
       volume = range.volume.now;
       first = range.first;
-      content = range.content;
+      content = written_by range.content;
     }) range.total range.done range.came.items range.halt };
 
     ghost invariant = { λ range. IsSound (record {
       layout = range.layout.now;
       volume = range.volume.now;
       first = range.first;
-      content = range.content;
+      content = written_by range.content;
     }) range.total range.done range.halt };
 }
 
@@ -116,7 +118,7 @@ impl<'l> Range<'l> {
         ensures begun { result ≡ begun layout.now volume.now byte length None }
         ensures each { AsksEach layout.now volume.now byte length None }
     {
-        Range::begin(alloc, layout, volume, byte, length, None)
+        Range::begin(alloc, layout, volume, byte, length, Content::Nothing)
     }
 
     /// A write of these bytes to a volume, from its byte of the number `byte` on.
@@ -143,8 +145,31 @@ impl<'l> Range<'l> {
             volume,
             byte,
             from.len() as u64,
-            Some(content),
+            Content::Kept(content),
         ))
+    }
+
+    /// A write of these bytes to a volume, as [`Range::write`], which borrows them in place of a copy of its own.
+    pub fn write_from(
+        alloc: Global,
+        layout: &'l Layout,
+        volume: &str,
+        byte: u64,
+        from: &'l [u8],
+    ) -> Range<'l>
+        ensures begun { result ≡ begun layout.now volume.now byte (length from.now) (Some from.now) }
+        ensures each { AsksEach layout.now volume.now byte (length from.now) (Some from.now) }
+        ensures bytes { WritesAll layout.now volume.now byte from.now }
+    {
+        let _ = layout.bricks();
+        Range::begin(
+            alloc,
+            layout,
+            volume,
+            byte,
+            from.len() as u64,
+            Content::Lent(from),
+        )
     }
 
     // A range of so many bytes: a write of these, or a read.
@@ -154,11 +179,11 @@ impl<'l> Range<'l> {
         volume: &str,
         byte: u64,
         bytes: u64,
-        content: Option<Bytes>,
+        content: Content<'l>,
     ) -> Range<'l>
-        requires { ForSome content (λ written. length written ≡ bytes) }
-        ensures begun { result ≡ begun layout.now volume.now byte bytes content }
-        ensures each { AsksEach layout.now volume.now byte bytes content }
+        requires { ForSome (written_by content) (λ written. length written ≡ bytes) }
+        ensures begun { result ≡ begun layout.now volume.now byte bytes (written_by content.entry) }
+        ensures each { AsksEach layout.now volume.now byte bytes (written_by content.entry) }
     {
         let _ = layout.bricks();
         let block = u64::from(layout.block());
@@ -182,13 +207,13 @@ impl<'l> Range<'l> {
         alloc: Global,
         layout: &'l Layout,
         volume: &'l str,
-        content: Option<Bytes>,
+        content: Content<'l>,
         first: u64,
         total: u64,
         halt: Option<Halt>,
     ) -> Range<'l>
-        requires { IsSound (record { layout = layout.now; volume = volume.now; first = first; content = content }) total 0 halt }
-        ensures { result ≡ progress_of (record { layout = layout.now; volume = volume.now; first = first; content = content }) total 0 [] halt }
+        requires { IsSound (record { layout = layout.now; volume = volume.now; first = first; content = written_by content }) total 0 halt }
+        ensures { result ≡ progress_of (record { layout = layout.now; volume = volume.now; first = first; content = written_by content.entry }) total 0 [] halt }
     {
         Range {
             alloc,
@@ -221,7 +246,7 @@ impl<'l> Range<'l> {
             return Ok(RangeStep::End(RangeAnswer::Done(came)));
         };
         let block = self.layout.block();
-        let ask = piece.ask(self.alloc, self.content.as_ref(), block, self.done)?;
+        let ask = piece.ask(self.alloc, self.content.bytes(), block, self.done)?;
         Ok(RangeStep::Ask(ask))
     }
 

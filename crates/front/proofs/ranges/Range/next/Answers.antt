@@ -13,7 +13,7 @@ returns-in_default-next-clause-step c =
 pub ask-requires-clause-enough : goal.ask-requires-clause-enough
 ask-requires-clause-enough c = λ bytes is.
     rw c.block-block.ensures
-    (enough_for _ _ _ _ _ c.in-Some-next.ensures.few (c.self.invariant.enough bytes (sym c.as_ref.ensures.value ∙ is)))
+    (enough_for _ _ _ _ _ c.in-Some-next.ensures.few (c.self.invariant.enough bytes (sym c.bytes.ensures ∙ is)))
 
 pub returns-clause-step : goal.returns-clause-step
 returns-clause-step c =
@@ -21,7 +21,7 @@ returns-clause-step c =
     (sym c.first_piece-next.ensures.value ∙ c.in-Some-next.is) c.in-Some-next.ensures.few in
     ap Ask
     (c.in_ok-ask.ensures
-    ∙ ap (λ (block : ℕ). ask_of block (option_copied c.as_ref.result) c.self.inside.done c.in-Some-next.piece) c.block-block.ensures
+    ∙ ap (λ (block : ℕ). ask_of block (option_copied c.bytes.result) c.self.inside.done c.in-Some-next.piece) c.block-block.ensures
     ∙ ap (λ (content : Option (List ℕ)). ask_of c.self.inside.layout.now.block content c.self.inside.done c.in-Some-next.piece)
-    c.as_ref.ensures.value)
+    c.bytes.ensures)
     ∙ shown

@@ -1,0 +1,7 @@
+pub mod Asking
+pub mod Prefixes
+pub mod Feeding
+pub mod Finishing
+pub mod Telling
+pub mod Within
+mod Worked
