@@ -2,18 +2,14 @@
 use Rattle.std.proofs.Common.{◌≡◌, ◌≢◌, ◌⊎◌, ◌≤◌, ℕ, arith, List, Option, inl, inr, refl, ◌∙◌}
 use Rattle.std.proofs.lemmas.Bool.{cases_lt}
 use Rattle.fab_io.specs.Ends.{Rose, Kept}
-use Rattle.fab_io.proofs.Keeping.{Rose-later}
+use Rattle.fab_base.proofs.Keeping.{Rose-later}
 use Rattle.brick.specs.declared.endings.Ending.{Ending}
 use Rattle.brick.specs.declared.endings.Ending.TheVariants.{Formatted, Ended, Commanded, Usage, BadLayout, LongLayout, Source, Sink, Memory, Disk, Host, NotAStore, Worn}
 use Rattle.brick.specs.Endings.{status_of, Prints, IsDone}
 
 -- a count that rose, and later
-rose_then : {a b c : ℕ} → a ≤ b → Rose a b → b ≤ c → Rose a c
-rose_then {a} {b} {c} low r more =
-    elim r [
-      | inl less ↦ inl (omega (arith, less, more))
-      | inr limit ↦ elim (cases_lt b c) [ inl above ↦ inl (omega (arith, low, above)) | inr same ↦ inr (omega (arith, same, more, limit)) ]
-    ]
+rose_then : {a b c : ℕ} → Rose a b → b ≤ c → Rose a c
+rose_then r more = elim r [ inl less ↦ inl (omega (arith, less, more)) | inr limit ↦ inr (omega (arith, limit, more)) ]
 
 six_or_not : (n : ℕ) → (n ≡ 6) ⊎ (n ≢ 6)
 six_or_not n =
@@ -28,7 +24,7 @@ pub kept_six : {a b c : ℕ} {S T U : Type 0} (wanted status : ℕ) → Kept a b
 kept_six wanted status first then = record {
   later = let p = first.later in let q = then.later in omega arith;
   rose = λ e. elim (six_or_not wanted) [
-    | inl six ↦ rose_then first.later (first.rose six) then.later
+    | inl six ↦ rose_then (first.rose six) then.later
     | inr other ↦ Rose-later first.later (then.rose (e, other))
   ];
   stays = λ s. then.stays (first.stays s);

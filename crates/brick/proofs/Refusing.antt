@@ -1,7 +1,7 @@
 -- A call of the host that opened nothing.
 use Rattle.std.proofs.Common.{◌≡◌, ◌≤◌, arith, Option, Some, None, Err, refl}
-use Rattle.fab_io.specs.declared.fault.IoFault.{IoFault}
-use Rattle.fab_io.specs.declared.fault.IoFault.TheVariants as io
+use Rattle.fab_base.specs.declared.faults.IoFault.{IoFault}
+use Rattle.fab_base.specs.declared.faults.IoFault.TheVariants as io
 use Rattle.fab_io.specs.Ends.{Rose}
 use Rattle.fab_host.specs.declared.hosts.Asked.{Asked}
 use Rattle.fab_host.specs.Asking.{Asks}

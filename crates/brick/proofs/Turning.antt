@@ -3,7 +3,6 @@ use Rattle.std.proofs.Common.{◌≡◌, ◌≢◌, ◌⊎◌, ◌-◌, ◌^◌,
 use Rattle.std.specs.Prelude.{IsOk}
 use Rattle.fab_base.specs.declared.identities.BrickId.{BrickId}
 use Rattle.fab_base.specs.Layouts.{Layout}
-use Rattle.fab_disk.specs.Disk as disks
 use Rattle.fab_disk.specs.Disk.{IsUntouched}
 use Rattle.fab_io.specs.Ends.{Rose}
 use Rattle.frame_store.specs.Images.{IsNoStore}
@@ -24,7 +23,7 @@ use Rattle.brick.specs.Views.{Views}
 
 -- each fault of a turn is one of the thing whose count of faults rose
 pub rose_at : {D L C : Type 0} (v : Views D L C) (disk disk_after : D) (link link_after : L) (clock clock_after : C) (result : Result ℕ ServeFault)
-    → (result ≡ Err faults.Disk → disks.Rose (v.disk.faults disk) (v.disk.faults disk_after))
+    → (result ≡ Err faults.Disk → Rose (v.disk.faults disk) (v.disk.faults disk_after))
     → (result ≡ Err faults.Link → Rose (v.link.faults link) (v.link.faults link_after))
     → (result ≡ Err faults.Clock → Rose (v.clock.faults clock) (v.clock.faults clock_after))
     → RoseAt v disk disk_after link link_after clock clock_after result
@@ -60,7 +59,7 @@ unharmed v moment left_since disk back untouched = record { content = untouched.
 
 -- each cause of a store that is not opened
 pub refuses : {D L C : Type 0} (v : Views D L C) (layout : Layout) (me : BrickId) (moment : D → ℕ) (left_since : D → ℕ → List ℕ → Type 0) (disk back : D)
-    (fault : StoreFault) → (fault ≡ stores.Disk → disks.Rose (v.disk.faults disk) (v.disk.faults back))
+    (fault : StoreFault) → (fault ≡ stores.Disk → Rose (v.disk.faults disk) (v.disk.faults back))
     → (fault ≡ stores.NotAStore → v.disk.tells
     → (IsNoStore (shape_at layout me) (v.disk.seen disk) × IsUntouched v.disk.seen v.disk.may_leave moment left_since disk back)
     ⊎ ((st : StateOf Version) × IsFound (shape_at layout me) st (v.disk.seen disk) × (IsFirstView st → ⊥)))

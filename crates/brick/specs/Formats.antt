@@ -2,7 +2,7 @@
 use Rattle.std.specs.Prelude.{◌≡◌, ◌⊎◌, ◌<◌, ℕ, true, List, Option, Some, None}
 use Rattle.fab_base.specs.declared.identities.BrickId.{BrickId}
 use Rattle.fab_base.specs.Layouts.{Layout}
-use Rattle.fab_disk.specs.Disk as disks
+use Rattle.fab_base.specs.Faults.{Rose}
 use Rattle.fab_host.specs.declared.hosts.Asked.TheVariants as calls
 use Rattle.fab_host.specs.Holdings.{Holdings, IsFree}
 use Rattle.frame_store.specs.Layouts.{shape_of}
@@ -28,7 +28,7 @@ abbrev pub MakesStore : {S D L C : Type 0} → Type 0 → (D → List ℕ) → (
 MakesStore {S} {D} {L} {C} tells seen may_leave failed layout me before after name (Formatted made) =
     (made ≡ me) × ((back : D) × AsksFresh before after name back × (tells → IsFresh seen may_leave layout me back))
 MakesStore {S} {D} {L} {C} tells seen may_leave failed layout me before after name Disk =
-    (opened back : D) × AsksFresh before after name back × disks.Rose (failed opened) (failed back)
+    (opened back : D) × AsksFresh before after name back × Rose (failed opened) (failed back)
 MakesStore {S} {D} {L} {C} tells seen may_leave failed layout me before after name Host = AsksInVain before after (calls.Disk name true)
 MakesStore {S} {D} {L} {C} tells seen may_leave failed layout me before after name Memory =
     IsUnasked before after ⊎ ((back : D) × AsksFresh before after name back)

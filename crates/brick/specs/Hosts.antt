@@ -1,8 +1,8 @@
 -- What a program asked of its host, and what it gave back.
 use Rattle.std.specs.Prelude.{◌≡◌, ℕ, ◌≤◌, false, List, [], ◌∷◌, ◌++◌, ⊤, Option, Some, None}
 use Rattle.std.specs.Str.{bytes_eq}
-use Rattle.fab_io.specs.declared.fault.IoFault.{IoFault}
-use Rattle.fab_io.specs.declared.fault.IoFault.TheVariants as io
+use Rattle.fab_base.specs.declared.faults.IoFault.{IoFault}
+use Rattle.fab_base.specs.declared.faults.IoFault.TheVariants as io
 use Rattle.fab_io.specs.Ends.{Rose}
 use Rattle.fab_host.specs.declared.hosts.Asked.{Asked}
 use Rattle.fab_host.specs.Held.{Held, lent, here, IsKnown}

@@ -3,7 +3,6 @@ use Rattle.std.specs.Prelude.{◌≡◌, ◌≢◌, ◌⊎◌, ◌-◌, ◌^◌,
 use Rattle.std.specs.Io.KnownBytes.{Appends, Keeps}
 use Rattle.fab_base.specs.declared.identities.BrickId.{BrickId}
 use Rattle.fab_base.specs.Layouts.{Layout}
-use Rattle.fab_disk.specs.Disk as disks
 use Rattle.fab_io.specs.Ends.{Rose, AppendsFront}
 use Rattle.fab_host.specs.declared.hosts.Asked.TheVariants as calls
 use Rattle.fab_host.specs.Held.{here, IsMissing}
@@ -44,7 +43,7 @@ ending_of turns (Err faults.NoMemory) = Memory
 
 -- the thing that failed is one whose count of faults rose
 abbrev pub RoseAt : {D L C : Type 0} → Views D L C → D → D → L → L → C → C → Result ℕ ServeFault → Type 0
-RoseAt v disk disk_after link link_after clock clock_after (Err faults.Disk) = disks.Rose (v.disk.faults disk) (v.disk.faults disk_after)
+RoseAt v disk disk_after link link_after clock clock_after (Err faults.Disk) = Rose (v.disk.faults disk) (v.disk.faults disk_after)
 RoseAt v disk disk_after link link_after clock clock_after (Err faults.Link) = Rose (v.link.faults link) (v.link.faults link_after)
 RoseAt v disk disk_after link link_after clock clock_after (Err faults.Clock) = Rose (v.clock.faults clock) (v.clock.faults clock_after)
 RoseAt v disk disk_after link link_after clock clock_after other = ⊤
@@ -135,7 +134,7 @@ RefusesStore v layout me disk back NotAStore = v.disk.tells → (IsNoStore (shap
     ⊎ ((st : StateOf Version) × IsFound (shape_at layout me) st (v.disk.seen disk) × (IsFirstView st → ⊥))
 RefusesStore v layout me disk back Worn =
     IsUnharmed v disk back × (v.disk.tells → (st : StateOf Version) × IsFound (shape_at layout me) st (v.disk.seen disk) × (st.boot ≡ 2 ^ 32 - 1))
-RefusesStore v layout me disk back Disk = disks.Rose (v.disk.faults disk) (v.disk.faults back)
+RefusesStore v layout me disk back Disk = Rose (v.disk.faults disk) (v.disk.faults back)
 RefusesStore v layout me disk back Memory = ⊤
 RefusesStore v layout me disk back other = ⊥
 

@@ -1,2 +1,3 @@
 pub mod StampOrder
 pub mod Seats
+pub mod Keeping

@@ -18,7 +18,7 @@ pub mod stamps;
 pub use answers::{Answer, Cause, Refusal};
 pub use asks::{Ask, Op};
 pub use block_bytes::Bytes;
-pub use faults::NoMem;
+pub use faults::{IoFault, NoMem};
 pub use identities::{BrickId, CallId, GroupId, StripeNo, ViewNo};
 pub use member_lists::{Members, View};
 pub use notes::Note;

@@ -1,6 +1,7 @@
 -- How a run of calls of a disk goes on.
-use Rattle.std.proofs.Common.{inl, inr, ⊎_elim, ℕ, ◌≤◌, List, arith}
-use Rattle.fab_disk.specs.Disk.{Elapses, LeavesOnly, Kept, Rose}
+use Rattle.std.proofs.Common.{inl, inr, ⊎_elim, ℕ, List, arith}
+use Rattle.fab_base.proofs.Keeping.{Kept-trans}
+use Rattle.fab_disk.specs.Disk.{Elapses, LeavesOnly, Kept}
 
 module _ {D : Type 0} (moment : D → ℕ) (left_since : D → ℕ → List ℕ → Type 0) where
   -- before the first call
@@ -37,21 +38,6 @@ module _ {D : Type 0} (moment : D → ℕ) (left_since : D → ℕ → List ℕ 
     before = λ t image le left. ⊎_elim (λ had. inl had) (λ now. inr (wider image now)) (run.before t image le left);
   }
 
--- a count that rose in the first part of a run rose in the run
-pub rose_first : (a b c : ℕ) → Rose a b → b ≤ c → Rose a c
-rose_first a b c (inl up) le = inl (omega arith)
-rose_first a b c (inr most) le = inr (omega arith)
-
--- and in the second part
-pub rose_second : (a b c : ℕ) → a ≤ b → Rose b c → Rose a c
-rose_second a b c le (inl up) = inl (omega arith)
-rose_second a b c le (inr most) = inr most
-
 -- A run of two calls, the second made where the first did not fail.
 pub kept_both : (a b c : ℕ) (S T U F G : Type 0) → Kept a b S T F → Kept b c T U G → Kept a c S U G
-kept_both a b c S T U F G first second = record {
-  later = omega (arith, first.later, second.later);
-  rose = λ failed. rose_second a b c first.later (second.rose failed);
-  stays = λ sound. second.stays (first.stays sound);
-  never = λ sound failed. second.never (first.stays sound) failed;
-}
+kept_both a b c S T U F G first second = Kept-trans first second

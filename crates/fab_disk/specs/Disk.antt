@@ -1,5 +1,6 @@
 -- What the calls of a disk do to what it holds, and what a crash may leave between two syncs.
-use Rattle.std.specs.Prelude.{◌≡◌, ◌<◌, ◌≤◌, ◌⊎◌, ◌+◌, ◌-◌, ◌^◌, ℕ, max, List, [], ◌∷◌, ◌++◌, length, take, drop, replicate, slice_index}
+use Rattle.std.specs.Prelude.{◌≡◌, ◌<◌, ◌≤◌, ◌⊎◌, ◌+◌, ◌-◌, ℕ, max, List, [], ◌∷◌, ◌++◌, length, take, drop, replicate, slice_index}
+pub use Rattle.fab_base.specs.Faults.{Rose, Kept}
 
 -- old, made at least this long by zeros
 abbrev pub padded : ℕ → List ℕ → List ℕ
@@ -64,18 +65,6 @@ pub record StopsEarly {D : Type 0} (seen certain : D → List ℕ) (moment : D �
 -- a write that was cut short counts and was made, or it does not and nothing was written
 abbrev pub IsWrittenOrNot : ℕ → ℕ → List ℕ → List ℕ → List ℕ → Type 0
 IsWrittenOrNot before now old new changed = ((now ≡ before) × (new ≡ old)) ⊎ ((now ≡ before + 1) × (new ≡ changed))
-
--- a count of faults rose; one that stands at the greatest number counts as risen
-abbrev pub Rose : ℕ → ℕ → Type 0
-Rose before now = (before < now) ⊎ (2 ^ 64 - 1 ≤ now)
-
--- What a call, or a run of calls, does to a count of faults and to soundness: it fails only where the count rose, and over
--- a sound thing it does not fail and leaves it sound.
-pub record Kept (before now : ℕ) (sound sound_after failed : Type 0) : Type 0 where
-  pub later : before ≤ now
-  pub rose : failed → Rose before now
-  pub stays : sound → sound_after
-  pub never : sound → failed → ⊥
 
 -- what room there was is still there
 abbrev pub KeepsRoom : (ℕ → ℕ → ℕ → Type 0) → (ℕ → ℕ → ℕ → Type 0) → Type 0

@@ -1,42 +1,14 @@
 // What a store asks of a disk.
 ghost use Rattle.std.specs.Prelude.{◌≡◌, ◌+◌, ◌≤◌, ◌^◌, List, ℕ, length, slice_range, IfOk, IsOk, OnOk, OnErr, IsOkUnless};
 ghost use Rattle.fab_disk.specs.declared.disk.Plan.{Plan};
-ghost use Rattle.fab_disk.specs.declared.disk.IoFault.TheVariants.{NoMemory};
+ghost use Rattle.fab_base.specs.declared.faults.IoFault.TheVariants.{NoMemory};
 ghost use Rattle.fab_disk.specs.Disk.{written, Torn, Follows, Only, Elapses, IsUntouched, IsWrittenOrNot, Kept, KeepsRoom, TakesRoom};
 ghost use Rattle.fab_disk.specs.Plan.{IsRun, KeepsPlan, next_fate, plan_after};
 
-use std::alloc::{AllocError, AllocFailed};
-use thiserror::Error;
+use fab_base::IoFault;
 
 /// The greatest place at which a write may begin or end, in bytes.
 pub const MAX_END: u64 = 1 << 48;
-
-/// Why a call of a disk was refused.
-#[derive(Clone, Copy, Debug, PartialEq, Eq, Error)]
-pub enum IoFault {
-    /// The disk failed. Its count of faults rose in that call.
-    #[error("the disk failed")]
-    Failed,
-    /// Memory was refused, and nothing changed.
-    #[error("out of memory")]
-    NoMemory,
-}
-
-impl From<AllocError> for IoFault {
-    ghost from_gives = { λ _ e. e ≡ NoMemory };
-
-    fn from(_: AllocError) -> Self {
-        IoFault::NoMemory
-    }
-}
-
-impl<T: Drop> From<AllocFailed<T>> for IoFault {
-    ghost from_gives = { λ _ e. e ≡ NoMemory };
-
-    fn from(_: AllocFailed<T>) -> Self {
-        IoFault::NoMemory
-    }
-}
 
 /// Bytes that outlast the program. What a call does to them is told by the kinds in memory, and by no others.
 pub trait Disk {

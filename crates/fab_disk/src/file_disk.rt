@@ -2,7 +2,8 @@
 ghost use Rattle.std.specs.Prelude.{◌≡◌, IfOk, IsErr, IsOkUnless};
 ghost use Rattle.fab_disk.specs.Disk.{Kept};
 
-use crate::{Disk, IoFault};
+use crate::Disk;
+use fab_base::IoFault;
 use std::fs::{File, OpenFile};
 use std::io;
 use std::io::{Seek, SeekFrom};

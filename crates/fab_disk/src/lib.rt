@@ -15,6 +15,7 @@ mod mem_disk;
 mod pages;
 mod scattering;
 
-pub use disk::{Armed, Disk, IoFault, MAX_END, Plan};
+pub use disk::{Armed, Disk, MAX_END, Plan};
+pub use fab_base::IoFault;
 pub use file_disk::FileDisk;
 pub use mem_disk::MemDisk;

@@ -6,7 +6,8 @@ ghost use Rattle.fab_disk.specs.Plan.{IsRun};
 use crate::disk::Fate;
 use crate::failing_calls::FailingCalls;
 use crate::medium::Medium;
-use crate::{Armed, Disk, IoFault, Plan};
+use crate::{Armed, Disk, Plan};
+use fab_base::IoFault;
 use std::alloc::{AllocError, Global};
 
 /// Bytes in memory that behave as a disk, and tell all that they hold. Pages that were never written take no room.

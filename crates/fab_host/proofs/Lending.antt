@@ -2,7 +2,7 @@
 use Rattle.std.proofs.Common.{◌≡◌, ℕ, ◌≤◌, Bool, cond, arith, inl, inr, Option, None, Result, Ok, Err, OnOk, OnErr, ap, sym, ◌∙◌, subst, refl}
 use Rattle.std.proofs.lemmas.Bool.{cases_Bool}
 use Rattle.fab_io.specs.Ends.{Rose}
-use Rattle.fab_io.proofs.Keeping.{Rose-later}
+use Rattle.fab_base.proofs.Keeping.{Rose-later}
 use Rattle.fab_host.specs.Held.{Held, lent, here, at_key, AllHere}
 use Rattle.fab_host.specs.Slots.{held_in}
 use Rattle.fab_host.specs.Opening.{OpeningKept}

@@ -1,7 +1,7 @@
 -- Which calls were asked of a host.
 use Rattle.std.specs.Prelude.{◌≡◌, List, [], ◌∷◌, ◌++◌, Result, Ok, Err}
-use Rattle.fab_io.specs.declared.fault.IoFault.{IoFault}
-use Rattle.fab_io.specs.declared.fault.IoFault.TheVariants.{Failed, NoMemory}
+use Rattle.fab_base.specs.declared.faults.IoFault.{IoFault}
+use Rattle.fab_base.specs.declared.faults.IoFault.TheVariants.{Failed, NoMemory}
 use Rattle.fab_host.specs.declared.hosts.Asked.{Asked}
 
 -- one more call was asked, but where it found no memory

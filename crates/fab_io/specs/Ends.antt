@@ -1,18 +1,7 @@
 -- What a call on an end of a stream keeps: its count of faults, its soundness and the bytes that it tells.
-use Rattle.std.specs.Prelude.{◌≡◌, ℕ, ◌+◌, ◌-◌, ◌^◌, ◌<◌, ◌≤◌, ◌⊎◌, min, List, Option, length, take, Result, MatchResult}
+use Rattle.std.specs.Prelude.{ℕ, ◌+◌, ◌-◌, ◌^◌, ◌≤◌, min, List, Option, length, take, Result, MatchResult}
 use Rattle.std.specs.Io.KnownBytes.{Appends}
-
--- a count of faults rose, or stands at the greatest `u64`, where it stays
-abbrev pub Rose : ℕ → ℕ → Type 0
-Rose before now = (before < now) ⊎ (now ≡ 2 ^ 64 - 1)
-
--- what holds of an end from before a call, or many, to now: its count of faults never falls and rose if the call
--- failed, and a sound end stays sound and does not fail
-pub record Kept (before now : ℕ) (sound sound_after failed : Type 0) : Type 0 where
-  pub later : before ≤ now
-  pub rose : failed → Rose before now
-  pub stays : sound → sound_after
-  pub never : sound → failed → ⊥
+pub use Rattle.fab_base.specs.Faults.{Rose, Kept}
 
 -- one more, where a count stays once it is the greatest `u64`
 abbrev pub one_more : ℕ → ℕ

@@ -1,7 +1,6 @@
 pub mod Calls
 pub mod Datagrams
 pub mod Ends
-pub mod Fault
 pub mod Memory
 pub mod Moments
 pub mod Scripts

@@ -3,7 +3,8 @@ ghost use Rattle.std.specs.Prelude.{◌≡◌, ◌≤◌, ◌↔◌, IsTrue, OnO
 ghost use Rattle.fab_io.specs.Ends.{Kept, Rose, one_more};
 ghost use Rattle.fab_io.specs.Calls.{no_calls, FailsNext, NoneToFail, after_call, after_failed_call};
 
-use crate::fault::{IoFault, raise};
+use crate::fault::raise;
+use fab_base::IoFault;
 use std::alloc::Global;
 use std::marker::Model;
 

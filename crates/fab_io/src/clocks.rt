@@ -3,7 +3,7 @@ ghost use Rattle.std.specs.Prelude.{◌≡◌, Option, ℕ};
 ghost use Rattle.fab_io.specs.Ends.{Kept};
 ghost use Rattle.fab_io.specs.Moments.{NowGives};
 
-use crate::fault::IoFault;
+use fab_base::IoFault;
 
 /// What gives moments.
 ///

@@ -4,7 +4,7 @@ ghost use Rattle.std.specs.Io.{ReadsAtMost, StopsAt};
 ghost use Rattle.std.specs.Io.KnownBytes.{ReadConsumes, Keeps};
 ghost use Rattle.fab_io.specs.Ends.{Kept, WriteTakes};
 
-use crate::fault::IoFault;
+use fab_base::IoFault;
 
 /// Where bytes come from.
 ///

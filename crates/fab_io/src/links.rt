@@ -3,8 +3,7 @@ ghost use Rattle.std.specs.Prelude.{◌≡◌, ◌≤◌, List, Option, ℕ, len
 ghost use Rattle.fab_io.specs.Ends.{Kept};
 ghost use Rattle.fab_io.specs.Datagrams.{Stays, RecvTakes, SendAdds};
 
-use crate::fault::IoFault;
-use fab_base::Bytes;
+use fab_base::{Bytes, IoFault};
 
 /// A datagram, with the port that it came from or goes to.
 #[derive(Drop)]

@@ -8,7 +8,7 @@ ghost use Rattle.fab_io.specs.Memory.{source_of, given, after_read, after_failed
 
 use crate::calls::Calls;
 use crate::ends::{Sink, Source};
-use crate::fault::IoFault;
+use fab_base::IoFault;
 use std::alloc::Global;
 use std::marker::Model;
 

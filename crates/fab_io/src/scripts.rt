@@ -8,9 +8,8 @@ ghost use Rattle.fab_io.specs.Scripts.{link_of, after_look, after_send, link_aft
 
 use crate::calls::Calls;
 use crate::clocks::Clock;
-use crate::fault::IoFault;
 use crate::links::{Datagram, Link};
-use fab_base::Bytes;
+use fab_base::{Bytes, IoFault};
 use std::alloc::Global;
 use std::marker::Model;
 

@@ -5,7 +5,8 @@ ghost use Rattle.std.specs.Io.KnownBytes.{ReadConsumes};
 ghost use Rattle.fab_io.specs.Ends.{WriteTakes};
 
 use crate::ends::{Sink, Source};
-use crate::fault::{IoFault, raise};
+use crate::fault::raise;
+use fab_base::IoFault;
 use memchr::memchr;
 use std::io;
 use std::io::{BufRead, ErrorKind, Read, Write};

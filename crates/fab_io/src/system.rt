@@ -4,9 +4,10 @@ ghost use Rattle.fab_io.specs.Ends.{Kept};
 
 use crate::clocks::Clock;
 use crate::ends::Source;
-use crate::fault::{IoFault, raise};
+use crate::fault::raise;
 use crate::links::Link;
 use crate::standard::StdSource;
+use fab_base::IoFault;
 use std::fs::{File, Files};
 use std::io::ErrorKind;
 use std::net::{Ipv4Addr, Net, UdpSocket};

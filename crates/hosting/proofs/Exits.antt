@@ -1,7 +1,7 @@
 -- The exits at errors.
 use Rattle.std.proofs.Common.{◌≡◌, ℕ, Result, Ok, Err, OnErr, IfErr, IsErr}
 use Rattle.fab_io.specs.Ends.{Kept}
-use Rattle.fab_io.proofs.Keeping.{Kept-refl, Kept-narrower}
+use Rattle.fab_base.proofs.Keeping.{Kept-refl, Kept-narrower}
 use Rattle.hosting.specs.declared.faults.HostFault.{HostFault}
 use Rattle.hosting.specs.declared.faults.HostFault.TheVariants.{Disk, Link, ClientLink, Clock, Source, Sink, NoMemory}
 use Rattle.hosting.specs.Faults.{AtCommand, AtSource, AtSink, AtLine}

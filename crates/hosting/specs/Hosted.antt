@@ -5,7 +5,6 @@ use Rattle.std.specs.List.{AllByRecursion}
 use Rattle.std.specs.Map.{lookup}
 use Rattle.std.specs.Ordering.{nat_cmp}
 use Rattle.fab_disk.specs.declared.disk.Disk as on_disk
-use Rattle.fab_disk.specs.Disk as disks
 use Rattle.fab_io.specs.Ends.{Kept}
 use Rattle.fab_io.specs.declared.clocks.Clock as on_clock
 use Rattle.fab_io.specs.declared.links.Link as on_link
@@ -62,7 +61,7 @@ module _ {D L C : Type 0} (d : on_disk.Ghosts D) (l : on_link.Ghosts L) (c : on_
         (outside (l.waiting after.link) (l.sent after.link) (c.coming clock_after)) result
     pub same : IsSameBrick before.node after.node
     pub runs : result ≢ Err Disk → after.node.brick.halted ≡ false
-    pub disk : disks.Kept (d.faults before.node.brick.disk) (d.faults after.node.brick.disk) (d.sound before.node.brick.disk)
+    pub disk : Kept (d.faults before.node.brick.disk) (d.faults after.node.brick.disk) (d.sound before.node.brick.disk)
         (d.sound after.node.brick.disk) (result ≡ Err Disk)
     pub link : Kept (l.faults before.link) (l.faults after.link) (l.sound before.link) (l.sound after.link) (result ≡ Err Link)
     pub times : Kept (c.faults clock) (c.faults clock_after) (c.sound clock) (c.sound clock_after) (result ≡ Err Clock)

@@ -5,8 +5,8 @@ use Rattle.std.specs.Str.Lines.{strip_carriage_return}
 use Rattle.std.specs.Io.KnownBytes.{Keeps, Consumes}
 use Rattle.lines.specs.Lines.{is_line_feed}
 use Rattle.std.proofs.KnownBytes.{Consumes-nil, Consumes-trans, Consumes-kept}
-use Rattle.fab_io.specs.declared.fault.IoFault.{IoFault}
-use Rattle.fab_io.specs.declared.fault.IoFault.TheVariants.{Failed}
+use Rattle.fab_base.specs.declared.faults.IoFault.{IoFault}
+use Rattle.fab_base.specs.declared.faults.IoFault.TheVariants.{Failed}
 use Rattle.lines.specs.Reading.{IsBegun, IsNeeded, taken_by, LineReads}
 use Rattle.lines.specs.LineReader.{Takes, TakesLast, Fills}
 use Rattle.lines.specs.declared.reader.NextLine.{NextLine}

@@ -2,7 +2,6 @@ mod Asking
 pub mod Carried
 mod CodeSizes
 mod Deciding
-mod DiskKeeping
 mod Doing
 mod Ends
 mod Everywhere

@@ -3,7 +3,6 @@
 ghost use Rattle.std.specs.Prelude.{◌≡◌, ◌≢◌, ◌^◌, ◌<◌, false, Some, None, IfOk, IfErr, OnOk, OnErr};
 ghost use Rattle.fab_io.specs.Ends.{Kept};
 ghost use Rattle.fab_io.specs.Datagrams.{Stays};
-ghost use Rattle.fab_disk.specs.Disk as disks;
 ghost use Rattle.protocol.specs.Nodes.{put, refusal_of, invoked, received};
 ghost use Rattle.stripe_code.specs.Codes.{coding};
 ghost use Rattle.node.specs.Running.{state_of, IsSameBrick};
@@ -48,7 +47,7 @@ impl Server {
         ensures server { IsServerOf self.new node.new }
         ensures runs { result ≢ Err ServeFault.Disk → node.new.brick.halted ≡ false }
         ensures waiting { Stays (L.waiting link.old) (L.waiting link.new) }
-        ensures disk { disks.Kept (D.faults node.old.brick.disk) (D.faults node.new.brick.disk) (D.sound node.old.brick.disk)
+        ensures disk { Kept (D.faults node.old.brick.disk) (D.faults node.new.brick.disk) (D.sound node.old.brick.disk)
             (D.sound node.new.brick.disk) (result ≡ Err ServeFault.Disk) }
         ensures link { Kept (L.faults link.old) (L.faults link.new) (L.sound link.old) (L.sound link.new) (result ≡ Err ServeFault.Link) }
     {
@@ -106,7 +105,7 @@ impl Server {
         ensures server { IsServerOf self.new node.new }
         ensures runs { result ≢ Err ServeFault.Disk → node.new.brick.halted ≡ false }
         ensures waiting { Stays (L.waiting link.old) (L.waiting link.new) }
-        ensures disk { disks.Kept (D.faults node.old.brick.disk) (D.faults node.new.brick.disk) (D.sound node.old.brick.disk)
+        ensures disk { Kept (D.faults node.old.brick.disk) (D.faults node.new.brick.disk) (D.sound node.old.brick.disk)
             (D.sound node.new.brick.disk) (result ≡ Err ServeFault.Disk) }
         ensures link { Kept (L.faults link.old) (L.faults link.new) (L.sound link.old) (L.sound link.new) (result ≡ Err ServeFault.Link) }
     {

@@ -1,7 +1,6 @@
 //! The turns of a serving brick.
 
 ghost use Rattle.std.specs.Prelude.{◌≡◌, ◌≢◌, ◌⊎◌, ◌≤◌, true, false, IsOk, IfOk, length};
-ghost use Rattle.fab_disk.specs.Disk as disks;
 ghost use Rattle.fab_io.specs.Ends.{Kept};
 ghost use Rattle.stripe_code.specs.Codes.{coding};
 ghost use Rattle.node.specs.Running.{state_of, IsSameBrick, LeavesBrick};
@@ -45,7 +44,7 @@ impl Server {
         ensures server { IsServerOf self.new node.new }
         ensures fresh { HasNoClient (serving_of self.new node.new) }
         ensures runs { result ≢ Err ServeFault.Disk → node.new.brick.halted ≡ false }
-        ensures disk { disks.Kept (D.faults node.old.brick.disk) (D.faults node.new.brick.disk) (D.sound node.old.brick.disk)
+        ensures disk { Kept (D.faults node.old.brick.disk) (D.faults node.new.brick.disk) (D.sound node.old.brick.disk)
             (D.sound node.new.brick.disk) (result ≡ Err ServeFault.Disk) }
         ensures link { Kept (L.faults link.old) (L.faults link.new) (L.sound link.old) (L.sound link.new) (result ≡ Err ServeFault.Link) }
         ensures clock { Kept (C.faults clock.old) (C.faults clock.new) (C.sound clock.old) (C.sound clock.new) (result ≡ Err ServeFault.Clock) }
@@ -90,7 +89,7 @@ pub fn serve<D: Disk, L: Link, C: Clock>(
         → LeavesBrick node.new.layout node.new.me (state_of node.new) (D.may_leave node.new.brick.disk) }
     ensures halted { node.old.brick.halted ≡ true → (result ≡ Err ServeFault.Halted) × (node.new ≡ node.old) × (link.new ≡ link.old) × (clock.new ≡ clock.old) }
     ensures only_halted { result ≡ Err ServeFault.Halted → node.old.brick.halted ≡ true }
-    ensures disk { disks.Kept (D.faults node.old.brick.disk) (D.faults node.new.brick.disk) (D.sound node.old.brick.disk)
+    ensures disk { Kept (D.faults node.old.brick.disk) (D.faults node.new.brick.disk) (D.sound node.old.brick.disk)
         (D.sound node.new.brick.disk) (result ≡ Err ServeFault.Disk) }
     ensures link { Kept (L.faults link.old) (L.faults link.new) (L.sound link.old) (L.sound link.new) (result ≡ Err ServeFault.Link) }
     ensures clock { Kept (C.faults clock.old) (C.faults clock.new) (C.sound clock.old) (C.sound clock.new) (result ≡ Err ServeFault.Clock) }
@@ -121,7 +120,7 @@ fn serve_turns<D: Disk, L: Link, C: Clock>(
     ensures spelled { SendsAll node.old }
     ensures same { IsSameBrick node.old node.new }
     ensures runs { result ≢ Err ServeFault.Disk → node.new.brick.halted ≡ false }
-    ensures disk { disks.Kept (D.faults node.old.brick.disk) (D.faults node.new.brick.disk) (D.sound node.old.brick.disk)
+    ensures disk { Kept (D.faults node.old.brick.disk) (D.faults node.new.brick.disk) (D.sound node.old.brick.disk)
         (D.sound node.new.brick.disk) (result ≡ Err ServeFault.Disk) }
     ensures link { Kept (L.faults link.old) (L.faults link.new) (L.sound link.old) (L.sound link.new) (result ≡ Err ServeFault.Link) }
     ensures clock { Kept (C.faults clock.old) (C.faults clock.new) (C.sound clock.old) (C.sound clock.new) (result ≡ Err ServeFault.Clock) }
@@ -148,7 +147,7 @@ fn take_turns<D: Disk, L: Link, C: Clock>(
         (outside (L.waiting link.old) (L.sent link.old) (C.coming clock.old)) (outside (L.waiting link.new) (L.sent link.new) (C.coming clock.new)) turns result }
     ensures same { IsSameBrick node.old node.new }
     ensures runs { result ≢ Err ServeFault.Disk → node.new.brick.halted ≡ false }
-    ensures disk { disks.Kept (D.faults node.old.brick.disk) (D.faults node.new.brick.disk) (D.sound node.old.brick.disk)
+    ensures disk { Kept (D.faults node.old.brick.disk) (D.faults node.new.brick.disk) (D.sound node.old.brick.disk)
         (D.sound node.new.brick.disk) (result ≡ Err ServeFault.Disk) }
     ensures link { Kept (L.faults link.old) (L.faults link.new) (L.sound link.old) (L.sound link.new) (result ≡ Err ServeFault.Link) }
     ensures clock { Kept (C.faults clock.old) (C.faults clock.new) (C.sound clock.old) (C.sound clock.new) (result ≡ Err ServeFault.Clock) }

@@ -1,6 +1,6 @@
 -- The commands were run to their end, or until a fault.
 use Rattle.std.proofs.Common.{Err, inl, inr, refl, sym, ap, ◌∙◌, subst}
-use Rattle.fab_io.proofs.Keeping.{Kept-narrower}
+use Rattle.fab_base.proofs.Keeping.{Kept-narrower}
 use Rattle.brick.specs.Endings.{status_of, IsDone}
 use Rattle.brick.specs.Locals.{ending_by}
 use Rattle.brick.specs.Views.{views}

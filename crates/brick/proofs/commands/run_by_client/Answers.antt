@@ -1,6 +1,6 @@
 -- The client's link is lent for the commands.
 use Rattle.std.proofs.Common.{Err, inl, inr, refl, sym, ap, ◌∙◌, subst}
-use Rattle.fab_io.proofs.Keeping.{Kept-refl, Kept-narrower}
+use Rattle.fab_base.proofs.Keeping.{Kept-refl, Kept-narrower}
 use Rattle.fab_host.specs.declared.hosts.Asked.TheVariants as calls
 use Rattle.brick.specs.Endings.{status_of, IsDone}
 use Rattle.brick.specs.Hosts.{host_seen, IsRefused}

@@ -5,7 +5,7 @@ use Rattle.fab_base.specs.declared.identities.BrickId.{BrickId}
 use Rattle.fab_host.specs.declared.hosts.Asked.TheVariants as calls
 use Rattle.fab_host.specs.Held.{here, lent, IsMissing}
 use Rattle.fab_host.specs.Holdings.{with_disk, with_link}
-use Rattle.fab_io.proofs.Keeping.{Kept-refl, Kept-narrower}
+use Rattle.fab_base.proofs.Keeping.{Kept-refl, Kept-narrower}
 use Rattle.hosting.specs.Hosted.{IsSound}
 use Rattle.serving.specs.Ports.{ports_of, port_of}
 use Rattle.brick.specs.declared.endings.Ending.TheVariants.{Memory, Disk}

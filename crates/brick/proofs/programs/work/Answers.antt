@@ -1,6 +1,6 @@
 -- What is wanted was done over the layout that was found.
 use Rattle.std.proofs.Common.{Ok, Err, refl, sym, ap, subst}
-use Rattle.fab_io.proofs.Keeping.{Kept-refl, Kept-narrower}
+use Rattle.fab_base.proofs.Keeping.{Kept-refl, Kept-narrower}
 use Rattle.brick.specs.declared.words.Work.{Work}
 use Rattle.brick.specs.Bricks.{DoesWork}
 use Rattle.brick.specs.Hosts.{host_seen}

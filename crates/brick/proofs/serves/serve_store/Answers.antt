@@ -1,6 +1,6 @@
 -- A store was opened, and the brick serves; or it was refused.
 use Rattle.std.proofs.Common.{◌≢◌, ℕ, inl, inr, refl, sym, ◌∙◌, subst}
-use Rattle.fab_io.proofs.Keeping.{Kept-refl, Kept-narrower}
+use Rattle.fab_base.proofs.Keeping.{Kept-refl, Kept-narrower}
 use Rattle.node.specs.Running.{state_of, LeavesBrick}
 use Rattle.brick.specs.declared.endings.Ending.TheVariants.{Disk}
 use Rattle.brick.specs.Hosts.{Has, host_seen}

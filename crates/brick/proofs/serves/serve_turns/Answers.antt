@@ -1,6 +1,6 @@
 -- A brick that said that it serves, and its turns.
 use Rattle.std.proofs.Common.{◌≡◌, true, false, inr, sym, ap, ◌∙◌, subst}
-use Rattle.fab_io.proofs.Keeping.{Kept-narrower}
+use Rattle.fab_base.proofs.Keeping.{Kept-narrower}
 use Rattle.std.specs.Io.KnownBytes.{Appends}
 use Rattle.fab_base.specs.declared.identities.BrickId.{BrickId}
 use Rattle.brick.specs.Endings.{status_of, serving_text, IsDone}

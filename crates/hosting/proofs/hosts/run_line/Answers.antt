@@ -1,7 +1,7 @@
 use Rattle.std.proofs.Common.{Bool, Err, Some, IfErr, sym, ap, ◌∙◌, subst}
 use Rattle.std.proofs.lemmas.Result.{err_from_is_err_and}
 use Rattle.fab_io.specs.Ends.{AppendsFront}
-use Rattle.fab_io.proofs.Keeping.{Kept-narrower}
+use Rattle.fab_base.proofs.Keeping.{Kept-narrower}
 use Rattle.hosting.specs.declared.faults.HostFault.TheVariants.{ClientLink, Sink, NoMemory}
 use Rattle.lines.specs.Lines.{content}
 use Rattle.hosting.specs.Commands.{line_of}

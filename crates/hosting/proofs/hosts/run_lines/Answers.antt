@@ -1,6 +1,6 @@
 use Rattle.std.proofs.Common.{Err, IfErr, ap, ◌∙◌, arith, inl, inr}
 use Rattle.std.proofs.lemmas.Result.{err_from_is_err_and}
-use Rattle.fab_io.proofs.Keeping.{Kept-refl, Kept-trans, Kept-calm, Kept-narrower}
+use Rattle.fab_base.proofs.Keeping.{Kept-refl, Kept-trans, Kept-calm, Kept-narrower}
 use Rattle.hosting.specs.declared.faults.HostFault.{HostFault}
 use Rattle.hosting.specs.declared.faults.HostFault.TheVariants.{ClientLink, Source, Sink}
 use Rattle.hosting.specs.Hosting.{HostsUntil}

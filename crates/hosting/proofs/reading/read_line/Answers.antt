@@ -1,7 +1,7 @@
 use Rattle.std.proofs.Common.{rules, ◌≡◌, ◌-◌, ◌<◌, false, length, get_or, refl, ap, arith}
 use Rattle.std.proofs.lemmas.Bool.Decides.{nat_tests}
 use Rattle.std.proofs.lemmas.List.{length-take}
-use Rattle.fab_io.proofs.Keeping.{Kept-trans, Kept-calm}
+use Rattle.fab_base.proofs.Keeping.{Kept-trans, Kept-calm}
 use Rattle.lines.specs.Lines.{is_line_feed}
 use Rattle.hosting.specs.Reading.{ReadsLine, most_kept}
 use Rattle.hosting.proofs.Exits.{at_err}

@@ -1,7 +1,7 @@
 use Rattle.std.proofs.Common.{◌≡◌, ◌+◌, ◌-◌, [], Err, IfErr, sym, subst, ◌∙◌, inl, inr, arith}
 use Rattle.std.proofs.lemmas.Result.{err_from_is_err_and}
 use Rattle.fab_io.proofs.Told.{Stays-refl}
-use Rattle.fab_io.proofs.Keeping.{Kept-trans, Kept-calm}
+use Rattle.fab_base.proofs.Keeping.{Kept-trans, Kept-calm}
 use Rattle.hosting.specs.Commanded.{IsRangeOf, Stands}
 use Rattle.hosting.specs.Faults.{IsOther}
 use Rattle.hosting.specs.Rounds.{KeepsBricks, StopsCommand, told}

@@ -8,7 +8,7 @@ use Rattle.std.specs.Io.KnownBytes.{prepend_known}
 use Rattle.lines.specs.Lines.{ends_layout}
 use Rattle.lines.specs.Reading.{ReadsHead}
 use Rattle.lines.proofs.HeadLines.{ReadsHead-start, ReadsHead-line, ReadsSchedule-start}
-use Rattle.fab_io.proofs.Keeping.{Kept-refl, Kept-trans, Kept-calm}
+use Rattle.fab_base.proofs.Keeping.{Kept-refl, Kept-trans, Kept-calm}
 use Rattle.replay.specs.Inputs.{most_layout_bytes}
 use Rattle.replay.proofs.LayoutTexts.{too_long, too_long-next, endless}
 use Rattle.replay.proofs.heads.read_head.Goals as goal

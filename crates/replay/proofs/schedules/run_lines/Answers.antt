@@ -2,7 +2,7 @@ use Rattle.std.proofs.Common.{◌≡◌, Ok, Err, refl, ap, ◌∙◌, arith}
 use Rattle.std.specs.Io.KnownBytes.{prepend_known}
 use Rattle.std.proofs.lemmas.Result.{err_from_is_err_and}
 use Rattle.replay.specs.declared.endings.Halt.{Halt}
-use Rattle.fab_io.proofs.Keeping.{Kept-refl, Kept-trans, Kept-calm}
+use Rattle.fab_base.proofs.Keeping.{Kept-refl, Kept-trans, Kept-calm}
 use Rattle.printed.specs.Outputs.{most_lines}
 use Rattle.replay.specs.Turns.{PrintsRest}
 use Rattle.replay.proofs.Printing.{at_err, same_error}

@@ -1,6 +1,6 @@
 use Rattle.std.proofs.Common.{Err, ap, arith}
 use Rattle.std.proofs.lemmas.Result.{err_from_is_err_and}
-use Rattle.fab_io.proofs.Keeping.{Kept-refl, Kept-trans, Kept-calm, Kept-narrower}
+use Rattle.fab_base.proofs.Keeping.{Kept-refl, Kept-trans, Kept-calm, Kept-narrower}
 use Rattle.fab_io.proofs.Told.{Stays-refl, Grows-none}
 use Rattle.serving.specs.declared.faults.ServeFault.{ServeFault}
 use Rattle.serving.specs.declared.faults.ServeFault.TheVariants.{Link}

@@ -2,7 +2,7 @@
 use Rattle.std.proofs.Common.{◌≡◌, ℕ, Ok, Err, Result, refl, ap, ◌∙◌, subst, arith}
 use Rattle.std.proofs.lemmas.Result.{err_from_is_err_and}
 use Rattle.fab_base.specs.declared.identities.BrickId.{BrickId}
-use Rattle.fab_io.proofs.Keeping.{Kept-refl, Kept-trans, Kept-calm, Kept-narrower}
+use Rattle.fab_base.proofs.Keeping.{Kept-refl, Kept-trans, Kept-calm, Kept-narrower}
 use Rattle.protocol.specs.Settings.{Setting}
 use Rattle.stripe_code.specs.Codes.{coding}
 use Rattle.node.specs.Running.{state_of}
@@ -11,7 +11,6 @@ use Rattle.serving.specs.declared.faults.ServeFault.TheVariants.{Disk, Link, Clo
 use Rattle.serving.specs.Serves.{outside, TakesTurn, IsServed}
 use Rattle.serving.specs.Servings.{begun}
 use Rattle.serving.specs.Views.{serving_of}
-use Rattle.serving.proofs.DiskKeeping.{disk-none, disk-then, disk-narrower}
 use Rattle.serving.proofs.Ends.{at_exit, was_met}
 use Rattle.serving.proofs.Runs.{same_disk, HasServed-none, HasServed-more, fresh_begun, served_all, served_stop}
 use Rattle.serving.proofs.turns.take_turns.Goals as goal
@@ -27,7 +26,7 @@ loop-turn-init g c =
       server = c.requires.server;
       same = record { layout = refl; me = refl };
       runs = c.requires.runs;
-      disk = disk-none _ _ _ (λ e. e);
+      disk = Kept-refl _ _;
       link = Kept-refl _ _;
       clock = Kept-refl _ _;
     }
@@ -51,7 +50,7 @@ loop-turn-preserved g c =
       server = said.server;
       same = record { layout = said.same.layout ∙ inv.same.layout; me = said.same.me ∙ inv.same.me };
       runs = said.runs (λ e. cc);
-      disk = disk-then inv.disk (disk-narrower (λ e. absurd e) said.disk);
+      disk = Kept-trans inv.disk (Kept-narrower (λ e. absurd e) said.disk);
       link = Kept-trans inv.link (Kept-calm said.link);
       clock = Kept-trans inv.clock (Kept-calm said.clock);
     }
@@ -78,7 +77,7 @@ returns-in_err-malformed g c =
           inv.has (omega arith) stop);
       same = record { layout = said.same.layout ∙ inv.same.layout; me = said.same.me ∙ inv.same.me };
       runs = λ not. said.runs (λ e. not (q.1 ∙ ap (λ (x : ServeFault). Err x) q.2 ∙ e));
-      disk = disk-then inv.disk (disk-narrower (failed Disk) said.disk);
+      disk = Kept-trans inv.disk (Kept-narrower (failed Disk) said.disk);
       link = Kept-trans inv.link (Kept-narrower (failed Link) said.link);
       clock = Kept-trans inv.clock (Kept-narrower (failed Clock) said.clock);
     }
@@ -96,7 +95,7 @@ returns g c =
           c.loop-turn.malformed inv.has);
       same = inv.same;
       runs = λ not. inv.runs;
-      disk = disk-narrower (λ e. cc) inv.disk;
+      disk = Kept-narrower (λ e. cc) inv.disk;
       link = Kept-narrower (λ e. cc) inv.link;
       clock = Kept-narrower (λ e. cc) inv.clock;
     }

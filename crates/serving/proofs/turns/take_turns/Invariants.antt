@@ -1,5 +1,4 @@
 use Rattle.std.proofs.Common.{◌≡◌, ◌≤◌, false}
-use Rattle.fab_disk.specs.Disk as disks
 use Rattle.fab_io.specs.Ends.{Kept}
 use Rattle.stripe_code.specs.Codes.{coding}
 use Rattle.node.specs.Running.{state_of, IsSameBrick}
@@ -20,7 +19,7 @@ invariant-loop-turn g l = record {
   server : IsServerOf l.server l.node;
   same : IsSameBrick l.initial.node l.node;
   runs : l.node.brick.halted ≡ false;
-  disk : disks.Kept (g.D.Disk.faults l.initial.node.brick.disk) (g.D.Disk.faults l.node.brick.disk) (g.D.Disk.sound l.initial.node.brick.disk)
+  disk : Kept (g.D.Disk.faults l.initial.node.brick.disk) (g.D.Disk.faults l.node.brick.disk) (g.D.Disk.sound l.initial.node.brick.disk)
       (g.D.Disk.sound l.node.brick.disk) ⊥;
   link : Kept (g.L.Link.faults l.initial.link) (g.L.Link.faults l.link) (g.L.Link.sound l.initial.link) (g.L.Link.sound l.link) ⊥;
   clock : Kept (g.C.Clock.faults l.initial.clock) (g.C.Clock.faults l.clock) (g.C.Clock.sound l.initial.clock) (g.C.Clock.sound l.clock) ⊥;

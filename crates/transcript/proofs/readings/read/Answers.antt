@@ -2,8 +2,8 @@
 use Rattle.std.proofs.Common.{◌≡◌, Result, Err, refl, sym, ap, ◌∙◌, subst, arith, rules}
 use Rattle.std.specs.Io.KnownBytes.{prepend_known}
 use Rattle.std.proofs.lemmas.Result.{err_from_is_err_and}
-use Rattle.fab_io.specs.declared.fault.IoFault.{IoFault}
-use Rattle.fab_io.proofs.Keeping.{Kept-refl, Kept-trans, Kept-calm}
+use Rattle.fab_base.specs.declared.faults.IoFault.{IoFault}
+use Rattle.fab_base.proofs.Keeping.{Kept-refl, Kept-trans, Kept-calm}
 use Rattle.transcript.specs.declared.readings.Text.{Text}
 use Rattle.transcript.specs.Said.{Transcribed}
 use Rattle.transcript.specs.Transcripts.{IsTextBehind, IsTextOf, StripesRise, EndsWhole, most_lines}

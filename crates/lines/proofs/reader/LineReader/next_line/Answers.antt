@@ -3,8 +3,8 @@ use Rattle.std.specs.List.{position}
 use Rattle.std.proofs.KnownBytes.{Keeps-trans}
 use Rattle.lines.specs.Lines.{is_line_feed}
 use Rattle.std.specs.Str.Lines.{strip_carriage_return}
-use Rattle.fab_io.specs.declared.fault.IoFault.TheVariants.{Failed}
-use Rattle.fab_io.proofs.Keeping.{Kept-trans, Kept-calm}
+use Rattle.fab_base.specs.declared.faults.IoFault.TheVariants.{Failed}
+use Rattle.fab_base.proofs.Keeping.{Kept-trans, Kept-calm}
 use Rattle.lines.specs.Reading.{IsBegun}
 use Rattle.lines.proofs.RawLines.{stripped}
 use Rattle.lines.proofs.Answering.{says_found, says_long, says_last}

@@ -1,12 +1,12 @@
--- What is kept over several calls on one end of a stream.
+-- What is kept over several calls of something outside.
 use Rattle.std.proofs.Common.{ℕ, ◌≤◌, ◌⊎◌, arith, inl, inr}
-use Rattle.fab_io.specs.Ends.{Rose, Kept}
+use Rattle.fab_base.specs.Faults.{Rose, Kept}
 
 -- a count that rose after a first one
 pub Rose-later : {a b c : ℕ} → a ≤ b → Rose b c → Rose a c
 Rose-later p r = elim r [ inl more ↦ inl (omega arith) | inr limit ↦ inr limit ]
 
--- nothing was asked of the end
+-- nothing was asked of it
 pub Kept-refl : (n : ℕ) (S : Type 0) → Kept n n S S ⊥
 Kept-refl n S = record { later = omega arith; rose = λ f. absurd f; stays = λ s. s; never = λ s f. f }
 
