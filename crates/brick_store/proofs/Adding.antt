@@ -10,10 +10,10 @@ use Rattle.std.specs.BTreeMap.{BTreeMap, get, is_at}
 use Rattle.std.specs.Result.{OnOk, OnErr}
 use Rattle.std.proofs.lemmas.Map.Lookups.{exact_unsigned}
 use Rattle.std.proofs.lemmas.Bool.Decides.{nat_tests}
-use Rattle.fab_disk.specs.Disk.{Kept}
-use Rattle.fab_disk.proofs.Moments.{started}
+use Rattle.fab_disk.specs.declared.disk.Disk as on_disk
+use Rattle.fab_disk.proofs.Changing.{same as at_once}
 use Rattle.frame_store.specs.declared.shapes.Shape.{Shape}
-use Rattle.frame_store.specs.Images.{OpensAs, StandsIn, KeepsSlots}
+use Rattle.frame_store.specs.Images.{StandsIn, KeepsSlots}
 use Rattle.frame_store.specs.Listed.{size_of}
 use Rattle.frame_store.specs.Stores.{Held}
 use Rattle.version_log.specs.Versions.{Version}
@@ -26,15 +26,15 @@ use Rattle.brick_state.specs.Indexes.{state_of}
 use Rattle.brick_state.specs.Indexes as indexes
 use Rattle.brick_state.proofs.Keeping.{applied_keeps}
 use Rattle.brick_store.specs.declared.faults.StoreFault.{StoreFault}
-use Rattle.brick_store.specs.declared.faults.StoreFault.TheVariants.{Disk, NoMemory}
+use Rattle.brick_store.specs.declared.faults.StoreFault.TheVariants.{NoMemory}
 use Rattle.brick_store.specs.Blocks.{resolved, cached}
 use Rattle.brick_store.specs.Bricks.{Brick, IsAnswer}
 use Rattle.brick_store.specs.Images.{limits_of, StandsFor}
 use Rattle.brick_store.specs.Standing.{AllSlots, IsCached, IsStored, GroupHasMembers, Standing}
-use Rattle.brick_store.specs.Steps.{changed, CutsShort, Step}
-use Rattle.brick_store.specs.Changes.{Changes}
+use Rattle.brick_store.specs.Steps.{changed, Step}
+use Rattle.brick_store.specs.Ends.{end_of, StateChange}
 use Rattle.brick_store.proofs.Changed.{changed_to, not_full}
-use Rattle.brick_store.proofs.Changing.{brick_of, stands_for, stored_still, changes_tried, standing_after}
+use Rattle.brick_store.proofs.Changing.{brick_of, Told, may_of, stored_still, changes_tried, standing_after}
 use Rattle.brick_store.proofs.Resolving.{resolved_same, slots_imply, live-resolved}
 
 -- no slot for want of memory
@@ -119,12 +119,11 @@ brick_same {D} blocks now frames st same =
     with_state : StateOf Version → Brick D
     with_state s = record { disk = frames.disk; shape = frames.shape; state = s; listed = size_of frames.frames; halted = frames.halted }
 
-module _ {D : Type 0} (tells : Type 0) (seen certain : D → List ℕ) (may_leave : D → List ℕ → Type 0) (moment : D → ℕ)
-    (left_since : D → ℕ → List ℕ → Type 0) (faults : D → ℕ) (sound : D → Type 0) where
+module _ {D : Type 0} (d : on_disk.Ghosts D) where
   -- and the store stands with it
   pub standing_same : (blocks now : BTreeMap ℕ (List ℕ)) (zero_block : List ℕ) (frames : Held D) (index : Index) → AllSlots (SameUnder blocks now)
       (state_of index)
-      → Standing tells seen may_leave frames index blocks zero_block → Standing tells seen may_leave frames index now zero_block
+      → Standing d.tells d.seen d.may_leave frames index blocks zero_block → Standing d.tells d.seen d.may_leave frames index now zero_block
   standing_same blocks now zero_block frames index same standing = record {
     limits = standing.limits;
     indexed = standing.indexed;
@@ -136,9 +135,9 @@ module _ {D : Type 0} (tells : Type 0) (seen certain : D → List ℕ) (may_leav
       durable = was.durable;
       shows = was.shows;
       closed = was.closed;
-      stored = slots_imply (λ slot. IsStored frames.shape blocks (seen frames.disk) slot × SameUnder blocks now slot)
-          (IsStored frames.shape now (seen frames.disk)) stored_now (state_of index)
-          (slots_both (IsStored frames.shape blocks (seen frames.disk)) (SameUnder blocks now) (state_of index) was.stored same);
+      stored = slots_imply (λ slot. IsStored frames.shape blocks (d.seen frames.disk) slot × SameUnder blocks now slot)
+          (IsStored frames.shape now (d.seen frames.disk)) stored_now (state_of index)
+          (slots_both (IsStored frames.shape blocks (d.seen frames.disk)) (SameUnder blocks now) (state_of index) was.stored same);
     };
   }
     where
@@ -146,20 +145,20 @@ module _ {D : Type 0} (tells : Type 0) (seen certain : D → List ℕ) (may_leav
       cached_now slot (inl zero, under) = inl zero
       cached_now slot (inr held, under) = inr (held.0, under ∙ held.1, held.2)
 
-      stored_now : (slot : ℕ) → IsStored frames.shape blocks (seen frames.disk) slot × SameUnder blocks now slot
-          → IsStored frames.shape now (seen frames.disk) slot
+      stored_now : (slot : ℕ) → IsStored frames.shape blocks (d.seen frames.disk) slot × SameUnder blocks now slot
+          → IsStored frames.shape now (d.seen frames.disk) slot
       stored_now slot (inl zero, under) = inl zero
       stored_now slot (inr there, under) = inr (there.0, there.1 ∙ sym (cached_same frames.shape.block blocks now slot under))
 
   -- what stood in the slots of versions still does, and the block that was put
   stored_before : (slot : ℕ) (bytes : List ℕ) (blocks : BTreeMap ℕ (List ℕ)) (zero_block : List ℕ) (old : Held D) (index : Index)
-      → Standing tells seen may_leave old index blocks zero_block → old.halted ≡ false
-      → AllSlots (λ other. other ≢ slot) (state_of index) → tells → (content : List ℕ) → KeepsSlots old.shape (Some (slot, bytes))
-      (seen old.disk) content → AllSlots (IsStored old.shape blocks content) (state_of index)
+      → Standing d.tells d.seen d.may_leave old index blocks zero_block → old.halted ≡ false
+      → AllSlots (λ other. other ≢ slot) (state_of index) → d.tells → (content : List ℕ) → KeepsSlots old.shape (Some (slot, bytes))
+      (d.seen old.disk) content → AllSlots (IsStored old.shape blocks content) (state_of index)
   stored_before slot bytes blocks zero_block old index standing runs unnamed told content kept =
-      slots_imply (λ other. IsStored old.shape blocks (seen old.disk) other × (other ≢ slot)) (IsStored old.shape blocks content)
-      (λ other both. stored_still old.shape (Some (slot, bytes)) blocks (seen old.disk) content kept other both.1 both.0) (state_of index)
-      (slots_both (IsStored old.shape blocks (seen old.disk)) (λ other. other ≢ slot) (state_of index) (standing.on_disk told runs).stored unnamed)
+      slots_imply (λ other. IsStored old.shape blocks (d.seen old.disk) other × (other ≢ slot)) (IsStored old.shape blocks content)
+      (λ other both. stored_still old.shape (Some (slot, bytes)) blocks (d.seen old.disk) content kept other both.1 both.0) (state_of index)
+      (slots_both (IsStored old.shape blocks (d.seen old.disk)) (λ other. other ≢ slot) (state_of index) (standing.on_disk told runs).stored unnamed)
 
   stored_here : (slot : ℕ) (bytes : List ℕ) (blocks : BTreeMap ℕ (List ℕ)) (shape : Shape) (content : List ℕ) → slot < 4294967295
       → get nat_cmp blocks slot ≡ Some bytes → StandsIn shape (Some (slot, bytes)) content → IsStored shape blocks content slot
@@ -169,84 +168,75 @@ module _ {D : Type 0} (tells : Type 0) (seen certain : D → List ℕ) (may_leav
   -- what the record of a version with a block of its own says of the whole call
   pub changes_put : {calls : ℕ} (slot : ℕ) (bytes : List ℕ) (blocks : BTreeMap ℕ (List ℕ)) (zero_block : List ℕ) (old new : Held D) (index : Index)
       (item : Record) (st_now next : StateOf Entry) (result : Result (Unit {0}) StoreFault)
-      → Standing tells seen may_leave old index blocks zero_block → old.halted ≡ false → is_full (indexes.limits_of index) (state_of index) ≡ false
+      → Standing d.tells d.seen d.may_leave old index blocks zero_block → old.halted ≡ false → is_full (indexes.limits_of index) (state_of index) ≡ false
       → applied (indexes.limits_of index) item (state_of index) ≡ Some next
       → ((P : ℕ → Type 0) → P slot → AllSlots P (state_of index) → AllSlots P next)
       → slot < 4294967295 → get nat_cmp blocks slot ≡ Some bytes → AllSlots (λ other. other ≢ slot) (state_of index)
-      → Step tells seen may_leave moment left_since (Some (slot, bytes)) (state_of index)
+      → Step d (state_of index)
       (changed (indexes.limits_of index) item (state_of index)) old new result
       → OnOk result (st_now ≡ changed (indexes.limits_of index) item (state_of index)) → OnErr result (st_now ≡ state_of index)
-      → Kept (faults old.disk) (faults new.disk) (sound old.disk) (sound new.disk) (result ≡ Err Disk)
-      → CutsShort tells seen certain moment calls (Some (slot, bytes)) (state_of index)
-      (changed (indexes.limits_of index) item (state_of index)) old new result
-      → Changes tells seen certain may_leave moment left_since faults sound (brick_of blocks old (state_of index)) (brick_of blocks new st_now)
+      → StateChange d calls old (Some (slot, bytes)) (state_of index) (changed (indexes.limits_of index) item (state_of index)) new.disk (end_of result)
+      → Told d (brick_of blocks old (state_of index)) (brick_of blocks new st_now)
       (resolved (cached old.shape.block blocks) next) true calls result
-  changes_put {calls} slot bytes blocks zero_block old new index item st_now next result standing runs free is slots small held unnamed step made not_made cause cut =
+  changes_put {calls} slot bytes blocks zero_block old new index item st_now next result standing runs free is slots small held unnamed step made not_made change =
       let st = state_of index in
       let limits = indexes.limits_of index in
       let to = changed_to limits item st next is in
-      let step_next = subst (λ (n : StateOf Entry). Step tells seen may_leave moment left_since (Some (slot, bytes)) st n old new result) to step in
+      let step_next = subst (λ (n : StateOf Entry). Step d st n old new result) to step in
       let made_next = subst (λ (n : StateOf Entry). OnOk result (st_now ≡ n)) to made in
-      let cut_next = subst (λ (n : StateOf Entry). CutsShort tells seen certain moment calls (Some (slot, bytes)) st n old new result) to cut in
+      let change_next = subst (λ (n : StateOf Entry). StateChange d calls old (Some (slot, bytes)) st n new.disk (end_of result)) to change in
       let records : limits.records ≡ old.shape.records = ap (λ (l : Limits). l.records) standing.indexed.limits_are in
       let before = stored_before slot bytes blocks zero_block old index standing runs unnamed in
-      changes_tried tells seen certain may_leave moment left_since faults sound (Some (slot, bytes)) blocks st next old new st_now true calls result runs
+      changes_tried d (Some (slot, bytes)) blocks st next old new st_now true calls result (may_of d blocks zero_block old index standing runs)
       (λ add at. not_full limits st free (at ∙ sym records))
       before (λ told content kept put. slots (IsStored old.shape blocks content) (stored_here slot bytes blocks old.shape content small held put)
-      (before told content kept)) step_next made_next not_made cause cut_next
+      (before told content kept)) step_next made_next not_made change_next
 
   -- and that the store stands after it
-  pub standing_put : (slot : ℕ) (bytes : List ℕ) (blocks : BTreeMap ℕ (List ℕ)) (zero_block : List ℕ) (old new : Held D) (index index_now : Index)
+  pub standing_put : {calls : ℕ} (slot : ℕ) (bytes : List ℕ) (blocks : BTreeMap ℕ (List ℕ)) (zero_block : List ℕ) (old new : Held D) (index index_now : Index)
       (item : Record) (next : StateOf Entry) (result : Result (Unit {0}) StoreFault)
-      → Standing tells seen may_leave old index blocks zero_block → old.halted ≡ false
+      → Standing d.tells d.seen d.may_leave old index blocks zero_block → old.halted ≡ false
       → applied (indexes.limits_of index) item (state_of index) ≡ Some next
       → ((P : ℕ → Type 0) → P slot → AllSlots P (state_of index) → AllSlots P next)
       → slot < 4294967295 → get nat_cmp blocks slot ≡ Some bytes → length bytes ≡ old.shape.block → AllSlots (λ other. other ≢ slot) (state_of index)
       → AllByRecursion GroupHasMembers next.groups → indexes.limits_of index_now ≡ indexes.limits_of index
-      → Step tells seen may_leave moment left_since (Some (slot, bytes)) (state_of index)
+      → Step d (state_of index)
       (changed (indexes.limits_of index) item (state_of index)) old new result
       → OnOk result (state_of index_now ≡ changed (indexes.limits_of index) item (state_of index))
       → OnErr result (state_of index_now ≡ state_of index)
-      → Standing tells seen may_leave new index_now blocks zero_block
-  standing_put slot bytes blocks zero_block old new index index_now item next result standing runs is slots small held len unnamed members limits step made not_made =
+      → StateChange d calls old (Some (slot, bytes)) (state_of index) (changed (indexes.limits_of index) item (state_of index)) new.disk (end_of result)
+      → Standing d.tells d.seen d.may_leave new index_now blocks zero_block
+  standing_put {calls} slot bytes blocks zero_block old new index index_now item next result standing runs is slots small held len unnamed members limits step made not_made change =
       let st = state_of index in
       let to = changed_to (indexes.limits_of index) item st next is in
-      let step_next = subst (λ (n : StateOf Entry). Step tells seen may_leave moment left_since (Some (slot, bytes)) st n old new result) to step in
+      let change_next = subst (λ (n : StateOf Entry). StateChange d calls old (Some (slot, bytes)) st n new.disk (end_of result)) to change in
+      let step_next = subst (λ (n : StateOf Entry). Step d st n old new result) to step in
       let made_next = subst (λ (n : StateOf Entry). OnOk result (state_of index_now ≡ n)) to made in
       let shaped = subst (λ (l : Limits). applied l item st ≡ Some next) standing.indexed.limits_are is in
       let kept = applied_keeps (limits_of old.shape) item st next standing.indexed.kept shaped in
       let before = stored_before slot bytes blocks zero_block old index standing runs unnamed in
-      standing_after tells seen certain may_leave moment left_since faults sound
-      (Some (slot, bytes)) blocks zero_block next old new index index_now result standing runs limits step_next made_next not_made kept members
+      standing_after d {calls = calls}
+      (Some (slot, bytes)) blocks zero_block next old new index index_now result standing runs limits step_next made_next not_made change_next kept members
       (slots (IsCached old.shape.block blocks) (inr (bytes, held, len)) standing.cached_all)
       (λ told content kept_slots put. slots (IsStored old.shape blocks content) (stored_here slot bytes blocks old.shape content small held put)
       (before told content kept_slots))
 
   -- a store of which a call was refused before it tried, for want of memory
-  pub changes_stopped : (only_now : (disk : D) (image : List ℕ) → left_since disk (moment disk) image → may_leave disk image)
+  pub changes_stopped : (only_now : (disk : D) (image : List ℕ) → d.left_since disk (d.moment disk) image → d.may_leave disk image)
       (blocks : BTreeMap ℕ (List ℕ)) (zero_block : List ℕ) (old : Held D) (index : Index) (after : StateOf Version) (calls : ℕ)
-      → Standing tells seen may_leave old index blocks zero_block → old.halted ≡ false → is_full (indexes.limits_of index) (state_of index) ≡ false
-      → Changes tells seen certain may_leave moment left_since faults sound (brick_of blocks old (state_of index))
+      → Standing d.tells d.seen d.may_leave old index blocks zero_block → old.halted ≡ false → is_full (indexes.limits_of index) (state_of index) ≡ false
+      → Told d (brick_of blocks old (state_of index))
       (brick_of blocks old (state_of index)) after true calls (Err NoMemory)
-  changes_stopped only_now blocks zero_block old index after calls standing running free = record {
-    ok = tt;
-    refused = record { shape = refl; state = refl };
-    durable = λ told. tt;
-    any_moment = λ told runs.
-        let was = standing.on_disk told runs in
-        let opens : OpensAs old.shape old.frames true (seen old.disk) = subst
-        (λ (b : Bool). OpensAs old.shape old.frames b (seen old.disk)) was.closed was.shows.opens in
-        let here = stands_for old.shape blocks (state_of index) (seen old.disk)
-        (record { frames = old.frames; opens = opens; leads = standing.indexed.leads }) was.stored in
-        started moment left_since old.disk _ (λ image left. inl
-        (subst (λ (x : List ℕ). StandsFor old.shape (resolved (cached old.shape.block blocks) (state_of index)) x)
-        (sym (was.durable.only image (only_now old.disk image left))) here));
-    answer = subst (λ n. IsAnswer old.shape.records n true old.halted old.halted (Err NoMemory))
-        (sym (live-resolved (cached old.shape.block blocks) (state_of index))) memory;
-    no_call = λ other. record { content = refl; crash = λ image left. left; clock = refl; time = record { later = omega arith; nothing_else = λ t image le left. inl left; keeps = λ t image le past. past } };
-    cause = record { later = omega arith; rose = λ bad. absurd cc; stays = λ here. here; never = λ here bad. absurd cc };
-    cut = λ told bad. absurd cc;
-  }
+  changes_stopped only_now blocks zero_block old index after calls standing running free = (
+    at_once d only_now calls (StandsFor old.shape (resolved (cached old.shape.block blocks) (state_of index))) _ (StandsFor old.shape after)
+        (λ image at. inl at) old.disk,
+    record {
+      ok = tt;
+      refused = record { shape = refl; state = refl };
+      answer = subst (λ n. IsAnswer old.shape.records n true old.halted old.halted (Err NoMemory))
+          (sym (live-resolved (cached old.shape.block blocks) (state_of index))) memory;
+    },
+  )
     where
       differ : true ≡ false → ⊥
       differ e = cc
@@ -264,15 +254,15 @@ module _ {D : Type 0} (tells : Type 0) (seen certain : D → List ℕ) (may_leav
       }
 
   -- in the words of what a clause sees of the store
-  pub told_stopped : (only_now : (disk : D) (image : List ℕ) → left_since disk (moment disk) image → may_leave disk image)
+  pub told_stopped : (only_now : (disk : D) (image : List ℕ) → d.left_since disk (d.moment disk) image → d.may_leave disk image)
       (blocks : BTreeMap ℕ (List ℕ)) (zero_block : List ℕ) (old : Held D) (index : Index) (b : Brick D) (after : StateOf Version) (calls : ℕ)
       (fault : StoreFault)
-      → brick_of blocks old (state_of index) ≡ b → fault ≡ NoMemory → Standing tells seen may_leave old index blocks zero_block → old.halted ≡ false
+      → brick_of blocks old (state_of index) ≡ b → fault ≡ NoMemory → Standing d.tells d.seen d.may_leave old index blocks zero_block → old.halted ≡ false
       → is_full (indexes.limits_of index) (state_of index) ≡ false
-      → Changes tells seen certain may_leave moment left_since faults sound b (brick_of blocks old (state_of index)) after true calls (Err fault)
+      → Told d b (brick_of blocks old (state_of index)) after true calls (Err fault)
   told_stopped only_now blocks zero_block old index b after calls fault view memory standing runs free =
-      subst (λ (e : StoreFault). Changes tells seen certain may_leave moment left_since faults sound b (brick_of blocks old (state_of index)) after true calls
+      subst (λ (e : StoreFault). Told d b (brick_of blocks old (state_of index)) after true calls
       (Err e)) (sym memory)
-      (subst (λ (x : Brick D). Changes tells seen certain may_leave moment left_since faults sound x (brick_of blocks old (state_of index)) after true calls
+      (subst (λ (x : Brick D). Told d x (brick_of blocks old (state_of index)) after true calls
       (Err NoMemory)) view
       (changes_stopped only_now blocks zero_block old index after calls standing runs free))

@@ -7,17 +7,17 @@ use Rattle.std.specs.Ordering.{nat_cmp}
 use Rattle.std.specs.Prelude.{replicate}
 use Rattle.std.specs.BTreeMap.{BTreeMap, get}
 use Rattle.std.specs.Result.{OnOk, OnErr}
-use Rattle.fab_disk.specs.Disk.{IsUntouched, Kept}
-use Rattle.fab_disk.specs.declared.disk.Plan.{Plan}
-use Rattle.fab_disk.specs.Plan.{IsRun}
-use Rattle.fab_disk.proofs.Moments.{widened, started}
+use Rattle.fab_disk.specs.declared.disk.Disk as on_disk
+use Rattle.fab_disk.specs.Disk.{Only}
+use Rattle.fab_disk.specs.Changing.{End, NotBegun}
+use Rattle.fab_disk.proofs.Changing.{widen, same as at_once}
 use Rattle.fab_base.specs.declared.member_lists.View.{View}
 use Rattle.frame_store.specs.declared.frames.Frame.{Frame}
 use Rattle.frame_store.specs.declared.shapes.Shape.{Shape}
 use Rattle.frame_store.specs.Layouts.{IsShape}
 use Rattle.frame_store.specs.Listed.{size_of}
 use Rattle.frame_store.specs.Images.{OpensAs, block_in, StandsIn, IsOther, KeepsSlots}
-use Rattle.frame_store.specs.Stores.{Held, IsSame}
+use Rattle.frame_store.specs.Stores.{Held}
 use Rattle.version_log.specs.Versions.{Version}
 use Rattle.brick_state.specs.declared.records.Record.{Record}
 use Rattle.brick_state.specs.Entries.{Entry}
@@ -31,15 +31,14 @@ use Rattle.brick_store.specs.declared.faults.StoreFault.{StoreFault}
 use Rattle.brick_store.specs.declared.faults.StoreFault.TheVariants.{Disk, Full, Halted, NotAStore, Worn, NoMemory}
 use Rattle.brick_store.specs.Blocks.{resolved, cached}
 use Rattle.brick_store.specs.Bricks.{Brick, Keeps, IsAnswer, halted_after}
-use Rattle.brick_store.specs.Images.{records_of, limits_of, block_at, StandsFor, StandsForEither, LeavesState}
+use Rattle.brick_store.specs.Images.{records_of, limits_of, block_at, StandsFor}
 use Rattle.brick_store.specs.Standing.{Leads, AllSlots, IsCached, IsStored, GroupHasMembers, IsIndexed, IsOnDisk, Standing}
-use Rattle.brick_store.specs.Steps.{changed, LeadsTo, IsMoment, IsUnchanged, IsChanged, CutsShort, IsSettled, IsMade, Step, IsRefused}
-use Rattle.brick_store.specs.Calls.{calls_with, calls_of}
+use Rattle.brick_store.specs.Steps.{changed, LeadsTo, IsUnchanged, IsChanged, Step, CanChange, IsRefused}
+use Rattle.brick_store.specs.Ends.{end_of, StateChange, BrickChange}
 use Rattle.brick_store.specs.Sizes.{view_size, known_size}
-use Rattle.brick_store.specs.Changes.{Changes}
+use Rattle.brick_store.specs.Changes.{Answers}
 use Rattle.brick_state.proofs.Keeping.{applied_keeps}
-use Rattle.brick_store.proofs.Stepping.{refused}
-use Rattle.brick_store.proofs.Cutting.{stops_as}
+use Rattle.brick_store.proofs.Stepping.{refused, slots_same}
 use Rattle.brick_store.proofs.Changed.{changed_to, not_full}
 use Rattle.brick_store.proofs.Resolving.{resolved_same, slots_imply, live-resolved}
 
@@ -97,16 +96,6 @@ brick_of blocks frames st = record {
   listed = size_of frames.frames;
   halted = frames.halted;
 }
-
--- a run in the words of what a clause sees of the store
-pub run_seen : {D tells : Type 0} {moment : D → ℕ} {plan : D → Plan} {unlisted : D → Type 0} (blocks : BTreeMap ℕ (List ℕ)) (frames : Held D)
-    (st : StateOf Entry) (b : Brick D) (size : StateOf Version → ℕ) (n calls : ℕ) (new : D) (whole cut : Type 0)
-    → brick_of blocks frames st ≡ b → n ≡ size (resolved (cached frames.shape.block blocks) st)
-    → IsRun tells moment plan unlisted (calls_with frames.shape (size_of frames.frames) n calls) frames.disk new whole cut
-    → IsRun tells moment plan unlisted (calls_of b (size b.state) calls) b.disk new whole cut
-run_seen {D} {tells} {moment} {plan} {unlisted} blocks frames st b size n calls new whole cut view is run =
-    subst (λ (x : Brick D). IsRun tells moment plan unlisted (calls_of x (size x.state) calls) x.disk new whole cut) view
-    (subst (λ (k : ℕ). IsRun tells moment plan unlisted (calls_with frames.shape (size_of frames.frames) k calls) frames.disk new whole cut) is run)
 
 -- the bytes of the view that a group learnt
 pub known_is : (known : Option (View × Bool)) (view : View) → option_map (λ k. k.0) known ≡ Some view → view_size view ≡ known_size known
@@ -192,53 +181,71 @@ refused_answer records live adds halted fault (inr is) =
     same : (m n : ℕ) → refused (Full n) ≡ refused (Full m) → m ≡ n
     same m n h = cc
 
-not_disk : (halted adds : Bool) (records live : ℕ) (fault : StoreFault) → IsRefused halted adds records live (Err fault)
-    → refused fault ≡ refused Disk → ⊥
-not_disk halted adds records live fault (inl is) bad = absurd cc
-not_disk halted adds records live fault (inr is) bad = absurd cc
+-- it made no call of the disk
+refused_ends : (halted adds : Bool) (records live : ℕ) (fault : StoreFault) → IsRefused halted adds records live (Err fault)
+    → NotBegun ≡ end_of (refused fault)
+refused_ends halted adds records live fault (inl is) =
+    let f : fault ≡ Halted = cc in sym (ap (λ (x : StoreFault). end_of (refused x)) f)
+refused_ends halted adds records live fault (inr is) =
+    let f : fault ≡ Full live = cc in sym (ap (λ (x : StoreFault). end_of (refused x)) f)
 
-module _ {D : Type 0} (tells : Type 0) (seen certain : D → List ℕ) (may_leave : D → List ℕ → Type 0) (moment : D → ℕ)
-    (left_since : D → ℕ → List ℕ → Type 0) (faults : D → ℕ) (sound : D → Type 0) where
-  -- at a moment of a step each image stands for the state before it or for the one after it
-  pub either_stands : (put : Option (ℕ × List ℕ)) (blocks : BTreeMap ℕ (List ℕ)) (st next : StateOf Entry) (old : Held D) (image : List ℕ)
-      → ((content : List ℕ) → KeepsSlots old.shape put (seen old.disk) content → AllSlots (IsStored old.shape blocks content) st)
-      → ((content : List ℕ) → KeepsSlots old.shape put (seen old.disk) content → StandsIn old.shape put content
-      → AllSlots (IsStored old.shape blocks content) next)
-      → IsMoment old.shape put st next (seen old.disk) image
-      → StandsForEither old.shape (resolved (cached old.shape.block blocks) st) (resolved (cached old.shape.block blocks) next) image
-  either_stands put blocks st next old image before after is =
-      ⊎_elim (λ here. inl (stands_for old.shape blocks st image here (before image is.slots)))
-      (λ there. inr (stands_for old.shape blocks next image there.0 (after image is.slots there.1))) is.opens
+-- what a change promises: what became of the disk, and of the store
+abbrev pub Told : {D : Type 0} → on_disk.Ghosts D → Brick D → Brick D → StateOf Version → Bool → ℕ → Result (Unit {0}) StoreFault → Type 0
+Told d old new after adds calls result = BrickChange d calls old after new.disk (end_of result) × Answers old new after adds result
 
-  -- what a step says of the whole call
+-- of the same answer
+pub told_as : {D : Type 0} (d : on_disk.Ghosts D) (old new : Brick D) (after : StateOf Version) (adds : Bool) (calls : ℕ)
+    (r other : Result (Unit {0}) StoreFault) → r ≡ other → Told d old new after adds calls other → Told d old new after adds calls r
+told_as d old new after adds calls r other is told =
+    subst (λ (a : Result (Unit {0}) StoreFault). Told d old new after adds calls a) (sym is) told
+
+module _ {D : Type 0} (d : on_disk.Ghosts D) where
+  -- a store between two calls can be changed, while it is not halted
+  pub may_of : (blocks : BTreeMap ℕ (List ℕ)) (zero_block : List ℕ) (old : Held D) (index : Index)
+      → Standing d.tells d.seen d.may_leave old index blocks zero_block → old.halted ≡ false → CanChange d (state_of index) old
+  may_of blocks zero_block old index standing runs = record {
+    runs = runs;
+    leads = standing.indexed.leads;
+    settled = λ told. let was = standing.on_disk told runs in
+        record { durable = was.durable; shows = was.shows; closed = was.closed };
+  }
+
+  -- what the change of the list says of the whole call
   pub changes_tried : (put : Option (ℕ × List ℕ)) (blocks : BTreeMap ℕ (List ℕ)) (st next : StateOf Entry) (old new : Held D) (st_now : StateOf Entry)
       (adds : Bool) (calls : ℕ) (result : Result (Unit {0}) StoreFault)
-      → old.halted ≡ false → (adds ≡ true → live st ≢ old.shape.records)
-      → (tells → (content : List ℕ) → KeepsSlots old.shape put (seen old.disk) content → AllSlots (IsStored old.shape blocks content) st)
-      → (tells → (content : List ℕ) → KeepsSlots old.shape put (seen old.disk) content → StandsIn old.shape put content
+      → CanChange d st old → (adds ≡ true → live st ≢ old.shape.records)
+      → (d.tells → (content : List ℕ) → KeepsSlots old.shape put (d.seen old.disk) content → AllSlots (IsStored old.shape blocks content) st)
+      → (d.tells → (content : List ℕ) → KeepsSlots old.shape put (d.seen old.disk) content → StandsIn old.shape put content
       → AllSlots (IsStored old.shape blocks content) next)
-      → Step tells seen may_leave moment left_since put st next old new result
-      → OnOk result (st_now ≡ next) → OnErr result (st_now ≡ st)
-      → Kept (faults old.disk) (faults new.disk) (sound old.disk) (sound new.disk) (result ≡ Err Disk)
-      → CutsShort tells seen certain moment calls put st next old new result
-      → Changes tells seen certain may_leave moment left_since faults sound (brick_of blocks old st) (brick_of blocks new st_now)
-      (resolved (cached old.shape.block blocks) next) adds calls result
-  changes_tried put blocks st next old new st_now adds calls result runs free before after step made not_made cause cut = record {
-    ok = keeps_ok result made;
-    refused = keeps_err result not_made;
-    durable = λ told. leaves result made step.made step.stands told;
-    any_moment = λ told go. widened moment left_since old.disk new.disk (IsMoment old.shape put st next (seen old.disk)) _
-        (λ image. either_stands put blocks st next old image (before told) (after told)) (step.moments told);
-    answer = subst (λ (b : Bool). IsAnswer old.shape.records (live (resolved (cached old.shape.block blocks) st)) adds b new.halted result) (sym runs)
-        (subst (λ n. IsAnswer old.shape.records n adds false new.halted result) (sym (live-resolved (cached old.shape.block blocks) st))
-        (tried_answer old.shape.records (live st) adds new.halted result free step.only step.halts));
-    no_call = untouched result step.only step.no_memory;
-    cause = cause;
-    cut = λ told is. stops_as seen certain moment calls old.disk new.disk (IsUnchanged old.shape put st (seen old.disk))
-        (IsChanged old.shape put next (seen old.disk)) _ _
-        (λ image at. stands_for old.shape blocks st image at.opens (before told image at.slots))
-        (λ image at. stands_for old.shape blocks next image at.opens (after told image at.slots at.stands)) (cut told is);
-  }
+      → Step d st next old new result → OnOk result (st_now ≡ next) → OnErr result (st_now ≡ st)
+      → StateChange d calls old put st next new.disk (end_of result)
+      → Told d (brick_of blocks old st) (brick_of blocks new st_now) (resolved (cached old.shape.block blocks) next) adds calls result
+  changes_tried put blocks st next old new st_now adds calls result may free before after step made not_made change = (
+    widen d calls (IsUnchanged old.shape put st (d.seen old.disk)) _ (IsChanged old.shape put next (d.seen old.disk))
+        (StandsFor old.shape (resolved (cached old.shape.block blocks) st)) _ (StandsFor old.shape (resolved (cached old.shape.block blocks) next))
+        old.disk new.disk (end_of result)
+        (λ told here. record {
+          opens = record {
+            frames = old.frames;
+            opens = subst (λ (b : Bool). OpensAs old.shape old.frames b (d.seen old.disk)) (may.settled told).closed (may.settled told).shows.opens;
+            leads = may.leads;
+          };
+          slots = slots_same old.shape put (d.seen old.disk) (d.seen old.disk) refl;
+        })
+        (λ told here image at. stands_for old.shape blocks st image at.opens (before told image at.slots))
+        (λ told here image. ⊎_elim (λ at. inl (stands_for old.shape blocks st image at.opens (before told image at.slots)))
+        (λ at. inr (stands_for old.shape blocks next image at.opens (after told image at.slots at.stands))))
+        (λ told image at. stands_for old.shape blocks next image at.opens (after told image at.slots at.stands))
+        change,
+    record {
+      ok = keeps_ok result made;
+      refused = keeps_err result not_made;
+      answer = subst (λ (b : Bool). IsAnswer old.shape.records (live (resolved (cached old.shape.block blocks) st)) adds b new.halted result)
+          (sym may.runs)
+          (subst (λ n. IsAnswer old.shape.records n adds false new.halted result) (sym (live-resolved (cached old.shape.block blocks) st))
+          (tried_answer old.shape.records (live st) adds new.halted result free step.only step.halts));
+    },
+  )
     where
       now_is : (s : StateOf Entry) → st_now ≡ s → resolved (cached new.shape.block blocks) st_now ≡ resolved (cached old.shape.block blocks) s
       now_is s is = ap (resolved (cached new.shape.block blocks)) is ∙ ap (λ (h : Shape). resolved (cached h.block blocks) s) step.shape
@@ -253,46 +260,24 @@ module _ {D : Type 0} (tells : Type 0) (seen certain : D → List ℕ) (may_leav
       keeps_err (Ok u) h = tt
       keeps_err (Err e) h = record { shape = step.shape; state = now_is st h }
 
-      leaves : (r : Result (Unit {0}) StoreFault) → OnOk r (st_now ≡ next) → OnOk r (Leads (limits_of old.shape) new.frames empty next)
-          → OnOk r (tells → IsMade tells seen may_leave moment left_since put old new) → tells
-          → OnOk r (LeavesState new.shape (resolved (cached new.shape.block blocks) st_now) (may_leave new.disk))
-      leaves (Err e) is leads h told = tt
-      leaves (Ok u) is leads h told = λ image left.
-          let made = h told in
-          let settled = made.settled in
-          let opens : OpensAs new.shape new.frames true (seen new.disk) = subst
-          (λ (b : Bool). OpensAs new.shape new.frames b (seen new.disk)) settled.closed settled.shows.opens in
-          let stored : AllSlots (IsStored old.shape blocks (seen new.disk)) next = after told (seen new.disk) made.slots made.stands in
-          let opened : OpensAs old.shape new.frames true (seen new.disk) = subst
-          (λ (h : Shape). OpensAs h new.frames true (seen new.disk)) step.shape opens in
-          let here : StandsFor old.shape (resolved (cached old.shape.block blocks) next) (seen new.disk) = stands_for old.shape blocks next
-          (seen new.disk) (record { frames = new.frames; opens = opened; leads = leads }) stored in
-          subst (λ (x : List ℕ). StandsFor new.shape (resolved (cached new.shape.block blocks) st_now) x) (sym (settled.durable.only image left))
-          (subst (λ (s : StateOf Version). StandsFor new.shape s (seen new.disk)) (sym (now_is next is))
-          (subst (λ (h : Shape). StandsFor h (resolved (cached old.shape.block blocks) next) (seen new.disk)) (sym step.shape) here))
-
-      untouched : (r : Result (Unit {0}) StoreFault) → OnErr r ((r ≡ Err Disk) ⊎ (r ≡ Err NoMemory))
-          → (r ≡ Err NoMemory → IsUntouched seen may_leave moment left_since old.disk new.disk × IsSame old new)
-          → OnErr r (r ≢ Err Disk → IsUntouched seen may_leave moment left_since old.disk new.disk)
-      untouched (Ok u) only h = tt
-      untouched (Err e) (inl is) h = λ other. absurd (other is)
-      untouched (Err e) (inr is) h = λ other. (h is).0
-
   -- the store stands after the call
-  pub standing_after : (put : Option (ℕ × List ℕ)) (blocks : BTreeMap ℕ (List ℕ)) (zero_block : List ℕ) (next : StateOf Entry) (old new : Held D)
-      (index index_now : Index) (result : Result (Unit {0}) StoreFault)
-      → Standing tells seen may_leave old index blocks zero_block → old.halted ≡ false → indexes.limits_of index_now ≡ indexes.limits_of index
-      → Step tells seen may_leave moment left_since put (state_of index) next old new result
+  pub standing_after : {calls : ℕ} (put : Option (ℕ × List ℕ)) (blocks : BTreeMap ℕ (List ℕ)) (zero_block : List ℕ) (next : StateOf Entry)
+      (old new : Held D) (index index_now : Index) (result : Result (Unit {0}) StoreFault)
+      → Standing d.tells d.seen d.may_leave old index blocks zero_block → old.halted ≡ false
+      → indexes.limits_of index_now ≡ indexes.limits_of index → Step d (state_of index) next old new result
       → OnOk result (state_of index_now ≡ next) → OnErr result (state_of index_now ≡ state_of index)
+      → StateChange d calls old put (state_of index) next new.disk (end_of result)
       → IsKeptState (limits_of old.shape) next → AllByRecursion GroupHasMembers next.groups → AllSlots (IsCached old.shape.block blocks) next
-      → (tells → (content : List ℕ) → KeepsSlots old.shape put (seen old.disk) content → StandsIn old.shape put content
+      → (d.tells → (content : List ℕ) → KeepsSlots old.shape put (d.seen old.disk) content → StandsIn old.shape put content
       → AllSlots (IsStored old.shape blocks content) next)
-      → Standing tells seen may_leave new index_now blocks zero_block
-  standing_after put blocks zero_block next old new index index_now result standing started_running limits step made not_made kept members cached_next after = by result step.made step.not_made step.stands step.only step.no_memory step.halts made not_made
+      → Standing d.tells d.seen d.may_leave new index_now blocks zero_block
+  standing_after {calls} put blocks zero_block next old new index index_now result standing started_running limits step made not_made change kept members cached_next after =
+      by result step.made step.not_made step.only step.halts made not_made change
     where
       of : (st : StateOf Entry) → state_of index_now ≡ st → Leads (limits_of old.shape) new.frames empty st → IsKeptState (limits_of old.shape) st
           → AllByRecursion GroupHasMembers st.groups → AllSlots (IsCached old.shape.block blocks) st
-          → (tells → new.halted ≡ false → IsOnDisk tells seen may_leave blocks new st) → Standing tells seen may_leave new index_now blocks zero_block
+          → (d.tells → new.halted ≡ false → IsOnDisk d.tells d.seen d.may_leave blocks new st)
+          → Standing d.tells d.seen d.may_leave new index_now blocks zero_block
       of st is leads kept_st named held_all on_disk =
           let indexed : IsIndexed old.shape new.frames (indexes.limits_of index_now) st = record {
             limits_are = limits
@@ -309,16 +294,16 @@ module _ {D : Type 0} (tells : Type 0) (seen certain : D → List ℕ) (may_leav
             cached_all = subst (λ (s : StateOf Entry). AllSlots (IsCached new.shape.block blocks) s) back
                 (subst (λ (h : Shape). AllSlots (IsCached h.block blocks) st) (sym step.shape) held_all);
             zero_is = standing.zero_is ∙ ap (λ (h : Shape). replicate h.block 0) (sym step.shape);
-            on_disk = λ told runs. subst (λ (s : StateOf Entry). IsOnDisk tells seen may_leave blocks new s) back (on_disk told runs);
+            on_disk = λ told runs. subst (λ (s : StateOf Entry). IsOnDisk d.tells d.seen d.may_leave blocks new s) back (on_disk told runs);
           }
 
-      on_new : (st : StateOf Entry) → IsSettled tells seen may_leave moment left_since new → AllSlots (IsStored old.shape blocks (seen new.disk)) st
-          → IsOnDisk tells seen may_leave blocks new st
-      on_new st settled stored = record {
-        durable = settled.durable;
-        shows = settled.shows;
-        closed = settled.closed;
-        stored = subst (λ (h : Shape). AllSlots (IsStored h blocks (seen new.disk)) st) (sym step.shape) stored;
+      on_new : (st : StateOf Entry) → d.tells → new.halted ≡ false → Only (d.seen new.disk) (d.may_leave new.disk)
+          → AllSlots (IsStored old.shape blocks (d.seen new.disk)) st → IsOnDisk d.tells d.seen d.may_leave blocks new st
+      on_new st told runs only stored = record {
+        durable = record { told = told; runs = runs; only = only };
+        shows = step.shows told runs;
+        closed = step.closed (standing.on_disk told started_running).closed;
+        stored = subst (λ (h : Shape). AllSlots (IsStored h blocks (d.seen new.disk)) st) (sym step.shape) stored;
       }
 
       halted_disk : (b : Bool) → b ≡ halted_after false (Err Disk) → b ≡ false → ⊥
@@ -328,126 +313,102 @@ module _ {D : Type 0} (tells : Type 0) (seen certain : D → List ℕ) (may_leav
           differ e = cc
 
       by : (r : Result (Unit {0}) StoreFault) → OnOk r (Leads (limits_of old.shape) new.frames empty next)
-          → OnErr r (Leads (limits_of old.shape) new.frames empty (state_of index))
-          → OnOk r (tells → IsMade tells seen may_leave moment left_since put old new) → OnErr r ((r ≡ Err Disk) ⊎ (r ≡ Err NoMemory))
-          → (r ≡ Err NoMemory → IsUntouched seen may_leave moment left_since old.disk new.disk × IsSame old new)
+          → OnErr r (Leads (limits_of old.shape) new.frames empty (state_of index)) → OnErr r ((r ≡ Err Disk) ⊎ (r ≡ Err NoMemory))
           → new.halted ≡ halted_after false r → OnOk r (state_of index_now ≡ next) → OnErr r (state_of index_now ≡ state_of index)
-          → Standing tells seen may_leave new index_now blocks zero_block
-      by (Ok u) leads not_leads stands only idle halts is is_not =
-          of next is leads kept members cached_next (λ told runs. let m = stands told in on_new next m.settled
-          (after told (seen new.disk) m.slots m.stands))
-      by (Err e) leads not_leads stands (inl disk) idle halts is is_not =
+          → StateChange d calls old put (state_of index) next new.disk (end_of r)
+          → Standing d.tells d.seen d.may_leave new index_now blocks zero_block
+      by (Ok u) leads not_leads only halts is is_not whole =
+          of next is leads kept members cached_next (λ told runs. let made = whole.whole refl told in
+          on_new next told runs made.only (after told (d.seen new.disk) made.has.slots made.has.stands))
+      by (Err e) leads not_leads (inl disk) halts is is_not cut =
           of (state_of index) is_not not_leads standing.indexed.kept standing.indexed.members standing.cached_all
           (λ told runs. absurd (halted_disk new.halted (halts ∙ ap (halted_after false) disk) runs))
-      by (Err e) leads not_leads stands (inr memory) idle halts is is_not =
+      by (Err e) leads not_leads (inr memory) halts is is_not not_begun =
           of (state_of index) is_not not_leads standing.indexed.kept standing.indexed.members standing.cached_all (λ told runs.
-          let same = (idle memory).1 in
-          let untouched = (idle memory).0 in
           let was = standing.on_disk told started_running in
-          record {
-            durable = record {
-              told = told;
-              runs = runs;
-              only = λ image left. was.durable.only image (untouched.crash image left)
-                  ∙ sym untouched.content;
-            };
-            shows = step.shows told runs;
-            closed = same.closed ∙ was.closed;
-            stored = subst (λ (h : Shape). AllSlots (IsStored h blocks (seen new.disk)) (state_of index)) (sym step.shape)
-                (subst (λ (x : List ℕ). AllSlots (IsStored old.shape blocks x) (state_of index)) (sym untouched.content) was.stored);
-          })
+          let untouched = not_begun.not_begun (ap (λ (r : Result (Unit {0}) StoreFault). end_of r) memory) in
+          on_new (state_of index) told runs
+          (λ image left. was.durable.only image (untouched.crash image left) ∙ sym untouched.content)
+          (subst (λ (x : List ℕ). AllSlots (IsStored old.shape blocks x) (state_of index)) (sym untouched.content) was.stored))
 
   -- a store of which a call was refused before it tried
-  pub changes_refused : (only_now : (disk : D) (image : List ℕ) → left_since disk (moment disk) image → may_leave disk image)
+  pub changes_refused : (only_now : (disk : D) (image : List ℕ) → d.left_since disk (d.moment disk) image → d.may_leave disk image)
       (blocks : BTreeMap ℕ (List ℕ)) (zero_block : List ℕ) (old : Held D) (index : Index) (after : StateOf Version) (adds : Bool) (calls : ℕ)
       (fault : StoreFault)
-      → Standing tells seen may_leave old index blocks zero_block → IsRefused old.halted adds (indexes.limits_of index).records
+      → Standing d.tells d.seen d.may_leave old index blocks zero_block → IsRefused old.halted adds (indexes.limits_of index).records
       (live (state_of index)) (Err fault)
-      → Changes tells seen certain may_leave moment left_since faults sound (brick_of blocks old (state_of index))
-      (brick_of blocks old (state_of index)) after adds calls (Err fault)
-  changes_refused only_now blocks zero_block old index after adds calls fault standing is = record {
-    ok = tt;
-    refused = record { shape = refl; state = refl };
-    durable = λ told. tt;
-    any_moment = λ told runs.
-        let was = standing.on_disk told runs in
-        let opens : OpensAs old.shape old.frames true (seen old.disk) = subst
-        (λ (b : Bool). OpensAs old.shape old.frames b (seen old.disk)) was.closed was.shows.opens in
-        let here = stands_for old.shape blocks (state_of index) (seen old.disk)
-        (record { frames = old.frames; opens = opens; leads = standing.indexed.leads }) was.stored in
-        started moment left_since old.disk _ (λ image left. inl
-        (subst (λ (x : List ℕ). StandsFor old.shape (resolved (cached old.shape.block blocks) (state_of index)) x)
-        (sym (was.durable.only image (only_now old.disk image left))) here));
-    answer = subst (λ n. IsAnswer old.shape.records n adds old.halted old.halted (Err fault))
-        (sym (live-resolved (cached old.shape.block blocks) (state_of index)))
-        (refused_answer old.shape.records (live (state_of index)) adds old.halted fault
-        (subst (λ (l : Limits). IsRefused old.halted adds l.records (live (state_of index)) (Err fault)) standing.indexed.limits_are is));
-    no_call = λ other. record { content = refl; crash = λ image left. left; clock = refl; time = record { later = omega arith; nothing_else = λ t image le left. inl left; keeps = λ t image le past. past } };
-    cause = record {
-      later = omega arith;
-      rose = λ bad. absurd
-          (not_disk old.halted adds _ _ fault is bad);
-      stays = λ here. here;
-      never = λ here bad. not_disk old.halted adds _ _ fault is bad;
-    };
-    cut = λ told bad. absurd (not_disk old.halted adds _ _ fault is bad);
-  }
+      → Told d (brick_of blocks old (state_of index)) (brick_of blocks old (state_of index)) after adds calls (Err fault)
+  changes_refused only_now blocks zero_block old index after adds calls fault standing is = (
+    subst (λ (end : End). BrickChange d calls (brick_of blocks old (state_of index)) after old.disk end)
+        (refused_ends old.halted adds (indexes.limits_of index).records (live (state_of index)) fault is)
+        (at_once d only_now calls (StandsFor old.shape (resolved (cached old.shape.block blocks) (state_of index))) _ (StandsFor old.shape after)
+        (λ image at. inl at) old.disk),
+    record {
+      ok = tt;
+      refused = record { shape = refl; state = refl };
+      answer = subst (λ n. IsAnswer old.shape.records n adds old.halted old.halted (Err fault))
+          (sym (live-resolved (cached old.shape.block blocks) (state_of index)))
+          (refused_answer old.shape.records (live (state_of index)) adds old.halted fault
+          (subst (λ (l : Limits). IsRefused old.halted adds l.records (live (state_of index)) (Err fault)) standing.indexed.limits_are is));
+    },
+  )
+
+  -- what stood in the slots of versions still does, where no block is put
+  stored_plain : (blocks : BTreeMap ℕ (List ℕ)) (zero_block : List ℕ) (old : Held D) (index : Index)
+      → Standing d.tells d.seen d.may_leave old index blocks zero_block → old.halted ≡ false → d.tells → (content : List ℕ)
+      → KeepsSlots old.shape None (d.seen old.disk) content → AllSlots (IsStored old.shape blocks content) (state_of index)
+  stored_plain blocks zero_block old index standing runs told content kept =
+      slots_imply (IsStored old.shape blocks (d.seen old.disk)) (IsStored old.shape blocks content)
+      (λ slot. stored_still old.shape None blocks (d.seen old.disk) content kept slot tt) (state_of index) (standing.on_disk told runs).stored
 
   -- what the record of a change that adds no block of its own says of the whole call
   pub changes_plain : {calls : ℕ} (blocks : BTreeMap ℕ (List ℕ)) (zero_block : List ℕ) (old new : Held D) (index : Index) (item : Record)
       (st_now next : StateOf Entry) (adds : Bool) (result : Result (Unit {0}) StoreFault)
-      → Standing tells seen may_leave old index blocks zero_block → old.halted ≡ false
+      → Standing d.tells d.seen d.may_leave old index blocks zero_block → old.halted ≡ false
       → (adds ≡ true → is_full (indexes.limits_of index) (state_of index) ≡ false)
       → applied (indexes.limits_of index) item (state_of index) ≡ Some next → ((P : ℕ → Type 0) → P 4294967295 → AllSlots P (state_of index)
       → AllSlots P next)
-      → Step tells seen may_leave moment left_since None (state_of index) (changed (indexes.limits_of index) item (state_of index)) old new result
+      → Step d (state_of index) (changed (indexes.limits_of index) item (state_of index)) old new result
       → OnOk result (st_now ≡ changed (indexes.limits_of index) item (state_of index)) → OnErr result (st_now ≡ state_of index)
-      → Kept (faults old.disk) (faults new.disk) (sound old.disk) (sound new.disk) (result ≡ Err Disk)
-      → CutsShort tells seen certain moment calls None (state_of index) (changed (indexes.limits_of index) item (state_of index)) old new result
-      → Changes tells seen certain may_leave moment left_since faults sound (brick_of blocks old (state_of index)) (brick_of blocks new st_now)
-      (resolved (cached old.shape.block blocks) next) adds calls result
-  changes_plain {calls} blocks zero_block old new index item st_now next adds result standing runs free is slots step made not_made cause cut =
+      → StateChange d calls old None (state_of index) (changed (indexes.limits_of index) item (state_of index)) new.disk (end_of result)
+      → Told d (brick_of blocks old (state_of index)) (brick_of blocks new st_now) (resolved (cached old.shape.block blocks) next) adds calls result
+  changes_plain {calls} blocks zero_block old new index item st_now next adds result standing runs free is slots step made not_made change =
       let st = state_of index in
       let limits = indexes.limits_of index in
       let to = changed_to limits item st next is in
-      let step_next = subst (λ (n : StateOf Entry). Step tells seen may_leave moment left_since None st n old new result) to step in
-      let made_next = subst (λ (n : StateOf Entry). OnOk result (st_now ≡ n)) to made in
-      let cut_next = subst (λ (n : StateOf Entry). CutsShort tells seen certain moment calls None st n old new result) to cut in
       let records : limits.records ≡ old.shape.records = ap (λ (l : Limits). l.records) standing.indexed.limits_are in
       let stored = stored_plain blocks zero_block old index standing runs in
-      changes_tried None blocks st next old new st_now adds calls result runs (λ add at. not_full limits st (free add) (at ∙ sym records))
-      stored (λ told content kept put. slots (IsStored old.shape blocks content) (inl refl)
-      (stored told content kept)) step_next made_next not_made cause cut_next
-    where
-      stored_plain : (bs : BTreeMap ℕ (List ℕ)) (z : List ℕ) (s : Held D) (ix : Index) → Standing tells seen may_leave s ix bs z → s.halted ≡ false
-          → tells → (content : List ℕ) → KeepsSlots s.shape None (seen s.disk) content → AllSlots (IsStored s.shape bs content) (state_of ix)
-      stored_plain bs z s ix stands go told content kept =
-          slots_imply (IsStored s.shape bs (seen s.disk)) (IsStored s.shape bs content)
-          (λ slot. stored_still s.shape None bs (seen s.disk) content kept slot tt) (state_of ix) (stands.on_disk told go).stored
+      changes_tried None blocks st next old new st_now adds calls result (may_of blocks zero_block old index standing runs)
+      (λ add at. not_full limits st (free add) (at ∙ sym records))
+      stored (λ told content kept put. slots (IsStored old.shape blocks content) (inl refl) (stored told content kept))
+      (subst (λ (n : StateOf Entry). Step d st n old new result) to step)
+      (subst (λ (n : StateOf Entry). OnOk result (st_now ≡ n)) to made) not_made
+      (subst (λ (n : StateOf Entry). StateChange d calls old None st n new.disk (end_of result)) to change)
 
   -- and that the store stands after it
-  pub standing_plain : (blocks : BTreeMap ℕ (List ℕ)) (zero_block : List ℕ) (old new : Held D) (index index_now : Index) (item : Record)
+  pub standing_plain : {calls : ℕ} (blocks : BTreeMap ℕ (List ℕ)) (zero_block : List ℕ) (old new : Held D) (index index_now : Index) (item : Record)
       (next : StateOf Entry) (result : Result (Unit {0}) StoreFault)
-      → Standing tells seen may_leave old index blocks zero_block → old.halted ≡ false
+      → Standing d.tells d.seen d.may_leave old index blocks zero_block → old.halted ≡ false
       → applied (indexes.limits_of index) item (state_of index) ≡ Some next → ((P : ℕ → Type 0) → P 4294967295 → AllSlots P (state_of index)
       → AllSlots P next)
       → AllByRecursion GroupHasMembers next.groups → indexes.limits_of index_now ≡ indexes.limits_of index
-      → Step tells seen may_leave moment left_since None (state_of index) (changed (indexes.limits_of index) item (state_of index)) old new result
+      → Step d (state_of index) (changed (indexes.limits_of index) item (state_of index)) old new result
       → OnOk result (state_of index_now ≡ changed (indexes.limits_of index) item (state_of index))
       → OnErr result (state_of index_now ≡ state_of index)
-      → Standing tells seen may_leave new index_now blocks zero_block
-  standing_plain blocks zero_block old new index index_now item next result standing runs is slots members limits step made not_made =
+      → StateChange d calls old None (state_of index) (changed (indexes.limits_of index) item (state_of index)) new.disk (end_of result)
+      → Standing d.tells d.seen d.may_leave new index_now blocks zero_block
+  standing_plain {calls} blocks zero_block old new index index_now item next result standing runs is slots members limits step made not_made change =
       let st = state_of index in
       let to = changed_to (indexes.limits_of index) item st next is in
-      let step_next = subst (λ (n : StateOf Entry). Step tells seen may_leave moment left_since None st n old new result) to step in
-      let made_next = subst (λ (n : StateOf Entry). OnOk result (state_of index_now ≡ n)) to made in
       let shaped = subst (λ (l : Limits). applied l item st ≡ Some next) standing.indexed.limits_are is in
       let kept = applied_keeps (limits_of old.shape) item st next standing.indexed.kept shaped in
-      standing_after None blocks zero_block next old new index index_now result standing runs limits step_next made_next not_made kept members
+      standing_after {calls = calls} None blocks zero_block next old new index index_now result standing runs limits
+      (subst (λ (n : StateOf Entry). Step d st n old new result) to step)
+      (subst (λ (n : StateOf Entry). OnOk result (state_of index_now ≡ n)) to made) not_made
+      (subst (λ (n : StateOf Entry). StateChange d calls old None st n new.disk (end_of result)) to change) kept members
       (slots (IsCached old.shape.block blocks) (inl refl) standing.cached_all)
       (λ told content kept_slots put. slots (IsStored old.shape blocks content) (inl refl)
-      (slots_imply (IsStored old.shape blocks (seen old.disk)) (IsStored old.shape blocks content)
-      (λ slot. stored_still old.shape None blocks (seen old.disk) content kept_slots slot tt) st (standing.on_disk told runs).stored))
+      (stored_plain blocks zero_block old index standing runs told content kept_slots))
 
   -- in the words of what a clause sees of the store
   pub told_of : (blocks : BTreeMap ℕ (List ℕ)) (old new : Held D) (st st_now next : StateOf Entry) (b : Brick D)
@@ -455,29 +416,29 @@ module _ {D : Type 0} (tells : Type 0) (seen certain : D → List ℕ) (may_leav
       (result : Result (Unit {0}) StoreFault)
       → brick_of blocks old st ≡ b → resolved (cached old.shape.block blocks) next ≡ F (resolved (cached old.shape.block blocks) st)
       → adds ≡ A (resolved (cached old.shape.block blocks) st) → calls ≡ C (brick_of blocks old st)
-      → Changes tells seen certain may_leave moment left_since faults sound (brick_of blocks old st) (brick_of blocks new st_now)
+      → Told d (brick_of blocks old st) (brick_of blocks new st_now)
       (resolved (cached old.shape.block blocks) next) adds calls result
-      → Changes tells seen certain may_leave moment left_since faults sound b (brick_of blocks new st_now) (F b.state) (A b.state) (C b) result
+      → Told d b (brick_of blocks new st_now) (F b.state) (A b.state) (C b) result
   told_of blocks old new st st_now next b F A C adds calls result view after add number tried =
-      subst (λ (x : Brick D). Changes tells seen certain may_leave moment left_since faults sound x (brick_of blocks new st_now) (F x.state)
+      subst (λ (x : Brick D). Told d x (brick_of blocks new st_now) (F x.state)
       (A x.state) (C x) result) view
-      (subst (λ (n : ℕ). Changes tells seen certain may_leave moment left_since faults sound (brick_of blocks old st) (brick_of blocks new st_now)
+      (subst (λ (n : ℕ). Told d (brick_of blocks old st) (brick_of blocks new st_now)
       (F (resolved (cached old.shape.block blocks) st)) (A (resolved (cached old.shape.block blocks) st)) n result) number
-      (subst (λ (a : StateOf Version). Changes tells seen certain may_leave moment left_since faults sound (brick_of blocks old st)
+      (subst (λ (a : StateOf Version). Told d (brick_of blocks old st)
       (brick_of blocks new st_now) a (A (resolved (cached old.shape.block blocks) st)) calls result) after
-      (subst (λ (x : Bool). Changes tells seen certain may_leave moment left_since faults sound (brick_of blocks old st) (brick_of blocks new st_now)
+      (subst (λ (x : Bool). Told d (brick_of blocks old st) (brick_of blocks new st_now)
       (resolved (cached old.shape.block blocks) next) x calls result) add tried)))
 
-  pub told_refused : (only_now : (disk : D) (image : List ℕ) → left_since disk (moment disk) image → may_leave disk image)
+  pub told_refused : (only_now : (disk : D) (image : List ℕ) → d.left_since disk (d.moment disk) image → d.may_leave disk image)
       (blocks : BTreeMap ℕ (List ℕ)) (zero_block : List ℕ) (old : Held D) (index : Index) (b : Brick D) (F : StateOf Version → StateOf Version)
       (A : StateOf Version → Bool) (adds : Bool) (calls : ℕ) (fault : StoreFault)
       → brick_of blocks old (state_of index) ≡ b → adds ≡ A (resolved (cached old.shape.block blocks) (state_of index))
-      → Standing tells seen may_leave old index blocks zero_block
+      → Standing d.tells d.seen d.may_leave old index blocks zero_block
       → IsRefused old.halted adds (indexes.limits_of index).records (live (state_of index)) (Err fault)
-      → Changes tells seen certain may_leave moment left_since faults sound b b (F b.state) (A b.state) calls (Err fault)
+      → Told d b b (F b.state) (A b.state) calls (Err fault)
   told_refused only_now blocks zero_block old index b F A adds calls fault view add standing is =
       let st = state_of index in
-      subst (λ (x : Brick D). Changes tells seen certain may_leave moment left_since faults sound x x (F x.state) (A x.state) calls (Err fault)) view
-      (subst (λ (x : Bool). Changes tells seen certain may_leave moment left_since faults sound (brick_of blocks old st) (brick_of blocks old st)
+      subst (λ (x : Brick D). Told d x x (F x.state) (A x.state) calls (Err fault)) view
+      (subst (λ (x : Bool). Told d (brick_of blocks old st) (brick_of blocks old st)
       (F (resolved (cached old.shape.block blocks) st)) x calls (Err fault)) add
       (changes_refused only_now blocks zero_block old index (F (resolved (cached old.shape.block blocks) st)) adds calls fault standing is))

@@ -1,6 +1,6 @@
 -- How many calls of the disk are made.
 use Rattle.std.proofs.Common.{◌≡◌, inl, inr, ℕ, ◌+◌, ◌≤◌, Bool, true, false, if◌then◌else◌, Result, Err, refl, arith, ◌&&◌, List, sym, ap, ◌∙◌}
-use Rattle.std.proofs.lemmas.Bool.{cases_lt}
+use Rattle.std.proofs.lemmas.Bool.{cases_lt, le-leb}
 use Rattle.std.proofs.lemmas.Bool.Decides.{nat_tests}
 use Rattle.stamp_store.specs.declared.kept_records.Kept.TheVariants.{Boot, Ballots, Order}
 use Rattle.stamp_store.specs.declared.kept_records.Kept.TheVariants as kinds
@@ -31,6 +31,11 @@ no_room shape listed body calls full = elim (cases_lt (half_size shape) (listed 
   | inr fits ↦ absurd (full fits)
 ]
 
+-- one that has room is not
+pub has_room : (shape : Shape) (listed body calls : ℕ) → listed + 6 + body + 1 ≤ half_size shape → calls ≡ calls_with shape listed body calls
+has_room shape listed body calls fits =
+    sym (ap (λ (b : Bool). if b then calls else (7 + calls)) (le-leb (listed + 6 + body + 1) (half_size shape) fits))
+
 -- room was made by no call or by seven, and then the frame was appended
 pub room_then : (shape : Shape) (listed body calls : ℕ) → calls_with shape listed body calls ≡ calls_with shape listed body 0 + calls
 room_then shape listed body calls = by (has_room_for shape listed body)
@@ -49,14 +54,13 @@ abbrev refusal : FrameFault → Result (Unit {0}) FrameFault
 refusal f = Err f
 
 pub disk_failed : (f : FrameFault) (halted : Bool) → halted ≡ false → (refusal f ≡ refusal frames.Halted → halted ≡ true)
-    → (refusal f ≡ refusal frames.NotAStore → ⊥) → (refusal f ≡ refusal frames.NoMemory → ⊥) → f ≡ frames.Disk
-disk_failed frames.Disk halted runs only_halted a_store memory = refl
-disk_failed frames.Halted halted runs only_halted a_store memory = absurd (differ (sym (only_halted refl) ∙ runs))
+    → (refusal f ≡ refusal frames.NoMemory → ⊥) → f ≡ frames.Disk
+disk_failed frames.Disk halted runs only_halted memory = refl
+disk_failed frames.Halted halted runs only_halted memory = absurd (differ (sym (only_halted refl) ∙ runs))
   where
     differ : true ≡ false → ⊥
     differ e = cc
-disk_failed frames.NotAStore halted runs only_halted a_store memory = absurd (a_store refl)
-disk_failed frames.NoMemory halted runs only_halted a_store memory = absurd (memory refl)
+disk_failed frames.NoMemory halted runs only_halted memory = absurd (memory refl)
 
 -- an opening of a list that was read
 pub opening_is : {D : Type 0} (held : Held D) (whole now : Bool) (shape : Shape) (listed : List Frame) (closed : Bool) → whole ≡ now

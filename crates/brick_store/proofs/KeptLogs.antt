@@ -11,6 +11,8 @@ use Rattle.std.proofs.lemmas.Map.Made.{keys_of-map_values}
 use Rattle.fab_base.specs.declared.stamps.Stamp.{Stamp}
 use Rattle.fab_base.specs.Stamps.{stamp_below, first_stamp}
 use Rattle.fab_base.proofs.StampOrder.{stamp_below_trans}
+use Rattle.fab_disk.specs.declared.disk.Disk as on_disk
+use Rattle.fab_disk.specs.Changing.{Stands}
 use Rattle.frame_store.specs.Images.{OpensAs}
 use Rattle.frame_store.specs.Stores.{Held}
 use Rattle.version_log.specs.Versions.{Version, version, IsRising}
@@ -24,7 +26,7 @@ use Rattle.brick_state.specs.KeptStates.{Rises, IsKeptState}
 use Rattle.brick_state.proofs.SoundStripes.{sound_at}
 use Rattle.brick_store.specs.Blocks.{resolved, resolved_stripe, cached, log_of}
 use Rattle.brick_store.specs.Bricks.{IsOrdered}
-use Rattle.brick_store.specs.Images.{LeavesState, StandsFor}
+use Rattle.brick_store.specs.Images.{StandsFor}
 use Rattle.brick_store.specs.Standing.{Standing}
 use Rattle.brick_store.proofs.Changing.{stands_for}
 use Rattle.brick_store.proofs.Resolving.{version_of, stripe_at-resolved}
@@ -76,15 +78,16 @@ kept_ordered size block limits st kept = record {
       (rising_log size block limits s.order s.from_start s.added (sound_at limits p st.stripes kept.stripes).rises);
 }
 
--- a crash leaves only what opens as what an open store keeps
-pub standing_leaves : {D : Type 0} (tells : Type 0) (seen : D → List ℕ) (may_leave : D → List ℕ → Type 0) (blocks : BTreeMap ℕ (List ℕ))
-    (zero_block : List ℕ) (store : Held D) (index : Index)
-    → Standing tells seen may_leave store index blocks zero_block → tells → store.halted ≡ false
-    → LeavesState store.shape (resolved (cached store.shape.block blocks) (state_of index)) (may_leave store.disk)
-standing_leaves {D} tells seen may_leave blocks zero_block store index standing told runs image left =
+-- what an open store keeps stands on its disk
+pub standing_stands : {D : Type 0} (d : on_disk.Ghosts D) (blocks : BTreeMap ℕ (List ℕ)) (zero_block : List ℕ) (store : Held D) (index : Index)
+    → Standing d.tells d.seen d.may_leave store index blocks zero_block → d.tells → store.halted ≡ false
+    → Stands d (StandsFor store.shape (resolved (cached store.shape.block blocks) (state_of index))) store.disk
+standing_stands d blocks zero_block store index standing told runs =
     let was = standing.on_disk told runs in
-    let opens : OpensAs store.shape store.frames true (seen store.disk) = subst
-    (λ (b : Bool). OpensAs store.shape store.frames b (seen store.disk)) was.closed was.shows.opens in
-    subst (λ (x : List ℕ). StandsFor store.shape (resolved (cached store.shape.block blocks) (state_of index)) x) (sym (was.durable.only image left))
-    (stands_for store.shape blocks (state_of index) (seen store.disk)
-    (record { frames = store.frames; opens = opens; leads = standing.indexed.leads }) was.stored)
+    let opens : OpensAs store.shape store.frames true (d.seen store.disk) = subst
+    (λ (b : Bool). OpensAs store.shape store.frames b (d.seen store.disk)) was.closed was.shows.opens in
+    record {
+      only = was.durable.only;
+      has = stands_for store.shape blocks (state_of index) (d.seen store.disk)
+          (record { frames = store.frames; opens = opens; leads = standing.indexed.leads }) was.stored;
+    }

@@ -8,6 +8,7 @@ pub mod HeldBlocks
 pub mod FreshLists
 pub mod Stepping
 pub mod Cutting
+pub mod StateChanges
 pub mod Changing
 pub mod Loads
 pub mod Changed
@@ -20,3 +21,4 @@ pub mod CutOpenings
 pub mod HeldLogs
 pub mod Counting
 pub mod KeptLogs
+pub mod Words

@@ -3,6 +3,7 @@ use Rattle.std.proofs.Common.{◌≡◌, ◌⊎◌, inl, inr, ℕ, ◌+◌, Bool
 use Rattle.std.specs.Prelude.{replicate}
 use Rattle.std.specs.List.{AllByRecursion}
 use Rattle.std.specs.BTreeMap.{BTreeMap}
+use Rattle.fab_disk.specs.declared.disk.Disk as on_disk
 use Rattle.fab_disk.specs.Disk.{IsUntouched, LeavesOnly}
 use Rattle.fab_disk.proofs.Moments.{started, goes_on, widened, joined}
 use Rattle.stamp_store.specs.declared.kept_records.Kept.TheVariants.{Boot}
@@ -22,7 +23,7 @@ use Rattle.brick_state.specs.KeptStates.{IsKeptState}
 use Rattle.brick_state.proofs.Keeping.{boot_kept}
 use Rattle.brick_store.specs.Images.{limits_of}
 use Rattle.brick_store.specs.Standing.{AllSlots, GroupHasMembers, IsCached, IsStored, Leads, Standing}
-use Rattle.brick_store.specs.Steps.{LeadsTo, IsMoment, IsSettled, changed}
+use Rattle.brick_store.specs.Steps.{LeadsTo, IsUnchanged, IsChanged, IsSettled, changed}
 use Rattle.brick_store.specs.Openings.{IsKeptIn, IsKeptInEither, IsAllowedOr, IsLoaded}
 use Rattle.brick_store.proofs.Stepping.{slots_then}
 use Rattle.brick_store.proofs.Changing.{leads_folded, stored_still}
@@ -47,13 +48,14 @@ kept_leads shape st a b image first second leads = record {
   slots = slots_then shape None a b image first second;
 }
 
-moment_kept : (shape : Shape) (st next : StateOf Entry) (a b image : List ℕ) → KeepsSlots shape None a b → IsMoment shape None st next b image
+-- the image is that of a list before a change that puts no block, or after it
+abbrev pub Between : Shape → StateOf Entry → StateOf Entry → List ℕ → List ℕ → Type 0
+Between shape st next content image = IsUnchanged shape None st content image ⊎ IsChanged shape None next content image
+
+moment_kept : (shape : Shape) (st next : StateOf Entry) (a b image : List ℕ) → KeepsSlots shape None a b → Between shape st next b image
     → IsKeptInEither shape st next a image
-moment_kept shape st next a b image first moment = by moment.opens
-  where
-    by : LeadsTo shape st image ⊎ (LeadsTo shape next image × Unit {0}) → IsKeptInEither shape st next a image
-    by (inl before) = inl (kept_leads shape st a b image first moment.slots before)
-    by (inr after) = inr (kept_leads shape next a b image first moment.slots after.0)
+moment_kept shape st next a b image first (inl before) = inl (kept_leads shape st a b image first before.slots before.opens)
+moment_kept shape st next a b image first (inr after) = inr (kept_leads shape next a b image first after.slots after.opens)
 
 module _ {D : Type 0} (moment : D → ℕ) (left_since : D → ℕ → List ℕ → Type 0) (allowed : List ℕ → Type 0) (shape : Shape) (st next : StateOf Entry)
     (content : List ℕ) where
@@ -70,11 +72,11 @@ module _ {D : Type 0} (moment : D → ℕ) (left_since : D → ℕ → List ℕ 
 
   -- and then the opening was counted
   pub counted_moments : (old mid new : D) (later : List ℕ) → KeepsSlots shape None content later → LeavesOnly moment left_since old mid
-      (IsAllowedOr allowed (IsKeptIn shape st content)) → LeavesOnly moment left_since mid new (IsMoment shape None st next later)
+      (IsAllowedOr allowed (IsKeptIn shape st content)) → LeavesOnly moment left_since mid new (Between shape st next later)
       → LeavesOnly moment left_since old new (IsAllowedOr allowed (IsKeptInEither shape st next content))
   counted_moments old mid new later slots first second =
       joined moment left_since old mid new (IsAllowedOr allowed (IsKeptInEither shape st next content)) (settled_moments old mid first)
-      (widened moment left_since mid new (IsMoment shape None st next later) (IsAllowedOr allowed (IsKeptInEither shape st next content))
+      (widened moment left_since mid new (Between shape st next later) (IsAllowedOr allowed (IsKeptInEither shape st next content))
       (λ image at. inr (moment_kept shape st next content later image slots at)) second)
 
 -- ---- reading comes first
@@ -103,15 +105,15 @@ module _ {D : Type 0} (seen : D → List ℕ) (may_leave : D → List ℕ → Ty
 
 -- ---- a store that stands
 
-module _ {D : Type 0} (tells : Type 0) (seen : D → List ℕ) (may_leave : D → List ℕ → Type 0) (moment : D → ℕ)
-    (left_since : D → ℕ → List ℕ → Type 0) where
+module _ {D : Type 0} (d : on_disk.Ghosts D) where
+  -- so stands a store that was read, and then counted
   pub standing_from : (new : Held D) (index : Index) (blocks : BTreeMap ℕ (List ℕ)) (zero_block : List ℕ) (shape : Shape) (frames : List Frame)
       (content : List ℕ) (limits : Limits) (st : StateOf Entry) (whole : Bool)
-      → new.shape ≡ shape → IsShape shape → IsLoaded tells shape frames content limits st whole blocks → zero_block ≡ replicate shape.block 0
+      → new.shape ≡ shape → IsShape shape → IsLoaded d.tells shape frames content limits st whole blocks → zero_block ≡ replicate shape.block 0
       → indexes.limits_of index ≡ limits → state_of index ≡ booted (st.boot + 1) st
-      → Leads (limits_of shape) new.frames empty (state_of index) → (tells → IsSettled tells seen may_leave moment left_since new)
-      → (tells → KeepsSlots shape None content (seen new.disk))
-      → Standing tells seen may_leave new index blocks zero_block
+      → Leads (limits_of shape) new.frames empty (state_of index) → (d.tells → IsSettled d new)
+      → (d.tells → KeepsSlots shape None content (d.seen new.disk))
+      → Standing d.tells d.seen d.may_leave new index blocks zero_block
   standing_from new index blocks zero_block shape frames content limits st whole is shape_ok loaded zero_is index_limits now leads settled slots =
       let to : shape ≡ new.shape = sym is in
       let back : booted (st.boot + 1) st ≡ state_of index = sym now in
@@ -131,9 +133,9 @@ module _ {D : Type 0} (tells : Type 0) (seen : D → List ℕ) (may_leave : D �
           durable = (settled told).durable;
           shows = (settled told).shows;
           closed = (settled told).closed;
-          stored = subst (λ (s : Shape). AllSlots (IsStored s blocks (seen new.disk)) (state_of index)) to
-              (subst (λ (x : StateOf Entry). AllSlots (IsStored shape blocks (seen new.disk)) x) back
-              (slots_imply (IsStored shape blocks content) (IsStored shape blocks (seen new.disk))
-              (λ slot stored. stored_still shape None blocks content (seen new.disk) (slots told) slot tt stored) st (loaded.stored told)));
+          stored = subst (λ (s : Shape). AllSlots (IsStored s blocks (d.seen new.disk)) (state_of index)) to
+              (subst (λ (x : StateOf Entry). AllSlots (IsStored shape blocks (d.seen new.disk)) x) back
+              (slots_imply (IsStored shape blocks content) (IsStored shape blocks (d.seen new.disk))
+              (λ slot stored. stored_still shape None blocks content (d.seen new.disk) (slots told) slot tt stored) st (loaded.stored told)));
         };
       }

@@ -5,6 +5,8 @@ use Rattle.std.specs.Map.{keys_of}
 use Rattle.version_log.specs.Versions.{Version, IsRising}
 use Rattle.frame_store.specs.declared.faults.FrameFault.{FrameFault}
 use Rattle.frame_store.specs.declared.faults.FrameFault.TheVariants as frames
+use Rattle.frame_store.specs.declared.faults.OpenFault.{OpenFault}
+use Rattle.frame_store.specs.declared.faults.OpenFault.TheVariants as opens
 use Rattle.frame_store.specs.declared.shapes.Shape.{Shape}
 use Rattle.brick_state.specs.States.{Place, StateOf, place_cmp}
 use Rattle.brick_store.specs.declared.faults.StoreFault.{StoreFault}
@@ -51,5 +53,10 @@ pub record IsAnswer (records live_before : ℕ) (adds : Bool) (halted halted_now
 abbrev pub fault_of : FrameFault → StoreFault
 fault_of frames.Disk = Disk
 fault_of frames.Halted = Halted
-fault_of frames.NotAStore = NotAStore
 fault_of frames.NoMemory = NoMemory
+
+-- and so is one of its opening
+abbrev pub open_fault_of : OpenFault → StoreFault
+open_fault_of opens.Disk = Disk
+open_fault_of opens.NotAStore = NotAStore
+open_fault_of opens.NoMemory = NoMemory

@@ -6,5 +6,6 @@ pub mod Openings
 pub mod Steps
 pub mod Calls
 pub mod Changes
+pub mod Ends
 pub mod Sizes
 pub mod Logs

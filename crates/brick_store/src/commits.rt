@@ -2,18 +2,16 @@
 
 ghost use Rattle.std.specs.Prelude.{◌≡◌, ◌≢◌, ◌⊎◌, ◌+◌, ◌≤◌, ◌<◌, Some, None, IsSome, Err, true, false, OnOk, OnErr, IsOk, Bool, length};
 ghost use Rattle.std.specs.List.{AllByRecursion};
-ghost use Rattle.fab_disk.specs.Disk.{Kept};
-ghost use Rattle.fab_disk.specs.Plan.{IsRun};
-ghost use Rattle.frame_store.specs.Layouts.{IsShape};
 ghost use Rattle.frame_store.specs.Listed.{Fits, size_of};
 ghost use Rattle.brick_state.specs.States.{live};
 ghost use Rattle.brick_state.specs.Indexes.{state_of, limits_of};
 ghost use Rattle.brick_state.specs.Folds.{applied, is_full};
 ghost use Rattle.brick_state.specs.KeptStates.{IsKeptState};
 ghost use Rattle.brick_store.specs.Calls.{calls_with};
+ghost use Rattle.brick_store.specs.Ends.{end_of, StateChange};
 ghost use Rattle.brick_store.specs.Sizes.{body_size};
-ghost use Rattle.brick_store.specs.Standing.{GroupHasMembers, IsIndexed};
-ghost use Rattle.brick_store.specs.Steps.{RecordHasMembers, Step, MayStep, CutsShort, changed, HasAppendRoom, IsRefused};
+ghost use Rattle.brick_store.specs.Standing.{GroupHasMembers};
+ghost use Rattle.brick_store.specs.Steps.{RecordHasMembers, Step, CanCommit, changed, HasAppendRoom, IsRefused};
 
 use crate::faults::StoreFault;
 use crate::index_steps::apply;
@@ -30,18 +28,13 @@ fn rewrite<D: Disk>(
     index: &Index,
     body: usize,
 ) -> Result<(), StoreFault>
-    requires may { MayStep D.tells D.seen D.may_leave D.moment D.left_since (state_of index.now) frames.old }
-    requires shape { IsShape frames.old.shape }
-    requires indexed { IsIndexed frames.old.shape frames.old.frames (limits_of index.now) (state_of index.now) }
+    requires store { CanCommit D.Disk (limits_of index.now) (state_of index.now) frames.old }
     requires small { body ≤ 145 }
-    ensures step { Step D.tells D.seen D.may_leave D.moment D.left_since None (state_of index.now) (state_of index.now) frames.old frames.new result }
+    ensures step { Step D.Disk (state_of index.now) (state_of index.now) frames.old frames.new result }
     ensures fits { OnOk result (Fits frames.new.shape frames.new.frames body) }
     ensures room { OnOk result (HasAppendRoom D.has_room frames.new body) }
-    ensures cut { CutsShort D.tells D.seen D.certain D.moment 7 None (state_of index.now) (state_of index.now) frames.old frames.new result }
-    ensures run { IsRun D.tells D.moment D.plan D.unlisted 7 frames.old.disk frames.new.disk
-        (IsOk result) (result ≡ Err StoreFault.Disk) }
-    ensures cause { Kept (D.faults frames.old.disk) (D.faults frames.new.disk) (D.sound frames.old.disk) (D.sound frames.new.disk)
-        (result ≡ Err StoreFault.Disk) }
+    ensures change { StateChange D.Disk 7 frames.old None (state_of index.now) (state_of index.now)
+        frames.new.disk (end_of result) }
 {
     let live = live_frames(alloc, index)?;
     frames.reserve(&live, body)?;
@@ -57,18 +50,13 @@ fn make_room<D: Disk>(
     index: &Index,
     body: usize,
 ) -> Result<(), StoreFault>
-    requires may { MayStep D.tells D.seen D.may_leave D.moment D.left_since (state_of index.now) frames.old }
-    requires shape { IsShape frames.old.shape }
-    requires indexed { IsIndexed frames.old.shape frames.old.frames (limits_of index.now) (state_of index.now) }
+    requires store { CanCommit D.Disk (limits_of index.now) (state_of index.now) frames.old }
     requires small { body ≤ 145 }
-    ensures step { Step D.tells D.seen D.may_leave D.moment D.left_since None (state_of index.now) (state_of index.now) frames.old frames.new result }
+    ensures step { Step D.Disk (state_of index.now) (state_of index.now) frames.old frames.new result }
     ensures fits { OnOk result (Fits frames.new.shape frames.new.frames body) }
     ensures room { OnOk result ((frames.new ≡ frames.old) ⊎ HasAppendRoom D.has_room frames.new body) }
-    ensures cut { CutsShort D.tells D.seen D.certain D.moment (calls_with frames.old.shape (size_of frames.old.frames) body 0) None (state_of index.now) (state_of index.now) frames.old frames.new result }
-    ensures run { IsRun D.tells D.moment D.plan D.unlisted (calls_with frames.old.shape (size_of frames.old.frames) body 0) frames.old.disk frames.new.disk
-        (IsOk result) (result ≡ Err StoreFault.Disk) }
-    ensures cause { Kept (D.faults frames.old.disk) (D.faults frames.new.disk) (D.sound frames.old.disk) (D.sound frames.new.disk)
-        (result ≡ Err StoreFault.Disk) }
+    ensures change { StateChange D.Disk (calls_with frames.old.shape (size_of frames.old.frames) body 0) frames.old None (state_of index.now) (state_of index.now)
+        frames.new.disk (end_of result) }
 {
     if frames.fits(body) {
         return Ok(());
@@ -83,19 +71,13 @@ fn append_record<D: Disk>(
     index: &Index,
     item: &Record,
 ) -> Result<(), StoreFault>
-    requires may { MayStep D.tells D.seen D.may_leave D.moment D.left_since (state_of index.now) frames.old }
-    requires shape { IsShape frames.old.shape }
-    requires indexed { IsIndexed frames.old.shape frames.old.frames (limits_of index.now) (state_of index.now) }
+    requires store { CanCommit D.Disk (limits_of index.now) (state_of index.now) frames.old }
     requires members { RecordHasMembers item.now }
     requires can { IsSome (applied (limits_of index.now) item.now (state_of index.now)) }
-    ensures step { Step D.tells D.seen D.may_leave D.moment D.left_since None (state_of index.now)
+    ensures step { Step D.Disk (state_of index.now)
         (changed (limits_of index.now) item.now (state_of index.now)) frames.old frames.new result }
-    ensures cut { CutsShort D.tells D.seen D.certain D.moment (calls_with frames.old.shape (size_of frames.old.frames) (body_size item.now) 4) None (state_of index.now)
-        (changed (limits_of index.now) item.now (state_of index.now)) frames.old frames.new result }
-    ensures run { IsRun D.tells D.moment D.plan D.unlisted (calls_with frames.old.shape (size_of frames.old.frames) (body_size item.now) 4) frames.old.disk frames.new.disk
-        (IsOk result) (result ≡ Err StoreFault.Disk) }
-    ensures cause { Kept (D.faults frames.old.disk) (D.faults frames.new.disk) (D.sound frames.old.disk) (D.sound frames.new.disk)
-        (result ≡ Err StoreFault.Disk) }
+    ensures change { StateChange D.Disk (calls_with frames.old.shape (size_of frames.old.frames) (body_size item.now) 4) frames.old None (state_of index.now) (changed (limits_of index.now) item.now (state_of index.now))
+        frames.new.disk (end_of result) }
 {
     let frame = frame_of(alloc, item)?;
     make_room(alloc, frames, index, frame.body.len())?;
@@ -132,21 +114,15 @@ fn append_version<D: Disk>(
     slot: u32,
     block: &[u8],
 ) -> Result<(), StoreFault>
-    requires may { MayStep D.tells D.seen D.may_leave D.moment D.left_since (state_of index.now) frames.old }
-    requires shape { IsShape frames.old.shape }
-    requires indexed { IsIndexed frames.old.shape frames.old.frames (limits_of index.now) (state_of index.now) }
+    requires store { CanCommit D.Disk (limits_of index.now) (state_of index.now) frames.old }
     requires members { RecordHasMembers item.now }
     requires can { IsSome (applied (limits_of index.now) item.now (state_of index.now)) }
     requires slot { slot < frames.old.shape.records }
     requires block { length block.now ≡ frames.old.shape.block }
-    ensures step { Step D.tells D.seen D.may_leave D.moment D.left_since (Some (slot, block.now)) (state_of index.now)
+    ensures step { Step D.Disk (state_of index.now)
         (changed (limits_of index.now) item.now (state_of index.now)) frames.old frames.new result }
-    ensures cut { CutsShort D.tells D.seen D.certain D.moment (calls_with frames.old.shape (size_of frames.old.frames) (body_size item.now) 5) (Some (slot, block.now)) (state_of index.now)
-        (changed (limits_of index.now) item.now (state_of index.now)) frames.old frames.new result }
-    ensures run { IsRun D.tells D.moment D.plan D.unlisted (calls_with frames.old.shape (size_of frames.old.frames) (body_size item.now) 5) frames.old.disk frames.new.disk
-        (IsOk result) (result ≡ Err StoreFault.Disk) }
-    ensures cause { Kept (D.faults frames.old.disk) (D.faults frames.new.disk) (D.sound frames.old.disk) (D.sound frames.new.disk)
-        (result ≡ Err StoreFault.Disk) }
+    ensures change { StateChange D.Disk (calls_with frames.old.shape (size_of frames.old.frames) (body_size item.now) 5) frames.old (Some (slot, block.now)) (state_of index.now) (changed (limits_of index.now) item.now (state_of index.now))
+        frames.new.disk (end_of result) }
 {
     let frame = frame_of(alloc, item)?;
     make_room(alloc, frames, index, frame.body.len())?;
@@ -165,22 +141,16 @@ pub fn commit<D: Disk>(
     index: &mut Index,
     item: &Record,
 ) -> Result<(), StoreFault>
-    requires may { MayStep D.tells D.seen D.may_leave D.moment D.left_since (state_of index.old) frames.old }
-    requires shape { IsShape frames.old.shape }
-    requires indexed { IsIndexed frames.old.shape frames.old.frames (limits_of index.old) (state_of index.old) }
+    requires store { CanCommit D.Disk (limits_of index.old) (state_of index.old) frames.old }
     requires members { RecordHasMembers item.now }
     requires can { IsSome (applied (limits_of index.old) item.now (state_of index.old)) }
-    ensures step { Step D.tells D.seen D.may_leave D.moment D.left_since None (state_of index.old)
+    ensures step { Step D.Disk (state_of index.old)
         (changed (limits_of index.old) item.now (state_of index.old)) frames.old frames.new result }
     ensures made { OnOk result (state_of index.new ≡ changed (limits_of index.old) item.now (state_of index.old)) }
     ensures not_made { OnErr result (state_of index.new ≡ state_of index.old) }
     ensures limits { limits_of index.new ≡ limits_of index.old }
-    ensures cut { CutsShort D.tells D.seen D.certain D.moment (calls_with frames.old.shape (size_of frames.old.frames) (body_size item.now) 4) None (state_of index.old)
-        (changed (limits_of index.old) item.now (state_of index.old)) frames.old frames.new result }
-    ensures run { IsRun D.tells D.moment D.plan D.unlisted (calls_with frames.old.shape (size_of frames.old.frames) (body_size item.now) 4) frames.old.disk frames.new.disk
-        (IsOk result) (result ≡ Err StoreFault.Disk) }
-    ensures cause { Kept (D.faults frames.old.disk) (D.faults frames.new.disk) (D.sound frames.old.disk) (D.sound frames.new.disk)
-        (result ≡ Err StoreFault.Disk) }
+    ensures change { StateChange D.Disk (calls_with frames.old.shape (size_of frames.old.frames) (body_size item.now) 4) frames.old None (state_of index.old) (changed (limits_of index.old) item.now (state_of index.old))
+        frames.new.disk (end_of result) }
 {
     index.reserve(item)?;
     append_record(alloc, frames, index, item)?;
@@ -201,24 +171,18 @@ pub fn commit_with<D: Disk>(
     slot: u32,
     block: &[u8],
 ) -> Result<(), StoreFault>
-    requires may { MayStep D.tells D.seen D.may_leave D.moment D.left_since (state_of index.old) frames.old }
-    requires shape { IsShape frames.old.shape }
-    requires indexed { IsIndexed frames.old.shape frames.old.frames (limits_of index.old) (state_of index.old) }
+    requires store { CanCommit D.Disk (limits_of index.old) (state_of index.old) frames.old }
     requires members { RecordHasMembers item.now }
     requires can { IsSome (applied (limits_of index.old) item.now (state_of index.old)) }
     requires slot { slot < frames.old.shape.records }
     requires block { length block.now ≡ frames.old.shape.block }
-    ensures step { Step D.tells D.seen D.may_leave D.moment D.left_since (Some (slot, block.now)) (state_of index.old)
+    ensures step { Step D.Disk (state_of index.old)
         (changed (limits_of index.old) item.now (state_of index.old)) frames.old frames.new result }
     ensures made { OnOk result (state_of index.new ≡ changed (limits_of index.old) item.now (state_of index.old)) }
     ensures not_made { OnErr result (state_of index.new ≡ state_of index.old) }
     ensures limits { limits_of index.new ≡ limits_of index.old }
-    ensures cut { CutsShort D.tells D.seen D.certain D.moment (calls_with frames.old.shape (size_of frames.old.frames) (body_size item.now) 5) (Some (slot, block.now)) (state_of index.old)
-        (changed (limits_of index.old) item.now (state_of index.old)) frames.old frames.new result }
-    ensures run { IsRun D.tells D.moment D.plan D.unlisted (calls_with frames.old.shape (size_of frames.old.frames) (body_size item.now) 5) frames.old.disk frames.new.disk
-        (IsOk result) (result ≡ Err StoreFault.Disk) }
-    ensures cause { Kept (D.faults frames.old.disk) (D.faults frames.new.disk) (D.sound frames.old.disk) (D.sound frames.new.disk)
-        (result ≡ Err StoreFault.Disk) }
+    ensures change { StateChange D.Disk (calls_with frames.old.shape (size_of frames.old.frames) (body_size item.now) 5) frames.old (Some (slot, block.now)) (state_of index.old) (changed (limits_of index.old) item.now (state_of index.old))
+        frames.new.disk (end_of result) }
 {
     index.reserve(item)?;
     append_version(alloc, frames, index, item, slot, block)?;

@@ -4,7 +4,7 @@ ghost use Rattle.std.specs.Prelude.{◌≡◌};
 ghost use Rattle.brick_store.specs.declared.faults.StoreFault.TheVariants.{NoMemory};
 
 use fab_base::NoMem;
-use frame_store::FrameFault;
+use frame_store::{FrameFault, OpenFault};
 use std::alloc::{AllocError, AllocFailed};
 use thiserror::Error;
 
@@ -43,8 +43,21 @@ impl From<FrameFault> for StoreFault {
         match fault {
             FrameFault::Disk => StoreFault::Disk,
             FrameFault::Halted => StoreFault::Halted,
-            FrameFault::NotAStore => StoreFault::NotAStore,
             FrameFault::NoMemory => StoreFault::NoMemory,
+        }
+    }
+}
+
+impl From<OpenFault> for StoreFault {
+    ghost use Rattle.brick_store.specs.Bricks.{open_fault_of};
+
+    ghost from_gives = { λ fault e. e ≡ open_fault_of fault };
+
+    fn from(fault: OpenFault) -> Self {
+        match fault {
+            OpenFault::Disk => StoreFault::Disk,
+            OpenFault::NotAStore => StoreFault::NotAStore,
+            OpenFault::NoMemory => StoreFault::NoMemory,
         }
     }
 }

@@ -2,22 +2,17 @@
 //! one more, is written anew before anything is appended to it.
 
 ghost use Rattle.std.specs.Prelude.{◌≡◌, ◌⊎◌, ◌+◌, ◌≤◌, if◌then◌else◌, true, false, None, Err, IsTrue, IsOk, OnOk, OnErr};
-ghost use Rattle.std.specs.List.{AllByRecursion};
 ghost use Rattle.fab_disk.specs.Disk.{IsUntouched, LeavesOnly, Kept};
 ghost use Rattle.fab_disk.specs.Plan.{IsRun};
-ghost use Rattle.frame_store.specs.Layouts.{IsShape};
 ghost use Rattle.frame_store.specs.Images.{KeepsSlots};
 ghost use Rattle.frame_store.specs.Listed.{Fits};
-ghost use Rattle.frame_store.specs.Stores.{IsRead};
 ghost use Rattle.brick_state.specs.States.{empty};
-ghost use Rattle.brick_state.specs.Folds.{folded};
 ghost use Rattle.brick_state.specs.Indexes.{state_of};
 ghost use Rattle.brick_state.specs.Indexes as indexes;
-ghost use Rattle.brick_state.specs.KeptStates.{IsKeptState};
-ghost use Rattle.brick_store.specs.Images.{records_of, limits_of};
-ghost use Rattle.brick_store.specs.Standing.{GroupHasMembers, Leads};
+ghost use Rattle.brick_store.specs.Images.{limits_of};
+ghost use Rattle.brick_store.specs.Standing.{Leads};
 ghost use Rattle.brick_store.specs.Calls.{is_appendable};
-ghost use Rattle.brick_store.specs.Steps.{MayStep, HasAppendRoom};
+ghost use Rattle.brick_store.specs.Steps.{CanChange, IsReadAs, HasAppendRoom};
 ghost use Rattle.brick_store.specs.Openings.{IsKeptIn, IsAllowedOr, StopsReadying};
 
 use crate::faults::StoreFault;
@@ -35,15 +30,9 @@ fn renew<D: Disk>(
     index: &Index,
     body: usize,
 ) -> Result<(), StoreFault>
-    requires shape { IsShape frames.old.shape }
-    requires runs { frames.old.halted ≡ false }
-    requires read { IsRead D.tells D.seen frames.old }
-    requires limits { indexes.limits_of index.now ≡ limits_of frames.old.shape }
-    requires kept { IsKeptState (limits_of frames.old.shape) (state_of index.now) }
-    requires members { AllByRecursion GroupHasMembers (state_of index.now).groups }
-    requires found { folded (limits_of frames.old.shape) (records_of frames.old.frames) empty ≡ state_of index.now }
+    requires held { IsReadAs D.Disk (indexes.limits_of index.now) (state_of index.now) frames.old }
     requires small { body ≤ 145 }
-    ensures may { OnOk result (MayStep D.tells D.seen D.may_leave D.moment D.left_since (state_of index.now) frames.new) }
+    ensures may { OnOk result (CanChange D.Disk (state_of index.now) frames.new) }
     ensures shape { frames.new.shape ≡ frames.old.shape }
     ensures slots { D.tells → OnOk result (KeepsSlots frames.old.shape None (D.seen frames.old.disk) (D.seen frames.new.disk)) }
     ensures moments { D.tells → frames.old.closed ≡ true → LeavesOnly D.moment D.left_since frames.old.disk frames.new.disk
@@ -86,16 +75,10 @@ pub fn make_appendable<D: Disk>(
     whole: bool,
     body: usize,
 ) -> Result<(), StoreFault>
-    requires shape { IsShape frames.old.shape }
-    requires runs { frames.old.halted ≡ false }
-    requires read { IsRead D.tells D.seen frames.old }
-    requires limits { indexes.limits_of index.now ≡ limits_of frames.old.shape }
-    requires kept { IsKeptState (limits_of frames.old.shape) (state_of index.now) }
-    requires members { AllByRecursion GroupHasMembers (state_of index.now).groups }
-    requires found { folded (limits_of frames.old.shape) (records_of frames.old.frames) empty ≡ state_of index.now }
+    requires held { IsReadAs D.Disk (indexes.limits_of index.now) (state_of index.now) frames.old }
     requires whole { whole ≡ true → Leads (limits_of frames.old.shape) frames.old.frames empty (state_of index.now) }
     requires small { body ≤ 145 }
-    ensures may { OnOk result (MayStep D.tells D.seen D.may_leave D.moment D.left_since (state_of index.now) frames.new) }
+    ensures may { OnOk result (CanChange D.Disk (state_of index.now) frames.new) }
     ensures shape { frames.new.shape ≡ frames.old.shape }
     ensures slots { D.tells → OnOk result (KeepsSlots frames.old.shape None (D.seen frames.old.disk) (D.seen frames.new.disk)) }
     ensures moments { D.tells → frames.old.closed ≡ true → LeavesOnly D.moment D.left_since frames.old.disk frames.new.disk

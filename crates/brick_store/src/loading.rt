@@ -17,7 +17,7 @@ use crate::faults::StoreFault;
 use crate::readings::{Folded, fold};
 use fab_base::Bytes;
 use fab_disk::Disk;
-use frame_store::FrameStore;
+use frame_store::{Frame, FrameStore};
 use std::alloc::Global;
 use std::collections::BTreeMap;
 
@@ -32,9 +32,11 @@ pub(crate) struct Loaded {
 pub(crate) fn load<D: Disk>(
     alloc: Global,
     frames: &mut FrameStore<D>,
+    list: &[Frame],
     block: u16,
     records: u32,
 ) -> Result<Loaded, StoreFault>
+    requires list { list.now ≡ frames.old.frames }
     requires shape { IsShape frames.old.shape }
     requires block { block ≡ frames.old.shape.block }
     requires records { records ≡ frames.old.shape.records }
@@ -54,7 +56,7 @@ pub(crate) fn load<D: Disk>(
     ensures cause { Kept (D.faults frames.old.disk) (D.faults frames.new.disk) (D.sound frames.old.disk) (D.sound frames.new.disk)
         (result ≡ Err StoreFault.Disk) }
 {
-    let folded = fold(alloc, frames.frames(), records)?;
+    let folded = fold(alloc, list, records)?;
     if folded.index.boot() == 4294967295 {
         return Err(StoreFault::Worn);
     }

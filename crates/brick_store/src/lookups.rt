@@ -6,7 +6,8 @@ ghost use Rattle.brick_state.specs.States.{live, group_at};
 ghost use Rattle.brick_state.specs.Times.{top_time};
 ghost use Rattle.brick_store.specs.Blocks.{accepted_of, version_stamp, first_kept, learnt_of, IsServed};
 ghost use Rattle.brick_store.specs.Bricks.{Keeps, IsOrdered};
-ghost use Rattle.brick_store.specs.Images.{LeavesState, StandsFor, IsListed};
+ghost use Rattle.fab_disk.specs.Changing.{Stands};
+ghost use Rattle.brick_store.specs.Images.{StandsFor, IsListed};
 
 use crate::index_steps::accepted_of;
 use crate::stores::BrickStore;
@@ -90,7 +91,7 @@ impl<D: Disk> BrickStore<D> {
     /// what opens as what the store keeps.
     pub fn is_halted(&self) -> bool
         ensures value { result ≡ self.now.halted }
-        ensures durable { D.tells → self.now.halted ≡ false → LeavesState self.now.shape self.now.state (D.may_leave self.now.disk) }
+        ensures stands { D.tells → self.now.halted ≡ false → Stands D.Disk (StandsFor self.now.shape self.now.state) self.now.disk }
         ensures ordered { IsOrdered self.now.shape.block self.now.state }
         // Whether there is room for a frame is told by what the disk holds.
         ensures listed { D.tells → self.now.halted ≡ false → IsListed self.now.shape self.now.listed (D.seen self.now.disk) }
@@ -102,8 +103,7 @@ impl<D: Disk> BrickStore<D> {
     /// Gives the disk back. Where the store is not halted, the disk stands for what it keeps, and so does whatever a crash leaves.
     pub fn into_disk(self) -> D
         ensures disk { result ≡ self.disk }
-        ensures stands { D.tells → self.halted ≡ false → StandsFor self.shape self.state (D.seen result) }
-        ensures durable { D.tells → self.halted ≡ false → LeavesState self.shape self.state (D.may_leave result) }
+        ensures stands { D.tells → self.halted ≡ false → Stands D.Disk (StandsFor self.shape self.state) result }
     {
         let BrickStore {
             alloc: _,

@@ -17,6 +17,7 @@ use crate::stores::BrickStore;
 use crate::taking_up::take_up;
 use fab_base::BrickId;
 use fab_disk::Disk;
+use frame_store::Collected;
 use std::alloc::Global;
 
 /// Opens the store that a disk holds for a brick: its count of openings is one greater, and nothing else is changed.
@@ -86,11 +87,12 @@ pub fn open_store<D: Disk>(
     ensures cause { IfOk result (λ store. Kept (D.faults disk) (D.faults store.disk) (D.sound disk) (D.sound store.disk) ⊥) }
     ensures cause_err { IfErr result (λ e. Kept (D.faults disk) (D.faults e.1) (D.sound disk) (D.sound e.1) (e.0 ≡ StoreFault.Disk)) }
 {
-    let mut frames = match frame_store::open_store(alloc, disk, me.0, block, records) {
+    let mut list = Collected::new(alloc);
+    let mut frames = match frame_store::open_store(alloc, disk, me.0, block, records, &mut list) {
         Ok(frames) => frames,
         Err((fault, disk)) => return Err((StoreFault::from(fault), disk)),
     };
-    match take_up(alloc, &mut frames, block, records) {
+    match take_up(alloc, &mut frames, list.frames(), block, records) {
         Ok(taken) => Ok(BrickStore {
             alloc,
             frames,

@@ -1,23 +1,20 @@
 //! Making a store go on once it was read.
 
 ghost use Rattle.std.specs.Prelude.{◌≡◌, ◌≢◌, ◌⊎◌, ◌+◌, ◌-◌, ◌<◌, ◌^◌, true, false, Some, None, IsSome, Err, IsOk, OnOk, OnErr, length};
-ghost use Rattle.std.specs.List.{AllByRecursion};
 ghost use Rattle.fab_disk.specs.Disk.{IsUntouched, LeavesOnly};
 ghost use Rattle.fab_disk.specs.Disk as disks;
 ghost use Rattle.fab_disk.specs.Plan.{IsRun};
-ghost use Rattle.frame_store.specs.Layouts.{IsShape};
 ghost use Rattle.frame_store.specs.Images.{KeepsSlots};
 ghost use Rattle.frame_store.specs.Listed.{Fits};
-ghost use Rattle.frame_store.specs.Stores.{IsRead};
 ghost use Rattle.brick_state.specs.States.{empty, booted};
-ghost use Rattle.brick_state.specs.Folds.{applied, folded};
+ghost use Rattle.brick_state.specs.Folds.{applied};
 ghost use Rattle.brick_state.specs.Indexes.{state_of, IsReady};
 ghost use Rattle.brick_state.specs.Indexes as indexes;
-ghost use Rattle.brick_state.specs.KeptStates.{IsKeptState};
-ghost use Rattle.brick_store.specs.Images.{record_of, records_of, limits_of};
-ghost use Rattle.brick_store.specs.Standing.{GroupHasMembers, Leads};
+ghost use Rattle.brick_store.specs.Images.{record_of, limits_of};
+ghost use Rattle.brick_store.specs.Standing.{Leads};
 ghost use Rattle.brick_store.specs.Calls.{is_appendable, opening_calls};
-ghost use Rattle.brick_store.specs.Steps.{IsSettled, Step, MayStep, CutsShort, changed, HasAppendRoom};
+ghost use Rattle.brick_store.specs.Ends.{end_of, StateChange};
+ghost use Rattle.brick_store.specs.Steps.{IsSettled, Step, CanChange, IsReadAs, changed, HasAppendRoom};
 ghost use Rattle.brick_store.specs.Openings.{IsAllowedOr, IsKeptIn, IsKeptInEither, StopsOpening};
 
 use crate::faults::StoreFault;
@@ -37,17 +34,17 @@ fn append_count<D: Disk>(
     item: &Record,
     frame: &Frame,
 ) -> Result<(), StoreFault>
-    requires may { MayStep D.tells D.seen D.may_leave D.moment D.left_since (state_of index.old) frames.old }
+    requires may { CanChange D.Disk (state_of index.old) frames.old }
     requires limits { indexes.limits_of index.old ≡ limits_of frames.old.shape }
     requires read { record_of frame.now ≡ Some item.now }
     requires can { IsSome (applied (indexes.limits_of index.old) item.now (state_of index.old)) }
     requires ready { IsReady index.old item.now }
     requires fits { Fits frames.old.shape frames.old.frames (length frame.now.body) }
     requires room { HasAppendRoom D.has_room frames.old (length frame.now.body) }
-    ensures step { Step D.tells D.seen D.may_leave D.moment D.left_since None (state_of index.old)
+    ensures step { Step D.Disk (state_of index.old)
         (changed (indexes.limits_of index.old) item.now (state_of index.old)) frames.old frames.new result }
-    ensures cut { CutsShort D.tells D.seen D.certain D.moment 4 None (state_of index.old)
-        (changed (indexes.limits_of index.old) item.now (state_of index.old)) frames.old frames.new result }
+    ensures change { StateChange D.Disk 4 frames.old None (state_of index.old)
+        (changed (indexes.limits_of index.old) item.now (state_of index.old)) frames.new.disk (end_of result) }
     ensures made { OnOk result (state_of index.new ≡ changed (indexes.limits_of index.old) item.now (state_of index.old)) }
     ensures limits { indexes.limits_of index.new ≡ indexes.limits_of index.old }
     ensures no_memory { result ≢ Err StoreFault.NoMemory }
@@ -69,13 +66,7 @@ pub fn start<D: Disk>(
     index: &mut Index,
     whole: bool,
 ) -> Result<(), StoreFault>
-    requires shape { IsShape frames.old.shape }
-    requires runs { frames.old.halted ≡ false }
-    requires read { IsRead D.tells D.seen frames.old }
-    requires limits { indexes.limits_of index.old ≡ limits_of frames.old.shape }
-    requires kept { IsKeptState (limits_of frames.old.shape) (state_of index.old) }
-    requires members { AllByRecursion GroupHasMembers (state_of index.old).groups }
-    requires found { folded (limits_of frames.old.shape) (records_of frames.old.frames) empty ≡ state_of index.old }
+    requires held { IsReadAs D.Disk (indexes.limits_of index.old) (state_of index.old) frames.old }
     requires whole { whole ≡ true → Leads (limits_of frames.old.shape) frames.old.frames empty (state_of index.old) }
     requires boots { (state_of index.old).boot < 2 ^ 32 - 1 }
     ensures made { OnOk result (state_of index.new ≡ booted ((state_of index.old).boot + 1) (state_of index.old)) }
@@ -83,7 +74,7 @@ pub fn start<D: Disk>(
     ensures leads { OnOk result (Leads (limits_of frames.old.shape) frames.new.frames empty (state_of index.new)) }
     ensures shape { frames.new.shape ≡ frames.old.shape }
     ensures runs { OnOk result (frames.new.halted ≡ false) }
-    ensures settled { D.tells → OnOk result (IsSettled D.tells D.seen D.may_leave D.moment D.left_since frames.new) }
+    ensures settled { D.tells → OnOk result (IsSettled D.Disk frames.new) }
     ensures slots { D.tells → OnOk result (KeepsSlots frames.old.shape None (D.seen frames.old.disk) (D.seen frames.new.disk)) }
     ensures moments { D.tells → frames.old.closed ≡ true → LeavesOnly D.moment D.left_since frames.old.disk frames.new.disk
         (IsAllowedOr (D.may_leave frames.old.disk) (IsKeptInEither frames.old.shape (state_of index.old)

@@ -7,8 +7,8 @@ ghost use Rattle.brick_state.specs.Folds.{place};
 ghost use Rattle.brick_store.specs.Blocks.{log_at, version_stamp, HasStamp, IsServed, adds_stamp, IsNext, with_version, accepted_of, learnt_of, all_synced};
 ghost use Rattle.brick_store.specs.Calls.{version_calls, calls_of};
 ghost use Rattle.brick_store.specs.Sizes.{ballots_size, view_size, known_size, version_size};
-ghost use Rattle.fab_disk.specs.Plan.{IsRun};
-ghost use Rattle.brick_store.specs.Changes.{Changes};
+ghost use Rattle.brick_store.specs.Changes.{Answers};
+ghost use Rattle.brick_store.specs.Ends.{end_of, BrickChange};
 
 use crate::additions::{forget_refused, held_under, hold_new};
 use crate::commits::{commit, commit_with, ready};
@@ -77,11 +77,10 @@ impl<D: Disk> BrickStore<D> {
     ) -> Result<(), StoreFault>
         requires group { group.0 < 64 }
         requires view { IsServed (group_at self.old.state group.0) view.0 }
-        ensures change { Changes D.tells D.seen D.certain D.may_leave D.moment D.left_since D.faults D.sound self.old self.new
-            (ordered (place group view stripe) stamp self.old.state)
-            (adds_stamp stamp (stripe_at self.old.state (place group view stripe)).order) (calls_of self.old 30 4) result }
-        ensures run { IsRun D.tells D.moment D.plan D.unlisted (calls_of self.old 30 4) self.old.disk self.new.disk (IsOk result)
-            (result ≡ Err StoreFault.Disk) }
+        ensures change { BrickChange D.Disk (calls_of self.old 30 4) self.old
+            (ordered (place group view stripe) stamp self.old.state) self.new.disk (end_of result) }
+        ensures answer { Answers self.old self.new (ordered (place group view stripe) stamp self.old.state)
+            (adds_stamp stamp (stripe_at self.old.state (place group view stripe)).order) result }
     {
         let place = (group.0, view.0, stripe.0);
         let adds = adds_stamp(stamp, self.index.order(place));
@@ -107,10 +106,10 @@ impl<D: Disk> BrickStore<D> {
     ) -> Result<(), StoreFault>
         requires group { group.0 < 64 }
         requires view { view.0 ≡ learnt_of (group_at self.old.state group.0) }
-        ensures change { Changes D.tells D.seen D.certain D.may_leave D.moment D.left_since D.faults D.sound self.old self.new
-            (balloted group.0 promised (accepted_of (group_at self.old.state group.0)) self.old.state) false (calls_of self.old (ballots_size (accepted_of (group_at self.old.state group.0))) 4) result }
-        ensures run { IsRun D.tells D.moment D.plan D.unlisted (calls_of self.old (ballots_size (accepted_of (group_at self.old.state group.0))) 4) self.old.disk self.new.disk (IsOk result)
-            (result ≡ Err StoreFault.Disk) }
+        ensures change { BrickChange D.Disk (calls_of self.old (ballots_size (accepted_of (group_at self.old.state group.0))) 4) self.old
+            (balloted group.0 promised (accepted_of (group_at self.old.state group.0)) self.old.state) self.new.disk (end_of result) }
+        ensures answer { Answers self.old self.new (balloted group.0 promised (accepted_of (group_at self.old.state group.0)) self.old.state)
+            false result }
     {
         let accepted = accepted_of(self.index.group(group.0));
         let item = Record::Kept(Kept::Ballots {
@@ -137,10 +136,10 @@ impl<D: Disk> BrickStore<D> {
         requires group { group.0 < 64 }
         requires view { view.0 ≡ learnt_of (group_at self.old.state group.0) }
         requires members { 1 ≤ length members }
-        ensures change { Changes D.tells D.seen D.certain D.may_leave D.moment D.left_since D.faults D.sound self.old self.new
-            (balloted group.0 ballot (Some (ballot, members)) self.old.state) false (calls_of self.old (ballots_size (Some (ballot, members))) 4) result }
-        ensures run { IsRun D.tells D.moment D.plan D.unlisted (calls_of self.old (ballots_size (Some (ballot, members))) 4) self.old.disk self.new.disk (IsOk result)
-            (result ≡ Err StoreFault.Disk) }
+        ensures change { BrickChange D.Disk (calls_of self.old (ballots_size (Some (ballot, members))) 4) self.old
+            (balloted group.0 ballot (Some (ballot, members)) self.old.state) self.new.disk (end_of result) }
+        ensures answer { Answers self.old self.new (balloted group.0 ballot (Some (ballot, members)) self.old.state)
+            false result }
     {
         let item = Record::Kept(Kept::Ballots {
             group,
@@ -161,10 +160,10 @@ impl<D: Disk> BrickStore<D> {
         requires group { group.0 < 64 }
         requires above { learnt_of (group_at self.old.state group.0) < view.number.0 }
         requires members { (1 ≤ length view.members) × (1 ≤ length view.prior) }
-        ensures change { Changes D.tells D.seen D.certain D.may_leave D.moment D.left_since D.faults D.sound self.old self.new
-            (viewed group.0 view false self.old.state) false (calls_of self.old (view_size view) 4) result }
-        ensures run { IsRun D.tells D.moment D.plan D.unlisted (calls_of self.old (view_size view) 4) self.old.disk self.new.disk (IsOk result)
-            (result ≡ Err StoreFault.Disk) }
+        ensures change { BrickChange D.Disk (calls_of self.old (view_size view) 4) self.old
+            (viewed group.0 view false self.old.state) self.new.disk (end_of result) }
+        ensures answer { Answers self.old self.new (viewed group.0 view false self.old.state)
+            false result }
     {
         let item = Record::Kept(Kept::View {
             group,
@@ -183,10 +182,10 @@ impl<D: Disk> BrickStore<D> {
         requires group { group.0 < 64 }
         requires view { view.0 ≡ learnt_of (group_at self.old.state group.0) }
         requires learnt { IsSome (group_at self.old.state group.0).known }
-        ensures change { Changes D.tells D.seen D.certain D.may_leave D.moment D.left_since D.faults D.sound self.old self.new
-            (all_synced group.0 self.old.state) false (calls_of self.old (known_size (group_at self.old.state group.0).known) 4) result }
-        ensures run { IsRun D.tells D.moment D.plan D.unlisted (calls_of self.old (known_size (group_at self.old.state group.0).known) 4) self.old.disk self.new.disk (IsOk result)
-            (result ≡ Err StoreFault.Disk) }
+        ensures change { BrickChange D.Disk (calls_of self.old (known_size (group_at self.old.state group.0).known) 4) self.old
+            (all_synced group.0 self.old.state) self.new.disk (end_of result) }
+        ensures answer { Answers self.old self.new (all_synced group.0 self.old.state)
+            false result }
     {
         let _ = view;
         let item = Record::Kept(Kept::View {
@@ -212,10 +211,10 @@ impl<D: Disk> BrickStore<D> {
         requires group { group.0 < 64 }
         requires view { IsServed (group_at self.old.state group.0) view.0 }
         requires held { HasStamp stamp (log_at self.old.shape.block self.old.state (place group view stripe)) }
-        ensures change { Changes D.tells D.seen D.certain D.may_leave D.moment D.left_since D.faults D.sound self.old self.new
-            (collected version_stamp (place group view stripe) stamp self.old.state) false (calls_of self.old 30 4) result }
-        ensures run { IsRun D.tells D.moment D.plan D.unlisted (calls_of self.old 30 4) self.old.disk self.new.disk (IsOk result)
-            (result ≡ Err StoreFault.Disk) }
+        ensures change { BrickChange D.Disk (calls_of self.old 30 4) self.old
+            (collected version_stamp (place group view stripe) stamp self.old.state) self.new.disk (end_of result) }
+        ensures answer { Answers self.old self.new (collected version_stamp (place group view stripe) stamp self.old.state)
+            false result }
     {
         let item = Record::Logged(Logged {
             group,
@@ -244,10 +243,10 @@ impl<D: Disk> BrickStore<D> {
         requires view { IsServed (group_at self.old.state group.0) view.0 }
         requires above { IsNext stamp (log_at self.old.shape.block self.old.state (place group view stripe)) block }
         requires block { ForSome block (λ bytes. length bytes ≡ self.old.shape.block) }
-        ensures change { Changes D.tells D.seen D.certain D.may_leave D.moment D.left_since D.faults D.sound self.old self.new
-            (with_version self.old.shape.block (place group view stripe) stamp block self.old.state) true (calls_of self.old (version_size block) (version_calls block)) result }
-        ensures run { IsRun D.tells D.moment D.plan D.unlisted (calls_of self.old (version_size block) (version_calls block)) self.old.disk self.new.disk (IsOk result)
-            (result ≡ Err StoreFault.Disk) }
+        ensures change { BrickChange D.Disk (calls_of self.old (version_size block) (version_calls block)) self.old
+            (with_version self.old.shape.block (place group view stripe) stamp block self.old.state) self.new.disk (end_of result) }
+        ensures answer { Answers self.old self.new (with_version self.old.shape.block (place group view stripe) stamp block self.old.state)
+            true result }
     {
         match block {
             Some(bytes) => self.add_block(group, view, stripe, stamp, bytes),
@@ -265,10 +264,10 @@ impl<D: Disk> BrickStore<D> {
     ) -> Result<(), StoreFault>
         requires group { group.0 < 64 }
         requires above { IsNext stamp (log_at self.old.shape.block self.old.state (place group view stripe)) None }
-        ensures change { Changes D.tells D.seen D.certain D.may_leave D.moment D.left_since D.faults D.sound self.old self.new
-            (with_version self.old.shape.block (place group view stripe) stamp None self.old.state) true (calls_of self.old 30 4) result }
-        ensures run { IsRun D.tells D.moment D.plan D.unlisted (calls_of self.old 30 4) self.old.disk self.new.disk (IsOk result)
-            (result ≡ Err StoreFault.Disk) }
+        ensures change { BrickChange D.Disk (calls_of self.old 30 4) self.old
+            (with_version self.old.shape.block (place group view stripe) stamp None self.old.state) self.new.disk (end_of result) }
+        ensures answer { Answers self.old self.new (with_version self.old.shape.block (place group view stripe) stamp None self.old.state)
+            true result }
     {
         let item = Record::Logged(Logged {
             group,
@@ -293,10 +292,10 @@ impl<D: Disk> BrickStore<D> {
         requires group { group.0 < 64 }
         requires above { IsNext stamp (log_at self.old.shape.block self.old.state (place group view stripe)) (Some block) }
         requires block { length block ≡ self.old.shape.block }
-        ensures change { Changes D.tells D.seen D.certain D.may_leave D.moment D.left_since D.faults D.sound self.old self.new
-            (with_version self.old.shape.block (place group view stripe) stamp (Some block) self.old.state) true (calls_of self.old 35 5) result }
-        ensures run { IsRun D.tells D.moment D.plan D.unlisted (calls_of self.old 35 5) self.old.disk self.new.disk (IsOk result)
-            (result ≡ Err StoreFault.Disk) }
+        ensures change { BrickChange D.Disk (calls_of self.old 35 5) self.old
+            (with_version self.old.shape.block (place group view stripe) stamp (Some block) self.old.state) self.new.disk (end_of result) }
+        ensures answer { Answers self.old self.new (with_version self.old.shape.block (place group view stripe) stamp (Some block) self.old.state)
+            true result }
     {
         ready(&self.frames, &self.index, true)?;
         let slot = hold_new(&self.index, &mut self.blocks, block)?;

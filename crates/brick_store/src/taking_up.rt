@@ -18,7 +18,7 @@ use crate::starts::start;
 use brick_state::Index;
 use fab_base::Bytes;
 use fab_disk::Disk;
-use frame_store::FrameStore;
+use frame_store::{Frame, FrameStore};
 use std::alloc::Global;
 use std::collections::BTreeMap;
 
@@ -35,9 +35,11 @@ pub(crate) struct TakenUp {
 pub(crate) fn take_up<D: Disk>(
     alloc: Global,
     frames: &mut FrameStore<D>,
+    list: &[Frame],
     block: u16,
     records: u32,
 ) -> Result<TakenUp, StoreFault>
+    requires list { list.now ≡ frames.old.frames }
     requires shape { IsShape frames.old.shape }
     requires block { block ≡ frames.old.shape.block }
     requires records { records ≡ frames.old.shape.records }
@@ -75,7 +77,7 @@ pub(crate) fn take_up<D: Disk>(
         (result ≡ Err StoreFault.Disk) }
 {
     let zero = Bytes::from_vec(vec![in alloc; 0u8; block as usize]?);
-    let loaded = load(alloc, frames, block, records)?;
+    let loaded = load(alloc, frames, list, block, records)?;
     let mut index = loaded.folded.index;
     start(alloc, frames, &mut index, loaded.folded.whole)?;
     Ok(TakenUp {

@@ -3,7 +3,7 @@ use Rattle.std.proofs.Common.{◌≡◌, ◌≢◌, refl, sym, ◌∙◌, ap, su
 use Rattle.std.specs.Result.{IsOk, IsOkUnless, OnOk}
 use Rattle.fab_disk.specs.Changing.{End, Whole, Cut, NotBegun}
 use Rattle.frame_store.specs.declared.faults.FrameFault.{FrameFault}
-use Rattle.frame_store.specs.declared.faults.FrameFault.TheVariants.{Disk, Halted, NotAStore, NoMemory}
+use Rattle.frame_store.specs.declared.faults.FrameFault.TheVariants.{Disk, Halted, NoMemory}
 use Rattle.frame_store.specs.Ends.{end_of}
 
 -- a call that answers Ok or Disk was begun
@@ -19,7 +19,6 @@ pub whole_ok : (r : Result (Unit {0}) FrameFault) → end_of r ≡ Whole → IsO
 whole_ok (Ok value) is = refl
 whole_ok (Err Disk) is = absurd cc
 whole_ok (Err Halted) is = absurd cc
-whole_ok (Err NotAStore) is = absurd cc
 whole_ok (Err NoMemory) is = absurd cc
 
 pub ok_whole : (r : Result (Unit {0}) FrameFault) → IsOk r → end_of r ≡ Whole
@@ -31,7 +30,6 @@ pub cut_disk : (r : Result (Unit {0}) FrameFault) → end_of r ≡ Cut → r ≡
 cut_disk (Ok value) is = absurd cc
 cut_disk (Err Disk) is = refl
 cut_disk (Err Halted) is = absurd cc
-cut_disk (Err NotAStore) is = absurd cc
 cut_disk (Err NoMemory) is = absurd cc
 
 -- what is so of an end, by the answer
@@ -53,5 +51,4 @@ pub on_whole : {P : Type 0} (r : Result (Unit {0}) FrameFault) → OnOk r P → 
 on_whole (Ok value) p is = p
 on_whole (Err Disk) p is = absurd cc
 on_whole (Err Halted) p is = absurd cc
-on_whole (Err NotAStore) p is = absurd cc
 on_whole (Err NoMemory) p is = absurd cc

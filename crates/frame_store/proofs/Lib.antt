@@ -13,5 +13,7 @@ pub mod Changes
 pub mod Rewriting
 pub mod Exits
 pub mod Openings
+pub mod Pieces
+pub mod Stills
 pub mod Formatting
 pub mod Words

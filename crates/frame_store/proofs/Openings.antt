@@ -1,5 +1,5 @@
 -- What an image opens as.
-use Rattle.std.proofs.Common.{◌≡◌, ◌≢◌, inl, inr, ⊎_elim, ℕ, ◌+◌, ◌-◌, ◌<◌, ◌≤◌, min, Bool, true, false, not, nat_eq, List, length, get_or, take, drop, IsTrue, refl, sym, ◌∙◌, ap, subst, arith, length-take, length-drop}
+use Rattle.std.proofs.Common.{◌≡◌, inl, inr, ⊎_elim, ℕ, ◌+◌, ◌-◌, ◌<◌, ◌≤◌, min, Bool, true, false, not, nat_eq, List, length, get_or, take, drop, refl, sym, ◌∙◌, ap, subst, arith, length-take, length-drop}
 use Rattle.std.proofs.lemmas.Bool.Decides.{nat_tests}
 use Rattle.std.proofs.lemmas.Grind.{same_number_lists}
 use Rattle.std.proofs.lemmas.List.{places}
@@ -9,8 +9,9 @@ use Rattle.frame_store.specs.declared.shapes.Shape.{Shape}
 use Rattle.frame_store.specs.declared.shapes.Half.{Half}
 use Rattle.frame_store.specs.declared.shapes.Half.TheVariants.{A, B}
 use Rattle.frame_store.specs.Layouts.{header_at, half_at, half_size}
-use Rattle.frame_store.specs.Listed.{spelled, size_of, frames_of}
+use Rattle.frame_store.specs.Listed.{size_of, frames_of}
 use Rattle.frame_store.specs.Laid.{other, Laid}
+use Rattle.frame_store.specs.Reading.{IsListOf}
 use Rattle.frame_store.specs.Images.{part, InForce, EndsClosed, OpensAs, IsNoStore, half_bytes, generation_at}
 use Rattle.frame_store.proofs.Parts.{part_get, length-part, part_of_part}
 use Rattle.frame_store.proofs.Headers.{header_within, in_force_kept, generation_kept, open_back}
@@ -34,7 +35,8 @@ untouched_both seen may_leave moment left_since counts a b c first second = reco
   };
 }
 
-take_twice : (n m : ℕ) (l : List ℕ) → n ≤ m → take n (take m l) ≡ take n l
+-- the front of a front
+pub take_twice : (n m : ℕ) (l : List ℕ) → n ≤ m → take n (take m l) ≡ take n l
 take_twice n m l le = same_number_lists (take n (take m l)) (take n l) (omega (arith, length-take n (take m l), length-take m l, length-take n l))
     (λ k lt. grind (arith, places))
 
@@ -64,35 +66,33 @@ module _ (shape : Shape) (image headers : List ℕ) (whole : 64 ≤ length image
       ∙ ap (λ (i : ℕ). get_or image i 0) here
 
   -- a store that was read is laid in the image
-  pub read_laid : (half : Half) (number : ℕ) (frames : List Frame) (bytes : List ℕ) (used : ℕ) (other_shut closed : Bool)
-      → InForce shape half headers → generation_at half headers ≡ number → bytes ≡ half_bytes shape half image
-      → frames ≡ frames_of bytes → take (size_of frames) bytes ≡ spelled frames → size_of frames ≤ length bytes → used ≡ size_of frames
-      → other_shut ≡ not (nat_eq (get_or headers (header_at (other half)) 0) 165)
-      → (IsTrue closed → (used < length bytes) × (get_or bytes used 0 ≢ 165)) → ((used < length bytes) × (get_or bytes used 0 ≢ 165) → IsTrue closed)
+  pub read_laid : (half : Half) (number : ℕ) (frames : List Frame) (used : ℕ) (other_shut closed : Bool)
+      → InForce shape half headers → generation_at half headers ≡ number → IsListOf (half_bytes shape half image) frames used closed
+      → used ≡ size_of frames → other_shut ≡ not (nat_eq (get_or headers (header_at (other half)) 0) 165)
       → Laid shape half number other_shut frames closed image
-  read_laid half number frames bytes used other_shut closed in_force generation bytes_are listed stands within used_is shut_is shut_then shut_only =
-      let long : length bytes ≡ min (half_size shape) (length image - half_at shape half) =
-      ap length bytes_are ∙ length-take (half_size shape) (drop (half_at shape half) image)
+  read_laid half number frames used other_shut closed in_force generation list used_is shut_is =
+      let long : length (half_bytes shape half image) ≡ min (half_size shape) (length image - half_at shape half) =
+      length-take (half_size shape) (drop (half_at shape half) image)
       ∙ ap (min (half_size shape)) (length-drop (half_at shape half) image) in
       record {
         in_force = headers_in_force half in_force;
         generation = generation_kept shape half headers image (omega (arith, size)) whole (same half) ∙ generation;
-        listed = ap frames_of (sym bytes_are) ∙ sym listed;
-        stands = sym (take_twice (size_of frames) (half_size shape) (drop (half_at shape half) image) (omega (arith, within, long)))
-            ∙ ap (take (size_of frames)) (sym bytes_are) ∙ stands;
+        listed = list.listed;
+        stands = sym (take_twice (size_of frames) (half_size shape) (drop (half_at shape half) image) (omega (arith, list.within, used_is, long)))
+            ∙ ap (λ (n : ℕ). take n (half_bytes shape half image)) (sym used_is) ∙ list.stands;
         shut = λ is is_open. shut_gate (get_or headers (header_at (other half)) 0) (sym shut_is ∙ is) (gate_same (other half) ∙ is_open);
         unshut = λ is. sym (gate_same (other half)) ∙ open_gate (get_or headers (header_at (other half)) 0) (sym shut_is ∙ is);
         ended = λ is.
-            let there = shut_then is in
+            let there = list.ended is in
             record {
-              within_half = omega (arith, there.0, used_is, long);
-              within_file = omega (arith, there.0, used_is, long);
-              shut = λ is_open. there.1 (gate_at (omega (arith, there.0, long)) ∙ is_open);
+              within_half = omega (arith, there.within, used_is, long);
+              within_file = omega (arith, there.within, used_is, long);
+              shut = λ is_open. there.shut (gate_at (omega (arith, there.within, long)) ∙ is_open);
             };
-        not_ended = λ ends. shut_only (
-          omega (arith, ends.within_half, ends.within_file, used_is, long),
-          λ is_open. ends.shut (sym (gate_at (omega (arith, ends.within_half, used_is))) ∙ is_open),
-        );
+        not_ended = λ ends. list.not_ended (record {
+          within = omega (arith, ends.within_half, ends.within_file, used_is, long);
+          shut = λ is_open. ends.shut (sym (gate_at (omega (arith, ends.within_half, used_is))) ∙ is_open);
+        });
       }
     where
       shut_gate : (g : ℕ) → not (nat_eq g 165) ≡ true → g ≡ 165 → ⊥
@@ -101,10 +101,10 @@ module _ (shape : Shape) (image headers : List ℕ) (whole : 64 ≤ length image
       open_gate : (g : ℕ) → not (nat_eq g 165) ≡ false → g ≡ 165
       open_gate g is = grind (arith, nat_tests)
 
-      gate_at : used < half_size shape → get_or bytes used 0 ≡ get_or image (half_at shape half + size_of frames) 0
+      gate_at : used < half_size shape → get_or (half_bytes shape half image) used 0 ≡ get_or image (half_at shape half + size_of frames) 0
       gate_at lt =
           let here : half_at shape half + used ≡ half_at shape half + size_of frames = omega (arith, used_is) in
-          ap (λ (l : List ℕ). get_or l used 0) bytes_are ∙ part_get (half_at shape half) (half_size shape) image used lt
+          part_get (half_at shape half) (half_size shape) image used lt
           ∙ ap (λ (i : ℕ). get_or image i 0) here
 
 -- An image opens in one way at most.

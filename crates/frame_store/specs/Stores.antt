@@ -1,18 +1,16 @@
 -- What a clause sees of a store.
-use Rattle.std.specs.Prelude.{◌≡◌, ◌≢◌, ℕ, ◌≤◌, Bool, true, false, List, length, Result, Ok, Err}
+use Rattle.std.specs.Prelude.{◌≡◌, ℕ, ◌≤◌, Bool, true, false, List, length, Result, Ok, Err}
 use Rattle.fab_disk.specs.Disk.{Only}
 use Rattle.frame_store.specs.declared.faults.FrameFault.{FrameFault}
-use Rattle.frame_store.specs.declared.faults.FrameFault.TheVariants.{Disk, Halted, NotAStore}
+use Rattle.frame_store.specs.declared.faults.FrameFault.TheVariants.{Disk, Halted}
 use Rattle.frame_store.specs.declared.frames.Frame.{Frame}
 use Rattle.frame_store.specs.declared.shapes.Shape.{Shape}
 use Rattle.frame_store.specs.Layouts.{store_end}
 use Rattle.frame_store.specs.Images.{OpensAs}
 
--- room in memory: for the bytes of a write, for frames, and for a body
+-- room in memory, for the bytes of a write
 pub record Room : Type 0 where
   pub line : ℕ
-  pub listed : ℕ
-  pub spare : ℕ
 
 -- A store over a disk: what it was made for, its frames, whether a closed gate stands after the last of them, how long the
 -- file is, and whether a call of it answered Disk.
@@ -59,17 +57,13 @@ halted_after halted (Err Disk) = true
 halted_after halted (Err other) = halted
 halted_after halted (Ok value) = halted
 
--- the call answers Halted exactly where the store was halted, and never NotAStore
+-- the call answers Halted exactly where the store was halted
 pub record IsAnswer {T : Type 0} (halted halted_now : Bool) (result : Result T FrameFault) : Type 0 where
   pub refused : halted ≡ true → result ≡ Err Halted
   pub only_then : result ≡ Err Halted → halted ≡ true
-  pub a_store : result ≢ Err NotAStore
   pub halts : halted_now ≡ halted_after halted result
 
--- Room for so many calls of the disk, with so many bytes in all, and in memory for so many bytes of a write, so many frames
--- and a body of so many bytes.
+-- Room for so many calls of the disk, with so many bytes in all, and in memory for so many bytes of a write. Frames and a body need none.
 pub record HasRoom {D : Type 0} (has_room : D → ℕ → ℕ → ℕ → Type 0) (store : Held D) (calls bytes written frames body : ℕ) : Type 0 where
   pub disk : has_room store.disk calls bytes (store_end store.shape)
   pub line : written ≤ store.room.line
-  pub listed : frames ≤ store.room.listed
-  pub spare : body ≤ store.room.spare

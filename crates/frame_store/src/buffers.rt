@@ -1,15 +1,13 @@
 //! The bytes that are written.
 
-ghost use Rattle.std.specs.Prelude.{◌≡◌, ◌+◌, ◌*◌, ◌^◌, ◌<◌, ◌≤◌, ◌++◌, ◌∷◌, [], length, vec_len, vec_capacity, OnOk, IfOk, IsOk};
+ghost use Rattle.std.specs.Prelude.{◌≡◌, ◌+◌, ◌*◌, ◌^◌, ◌<◌, ◌≤◌, ◌++◌, ◌∷◌, [], length, vec_len, vec_capacity, OnOk, IsOk};
 ghost use Rattle.frame_store.specs.Layouts.{identity, header_rest};
 ghost use Rattle.frame_store.specs.Steps.{closing};
-ghost use Rattle.frame_store.specs.Listed.{frame_rest, line_of, closed_list, spelled, size_of};
+ghost use Rattle.frame_store.specs.Listed.{frame_of, frame_rest, line_of, closed_list, spelled, size_of};
 
 use crate::frames::Frame;
 use crate::shapes::Shape;
-use fab_base::Bytes;
-use std::alloc::{AllocError, Global};
-use std::mem;
+use std::alloc::AllocError;
 
 // An open gate.
 pub(crate) const OPEN: u8 = 0xA5;
@@ -72,41 +70,30 @@ pub(crate) fn closing(shut: bool) -> &'static [u8]
     if shut { &[] } else { &[0] }
 }
 
-// A copy of a body, in the memory that was spared for it.
-pub(crate) fn copied(alloc: Global, spare: &mut Vec<u8>, body: &[u8]) -> Result<Bytes, AllocError>
-    ensures copy { IfOk result (λ made. made ≡ body.now) }
-    ensures enough { length body.now ≤ vec_capacity spare.old → IsOk result }
-{
-    spare.clear();
-    spare.extend_from_slice(body)?;
-    Ok(Bytes::from_vec(mem::replace(spare, Vec::new(alloc))))
-}
-
 // Adds a frame but for its gate.
-fn put_rest(line: &mut Vec<u8>, frame: &Frame)
-    requires short { length frame.now.body < 2 ^ 32 }
-    requires room { vec_len line.old + 5 + length frame.now.body ≤ vec_capacity line.old }
-    ensures items { line.new.items ≡ line.old.items ++ frame_rest frame.now }
-    ensures len { vec_len line.new ≡ vec_len line.old + 5 + length frame.now.body }
+fn put_rest(line: &mut Vec<u8>, kind: u8, body: &[u8])
+    requires short { length body.now < 2 ^ 32 }
+    requires room { vec_len line.old + 5 + length body.now ≤ vec_capacity line.old }
+    ensures items { line.new.items ≡ line.old.items ++ frame_rest (frame_of kind body.now) }
+    ensures len { vec_len line.new ≡ vec_len line.old + 5 + length body.now }
     ensures capacity { vec_capacity line.old ≤ vec_capacity line.new }
 {
-    let body = frame.body.as_slice();
-    line.push(frame.kind).unwrap();
+    line.push(kind).unwrap();
     line.extend_from_slice(&(body.len() as u32).to_be_bytes())
         .unwrap();
     line.extend_from_slice(body).unwrap();
 }
 
 // What is written behind a gate for a frame.
-pub(crate) fn put_line(line: &mut Vec<u8>, frame: &Frame) -> Result<(), AllocError>
-    requires short { length frame.now.body < 2 ^ 32 }
-    ensures made { OnOk result (line.new.items ≡ line_of frame.now) }
-    ensures enough { length frame.now.body + 6 ≤ vec_capacity line.old → IsOk result }
+pub(crate) fn put_line(line: &mut Vec<u8>, kind: u8, body: &[u8]) -> Result<(), AllocError>
+    requires short { length body.now < 2 ^ 32 }
+    ensures made { OnOk result (line.new.items ≡ line_of (frame_of kind body.now)) }
+    ensures enough { length body.now + 6 ≤ vec_capacity line.old → IsOk result }
     ensures capacity { vec_capacity line.old ≤ vec_capacity line.new }
 {
     line.clear();
-    line.reserve(frame.body.len() + 6)?;
-    put_rest(line, frame);
+    line.reserve(body.len() + 6)?;
+    put_rest(line, kind, body);
     line.push(0).unwrap();
     Ok(())
 }
@@ -134,7 +121,7 @@ pub(crate) fn put_list(line: &mut Vec<u8>, frames: &[Frame]) -> Result<(), Alloc
     line.reserve(size_of(frames) as usize + 1)?;
     for frame in frames {
         line.push(OPEN).unwrap();
-        put_rest(line, frame);
+        put_rest(line, frame.kind, frame.body.as_slice());
     }
     line.push(0).unwrap();
     Ok(())

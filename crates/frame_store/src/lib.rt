@@ -6,15 +6,20 @@
 #![tactic(auto)]
 
 mod buffers;
+mod collected;
 mod faults;
 mod frames;
+mod listings;
 mod reading;
 mod shapes;
 mod staging;
 mod steps;
 mod stores;
+mod takers;
 
-pub use faults::FrameFault;
+pub use collected::Collected;
+pub use faults::{FrameFault, OpenFault};
 pub use frames::Frame;
 pub use shapes::{Half, Shape};
 pub use stores::{FrameStore, format, open_store};
+pub use takers::TakesFrames;

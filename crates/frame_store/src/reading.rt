@@ -1,53 +1,54 @@
 //! What is read of a disk when a store is opened.
 
-ghost use Rattle.std.specs.Prelude.{◌≡◌, ◌≢◌, ◌+◌, ◌^◌, ◌<◌, ◌≤◌, ◌++◌, ◌∷◌, ◌↔◌, ◌⊎◌, ◌-◌, min, length, slice_index, slice_range, take, IsTrue, IfOk, IfErr, OnOk, IsOkUnless, IfSome, IfNone, Some, None};
+ghost use Rattle.std.specs.Prelude.{◌≡◌, ◌≢◌, ℕ, ◌+◌, ◌^◌, ◌<◌, ◌≤◌, ◌++◌, ◌∷◌, [], List, ◌↔◌, ◌⊎◌, ◌-◌, min, length, slice_range, take, vec_len, IsTrue, IsOk, IfOk, IfErr, OnOk, IfSome, IfNone, Some, None};
 ghost use Rattle.std.specs.Int.{w64, from_be_bytes};
-ghost use Rattle.fab_disk.specs.Disk.{IsUntouched, Kept};
-ghost use Rattle.fab_disk.specs.Plan.{KeepsPlan};
-ghost use Rattle.frame_store.specs.Layouts.{IsShape, identity, half_at, half_size};
-ghost use Rattle.frame_store.specs.Listed.{frame_at, frame_of, frame_rest, frames_of, spelled, size_of};
-ghost use Rattle.frame_store.specs.Images.{IsOpen, IsLater, InForce, IsNoStore, generation_at, half_bytes};
+ghost use Rattle.fab_disk.specs.Changing.{Still};
+ghost use Rattle.frame_store.specs.declared.frames.Frame.{Frame};
+ghost use Rattle.frame_store.specs.Layouts.{IsShape, identity};
+ghost use Rattle.frame_store.specs.Listed.{frame_at, frame_of, frame_rest, size_of};
+ghost use Rattle.frame_store.specs.Images.{part, IsOpen, IsLater, InForce, IsNoStore, generation_at};
 ghost use Rattle.frame_store.specs.Laid.{Laid, IsCounted};
+ghost use Rattle.frame_store.specs.Reading.{IsFront, IsShutAt, IsListOf};
 
-use crate::buffers::{OPEN, identity, size_of};
-use crate::faults::FrameFault;
-use crate::frames::Frame;
+use crate::buffers::{OPEN, identity};
+use crate::faults::OpenFault;
+use crate::listings::Listing;
 use crate::shapes::{Half, Shape};
-use fab_base::Bytes;
+use crate::takers::TakesFrames;
+use fab_base::NoMem;
 use fab_disk::{Disk, IoFault};
 use std::alloc::Global;
 
+// How many bytes of a list are read at a time.
+const PIECE: usize = 1 << 16;
+
 // How many bytes the disk has.
-fn len<D: Disk>(disk: &mut D) -> Result<u64, FrameFault>
+fn len<D: Disk>(disk: &mut D) -> Result<u64, OpenFault>
     ensures length { D.tells → IfOk result (λ n. n ≡ length (D.seen disk.old)) }
-    ensures untouched { IsUntouched D.seen D.may_leave D.moment D.left_since disk.old disk.new }
+    ensures still { Still D.Disk disk.old disk.new (result ≡ Err OpenFault.Disk) }
     ensures certain { D.certain disk.new ≡ D.certain disk.old }
-    ensures plan { KeepsPlan D.plan D.unlisted disk.old disk.new (result ≡ Err FrameFault.Disk) }
-    ensures cause { Kept (D.faults disk.old) (D.faults disk.new) (D.sound disk.old) (D.sound disk.new) (result ≡ Err FrameFault.Disk) }
-    ensures only { IfErr result (λ e. (e ≡ FrameFault.Disk) ⊎ (e ≡ FrameFault.NoMemory)) }
+    ensures only { result ≢ Err OpenFault.NotAStore }
 {
     match disk.len() {
         Ok(size) => Ok(size),
-        Err(IoFault::Failed) => Err(FrameFault::Disk),
-        Err(IoFault::NoMemory) => Err(FrameFault::NoMemory),
+        Err(IoFault::Failed) => Err(OpenFault::Disk),
+        Err(IoFault::NoMemory) => Err(OpenFault::NoMemory),
     }
 }
 
 // Reads bytes of the disk.
-fn read<D: Disk>(disk: &mut D, at: u64, into: &mut [u8]) -> Result<(), FrameFault>
+fn read<D: Disk>(disk: &mut D, at: u64, into: &mut [u8]) -> Result<(), OpenFault>
     requires within { D.tells → at + length into.old ≤ length (D.seen disk.old) }
     requires reach { at + length into.old ≤ 2 ^ 48 }
     ensures bytes { D.tells → OnOk result (into.new ≡ slice_range (D.seen disk.old) at (at + length into.old)) }
-    ensures untouched { IsUntouched D.seen D.may_leave D.moment D.left_since disk.old disk.new }
+    ensures still { Still D.Disk disk.old disk.new (result ≡ Err OpenFault.Disk) }
     ensures certain { D.certain disk.new ≡ D.certain disk.old }
-    ensures plan { KeepsPlan D.plan D.unlisted disk.old disk.new (result ≡ Err FrameFault.Disk) }
-    ensures cause { Kept (D.faults disk.old) (D.faults disk.new) (D.sound disk.old) (D.sound disk.new) (result ≡ Err FrameFault.Disk) }
-    ensures only { IfErr result (λ e. (e ≡ FrameFault.Disk) ⊎ (e ≡ FrameFault.NoMemory)) }
+    ensures only { result ≢ Err OpenFault.NotAStore }
 {
     match disk.read_at(at, into) {
         Ok(()) => Ok(()),
-        Err(IoFault::Failed) => Err(FrameFault::Disk),
-        Err(IoFault::NoMemory) => Err(FrameFault::NoMemory),
+        Err(IoFault::Failed) => Err(OpenFault::Disk),
+        Err(IoFault::NoMemory) => Err(OpenFault::NoMemory),
     }
 }
 
@@ -136,21 +137,127 @@ fn frame_at(bytes: &[u8]) -> Option<(u8, &[u8], &[u8])>
     Some((*kind, body, rest))
 }
 
-// The frames from the front on, and how many bytes they are.
-fn parse(alloc: Global, bytes: &[u8]) -> Result<Vec<Frame>, FrameFault>
-    ensures listed { IfOk result (λ frames. frames.items ≡ frames_of bytes.now) }
-    ensures stands { IfOk result (λ frames. take (size_of frames.items) bytes.now ≡ spelled frames.items) }
-    ensures within { IfOk result (λ frames. size_of frames.items ≤ length bytes.now) }
-    ensures only { IsOkUnless result FrameFault.NoMemory }
+// Hands on the whole frames at the front of these bytes. Answers how many bytes they are, and the list with them.
+fn take_frames<T: TakesFrames>(
+    taker: &mut T,
+    listing: Listing,
+    bytes: &[u8],
+) -> Result<(usize, Listing), NoMem>
+    ensures makes { IfOk result (λ made. (first : _) → T.makes first listing.frames taker.old → T.makes first made.1.frames taker.new) }
+    ensures front { IfOk result (λ made. (frames : List Frame) × IsFront bytes.now frames made.0
+        × (made.1.frames ≡ listing.frames ++ frames)) }
 {
-    let mut frames = Vec::new(alloc);
+    let mut listing = listing;
     let mut rest = bytes;
     while let Some((kind, body, after)) = frame_at(rest) {
-        let body = Bytes::from_slice(alloc, body)?;
-        frames.push(Frame { kind, body })?;
+        taker.take(kind, body)?;
+        listing = Listing::with(&listing, &kind, body);
         rest = after;
     }
-    Ok(frames)
+    Ok((bytes.len() - rest.len(), listing))
+}
+
+// Whether a gate that is not open stands at a place.
+fn is_shut(bytes: &[u8], at: usize) -> bool
+    ensures { IsTrue result ↔ IsShutAt bytes.now at }
+{
+    at < bytes.len() && bytes[at] != OPEN
+}
+
+// Reads the bytes from a place on into the front of a piece, as many as it holds, and none behind the limit. Answers how many.
+fn read_front<D: Disk>(
+    disk: &mut D,
+    at: u64,
+    limit: u64,
+    piece: &mut [u8],
+) -> Result<usize, OpenFault>
+    requires below { at ≤ limit }
+    requires reach { limit ≤ 2 ^ 48 }
+    requires within { D.tells → limit ≤ length (D.seen disk.old) }
+    ensures count { IfOk result (λ n. n ≡ min (limit - at) (length piece.old)) }
+    ensures bytes { D.tells → IfOk result (λ n. take n piece.new ≡ part at n (D.seen disk.old)) }
+    ensures size { length piece.new ≡ length piece.old }
+    ensures still { Still D.Disk disk.old disk.new (result ≡ Err OpenFault.Disk) }
+    ensures certain { D.certain disk.new ≡ D.certain disk.old }
+    ensures only { result ≢ Err OpenFault.NotAStore }
+{
+    let n = (limit - at).min(piece.len() as u64) as usize;
+    let (front, _) = piece.split_at_mut(n);
+    read(disk, at, front)?;
+    Ok(n)
+}
+
+// The same for a piece that is owned.
+fn read_piece<D: Disk>(
+    disk: &mut D,
+    at: u64,
+    limit: u64,
+    piece: &mut Vec<u8>,
+) -> Result<usize, OpenFault>
+    requires below { at ≤ limit }
+    requires reach { limit ≤ 2 ^ 48 }
+    requires within { D.tells → limit ≤ length (D.seen disk.old) }
+    ensures count { IfOk result (λ n. n ≡ min (limit - at) (vec_len piece.old)) }
+    ensures bytes { D.tells → IfOk result (λ n. take n piece.new.items ≡ part at n (D.seen disk.old)) }
+    ensures size { vec_len piece.new ≡ vec_len piece.old }
+    ensures still { Still D.Disk disk.old disk.new (result ≡ Err OpenFault.Disk) }
+    ensures certain { D.certain disk.new ≡ D.certain disk.old }
+    ensures only { result ≢ Err OpenFault.NotAStore }
+{
+    read_front(disk, at, limit, piece.as_mut_slice())
+}
+
+// A list as it was read: its frames, how many bytes they are, and whether a gate that is not open stands behind them.
+#[derive(Drop)]
+struct Reading {
+    listing: Listing,
+    used: u64,
+    closed: bool,
+}
+
+// Hands on the frames of the list that begins at a place, in pieces, as far as the first gate that is not open, and not behind
+// the limit. Each piece begins with a frame; one that is longer than the piece makes it twice as long.
+fn read_list<D: Disk, T: TakesFrames>(
+    alloc: Global,
+    disk: &mut D,
+    from: u64,
+    limit: u64,
+    taker: &mut T,
+) -> Result<Reading, OpenFault>
+    requires below { from ≤ limit }
+    requires reach { limit ≤ 2 ^ 48 }
+    requires short { limit - from < 2 ^ 32 }
+    requires within { D.tells → limit ≤ length (D.seen disk.old) }
+    requires none { T.makes taker.old [] taker.old }
+    ensures makes { IfOk result (λ list. T.makes taker.old list.listing.frames taker.new) }
+    ensures counted { IfOk result (λ list. (list.used ≡ size_of list.listing.frames) × (list.used ≤ limit - from)) }
+    ensures read { D.tells → IfOk result (λ list. IsListOf (part from (limit - from) (D.seen disk.old)) list.listing.frames list.used list.closed) }
+    ensures still { Still D.Disk disk.old disk.new (result ≡ Err OpenFault.Disk) }
+    ensures certain { D.certain disk.new ≡ D.certain disk.old }
+    ensures only { result ≢ Err OpenFault.NotAStore }
+{
+    let mut piece = vec![in alloc; 0; PIECE]?;
+    let mut listing = Listing::new();
+    let mut at = from;
+    loop {
+        let n = read_piece(disk, at, limit, &mut piece)?;
+        let bytes = &piece[..n];
+        let (used, listed) = take_frames(taker, listing, bytes)?;
+        let closed = is_shut(bytes, used);
+        listing = listed;
+        let end = at + n as u64;
+        at += used as u64;
+        if closed || end == limit {
+            return Ok(Reading {
+                listing,
+                used: at - from,
+                closed,
+            });
+        }
+        if used == 0 {
+            piece = vec![in alloc; 0; 2 * n]?;
+        }
+    }
 }
 
 // What a store knows of its disk when it is opened.
@@ -159,95 +266,65 @@ pub(crate) struct Found {
     pub(crate) half: Half,
     pub(crate) generation: u64,
     pub(crate) other_shut: bool,
-    pub(crate) frames: Vec<Frame>,
+    pub(crate) listing: Listing,
     pub(crate) used: u64,
     pub(crate) closed: bool,
     pub(crate) size: u64,
 }
 
 // Reads the headers.
-fn read_headers<D: Disk>(disk: &mut D) -> Result<[u8; 64], FrameFault>
+fn read_headers<D: Disk>(disk: &mut D) -> Result<[u8; 64], OpenFault>
     requires whole { D.tells → 64 ≤ length (D.seen disk.old) }
     ensures bytes { D.tells → IfOk result (λ headers. headers ≡ slice_range (D.seen disk.old) 0 64) }
-    ensures untouched { IsUntouched D.seen D.may_leave D.moment D.left_since disk.old disk.new }
+    ensures still { Still D.Disk disk.old disk.new (result ≡ Err OpenFault.Disk) }
     ensures certain { D.certain disk.new ≡ D.certain disk.old }
-    ensures plan { KeepsPlan D.plan D.unlisted disk.old disk.new (result ≡ Err FrameFault.Disk) }
-    ensures cause { Kept (D.faults disk.old) (D.faults disk.new) (D.sound disk.old) (D.sound disk.new) (result ≡ Err FrameFault.Disk) }
-    ensures only { IfErr result (λ e. (e ≡ FrameFault.Disk) ⊎ (e ≡ FrameFault.NoMemory)) }
+    ensures only { result ≢ Err OpenFault.NotAStore }
 {
     let mut headers = [0; 64];
     read(disk, 0, &mut headers)?;
     Ok(headers)
 }
 
-// Reads the bytes of a half, as far as the file goes.
-fn read_half<D: Disk>(
+// Reads the store that a disk holds, and hands on its frames.
+pub(crate) fn read_store<D: Disk, T: TakesFrames>(
     alloc: Global,
     disk: &mut D,
     shape: Shape,
-    half: Half,
-    size: u64,
-) -> Result<Vec<u8>, FrameFault>
+    taker: &mut T,
+) -> Result<Found, OpenFault>
     requires limits { IsShape shape }
-    requires size { D.tells → length (D.seen disk.old) ≡ size }
-    ensures bytes { D.tells → IfOk result (λ bytes. bytes.items ≡ half_bytes shape half (D.seen disk.old)) }
-    ensures length { IfOk result (λ bytes. length bytes.items ≡ min (half_size shape) (size - half_at shape half)) }
-    ensures untouched { IsUntouched D.seen D.may_leave D.moment D.left_since disk.old disk.new }
-    ensures certain { D.certain disk.new ≡ D.certain disk.old }
-    ensures plan { KeepsPlan D.plan D.unlisted disk.old disk.new (result ≡ Err FrameFault.Disk) }
-    ensures cause { Kept (D.faults disk.old) (D.faults disk.new) (D.sound disk.old) (D.sound disk.new) (result ≡ Err FrameFault.Disk) }
-    ensures only { IfErr result (λ e. (e ≡ FrameFault.Disk) ⊎ (e ≡ FrameFault.NoMemory)) }
-{
-    let at = shape.half_at(half).min(size);
-    let n = shape.half_size().min(size - at) as usize;
-    let mut bytes = vec![in alloc; 0; n]?;
-    read(disk, at, &mut bytes)?;
-    Ok(bytes)
-}
-
-// Reads the store that a disk holds.
-pub(crate) fn read_store<D: Disk>(
-    alloc: Global,
-    disk: &mut D,
-    shape: Shape,
-) -> Result<Found, FrameFault>
-    requires limits { IsShape shape }
-    ensures counted { IfOk result (λ found. IsCounted shape found.frames.items found.used) }
-    ensures laid { D.tells → IfOk result (λ found. Laid shape found.half found.generation found.other_shut found.frames.items found.closed
-        (D.seen disk.old)) }
+    requires none { T.makes taker.old [] taker.old }
+    ensures makes { IfOk result (λ found. T.makes taker.old found.listing.frames taker.new) }
+    ensures counted { IfOk result (λ found. IsCounted shape found.listing.frames found.used) }
+    ensures laid { D.tells → IfOk result (λ found. Laid shape found.half found.generation found.other_shut found.listing.frames
+        found.closed (D.seen disk.old)) }
     ensures size { D.tells → IfOk result (λ found. length (D.seen disk.old) ≡ found.size) }
-    ensures none { D.tells → result ≡ Err FrameFault.NotAStore → IsNoStore shape (D.seen disk.old) }
-    ensures not_halted { result ≢ Err FrameFault.Halted }
-    ensures untouched { IsUntouched D.seen D.may_leave D.moment D.left_since disk.old disk.new }
+    ensures none { D.tells → result ≡ Err OpenFault.NotAStore → IsNoStore shape (D.seen disk.old) }
+    ensures still { Still D.Disk disk.old disk.new (result ≡ Err OpenFault.Disk) }
     ensures certain { D.certain disk.new ≡ D.certain disk.old }
-    ensures plan { KeepsPlan D.plan D.unlisted disk.old disk.new (result ≡ Err FrameFault.Disk) }
-    ensures cause { Kept (D.faults disk.old) (D.faults disk.new) (D.sound disk.old) (D.sound disk.new) (result ≡ Err FrameFault.Disk) }
 {
     let size = len(disk)?;
     if size < 64 {
-        return Err(FrameFault::NotAStore);
+        return Err(OpenFault::NotAStore);
     }
     let headers = read_headers(disk)?;
     let Some((half, generation)) = choose(shape, &headers) else {
-        return Err(FrameFault::NotAStore);
+        return Err(OpenFault::NotAStore);
     };
-    let bytes = read_half(alloc, disk, shape, half, size)?;
-    let frames = parse(alloc, &bytes)?;
-    let used = size_of(&frames);
+    let from = shape.half_at(half).min(size);
+    let limit = from + shape.half_size().min(size - from);
+    let Reading {
+        listing,
+        used,
+        closed,
+    } = read_list(alloc, disk, from, limit, taker)?;
     Ok(Found {
         half,
         generation,
         other_shut: headers[half.other().header_at() as usize] != OPEN,
-        frames,
+        listing,
         used,
-        closed: is_shut(&bytes, used as usize),
+        closed,
         size,
     })
-}
-
-// Whether a gate that is not open stands at a place.
-fn is_shut(bytes: &[u8], at: usize) -> bool
-    ensures { IsTrue result ↔ ((at < length bytes.now) × (slice_index bytes.now at ≢ 165)) }
-{
-    at < bytes.len() && bytes[at] != OPEN
 }

@@ -1,7 +1,7 @@
 //! The store.
 
 ghost use Rattle.std.specs.Prelude.{max, ◌≡◌, ◌≢◌, ◌⊎◌, ◌↔◌, ◌+◌, ◌≤◌, ◌<◌, ◌^◌, ◌++◌, ◌∷◌, [], ℕ, List, true, false, length, IsTrue, IsOk, IfOk, IfErr, OnOk, OnErr, Some, None};
-ghost use Rattle.fab_disk.specs.Changing.{Run, IsAny};
+ghost use Rattle.fab_disk.specs.Changing.{Run, Still, IsAny};
 ghost use Rattle.fab_disk.specs.Disk.{Elapses, IsUntouched, Kept, KeepsRoom};
 ghost use Rattle.fab_disk.specs.Plan.{IsRun, KeepsPlan};
 ghost use Rattle.frame_store.specs.Layouts.{shape_of, half_size};
@@ -10,13 +10,15 @@ ghost use Rattle.frame_store.specs.Images.{IsNoStore, IsEmptyStore, HasSlot, blo
 ghost use Rattle.frame_store.specs.Ends.{end_of, ListChange};
 ghost use Rattle.frame_store.specs.Stores.{Shows, IsRead, IsDurable, IsSame, HasNow, IsAnswer, HasRoom};
 
-use crate::buffers::{closing, copied, header_rest, shut_headers, size_of};
-use crate::faults::FrameFault;
+use crate::buffers::{closing, header_rest, shut_headers, size_of};
+use crate::faults::{FrameFault, OpenFault};
 use crate::frames::Frame;
+use crate::listings::{Listing, listing_of};
 use crate::reading::read_store;
 use crate::shapes::{Half, Shape};
-use crate::staging::{Sizes, make_room, replace, stage, stage_list};
+use crate::staging::{Sizes, make_room, stage, stage_list};
 use crate::steps::{reserve, rewrite_gated, write_both_gated, write_gated};
+use crate::takers::TakesFrames;
 use fab_disk::{Armed, Disk, IoFault, Plan};
 use std::alloc::Global;
 use std::marker::Model;
@@ -28,18 +30,16 @@ use std::marker::Model;
 #[derive(Drop)]
 pub struct FrameStore<D: Disk> {
     disk: D,
-    alloc: Global,
     shape: Shape,
     half: Half,
     generation: u64,
     other_shut: bool,
-    frames: Vec<Frame>,
+    list: Listing,
     used: u64,
     closed: bool,
     size: u64,
     halted: bool,
     line: Vec<u8>,
-    spare: Vec<u8>,
 }
 
 impl<D: Disk> Model for FrameStore<D> {
@@ -48,13 +48,13 @@ impl<D: Disk> Model for FrameStore<D> {
 
     ghost Value = { Held D };
 
-    ghost view = { λ s. record { disk = s.disk; shape = s.shape; frames = s.frames.items; closed = s.closed; size = s.size; halted = s.halted; room = record { line = vec_capacity s.line; listed = vec_capacity s.frames; spare = vec_capacity s.spare } } };
+    ghost view = { λ s. record { disk = s.disk; shape = s.shape; frames = s.list.frames; closed = s.closed; size = s.size; halted = s.halted; room = record { line = vec_capacity s.line } } };
 
     ghost use Rattle.std.specs.Prelude.{◌≡◌, false, length};
     ghost use Rattle.frame_store.specs.Laid.{Laid, IsCounted};
 
-    ghost invariant = { λ s. IsCounted s.shape s.frames.items s.used
-        × (D.tells → s.halted ≡ false → Laid s.shape s.half s.generation s.other_shut s.frames.items s.closed (D.seen s.disk)
+    ghost invariant = { λ s. IsCounted s.shape s.list.frames s.used
+        × (D.tells → s.halted ≡ false → Laid s.shape s.half s.generation s.other_shut s.list.frames s.closed (D.seen s.disk)
         × (length (D.seen s.disk) ≡ s.size)) };
 }
 
@@ -87,34 +87,33 @@ pub fn format<D: Disk>(
     write_both_gated(disk, 0, &headers, first, &[0], 0)
 }
 
-/// Opens the store that a disk holds for a brick, with these blocks and slots. It reads alone, and changes nothing.
+/// Opens the store that a disk holds for a brick, with these blocks and slots, and hands on its frames, one after another. It
+/// reads alone, as far as the first gate that is not open, and changes nothing.
 ///
 /// # Errors
-/// Each hands the disk back. [`FrameFault::NotAStore`]: neither header is open. [`FrameFault::Disk`]: the disk failed.
-/// [`FrameFault::NoMemory`]: memory was refused.
-pub fn open_store<D: Disk>(
+/// Each hands the disk back. [`OpenFault::NotAStore`]: neither header is open. [`OpenFault::Disk`]: the disk failed.
+/// [`OpenFault::NoMemory`]: memory was refused.
+pub fn open_store<D: Disk, T: TakesFrames>(
     alloc: Global,
     disk: D,
     me: u16,
     block: u16,
     records: u32,
-) -> Result<FrameStore<D>, (FrameFault, D)>
+    taker: &mut T,
+) -> Result<FrameStore<D>, (OpenFault, D)>
     requires block_range { (1 ≤ block) × (block ≤ 4096) }
     requires records_range { (1 ≤ records) × (records ≤ 1048576) }
+    requires none { T.makes taker.old [] taker.old }
     ensures shape { IfOk result (λ store. store.shape ≡ shape_of me block records) }
     ensures runs { IfOk result (λ store. store.halted ≡ false) }
-    // The frames are those that the disk opens as.
+    // The frames are those that the disk opens as, and those that the taker took.
     ensures read { IfOk result (λ store. IsRead D.tells D.seen store) }
-    ensures untouched { IfOk result (λ store. IsUntouched D.seen D.may_leave D.moment D.left_since disk store.disk) }
-    ensures untouched_err { IfErr result (λ e. IsUntouched D.seen D.may_leave D.moment D.left_since disk e.1) }
+    ensures taken { IfOk result (λ store. T.makes taker.old store.frames taker.new) }
+    ensures still { IfOk result (λ store. Still D.Disk disk store.disk ⊥) }
+    ensures still_err { IfErr result (λ e. Still D.Disk disk e.1 (e.0 ≡ OpenFault.Disk)) }
     ensures certain { IfOk result (λ store. D.certain store.disk ≡ D.certain disk) }
     ensures certain_err { IfErr result (λ e. D.certain e.1 ≡ D.certain disk) }
-    ensures not_a_store { IfErr result (λ e. e.0 ≡ FrameFault.NotAStore → D.tells → IsNoStore (shape_of me block records) (D.seen disk)) }
-    ensures not_halted { IfErr result (λ e. e.0 ≢ FrameFault.Halted) }
-    ensures plan { IfOk result (λ store. KeepsPlan D.plan D.unlisted disk store.disk ⊥) }
-    ensures plan_err { IfErr result (λ e. KeepsPlan D.plan D.unlisted disk e.1 (e.0 ≡ FrameFault.Disk)) }
-    ensures cause { IfOk result (λ store. Kept (D.faults disk) (D.faults store.disk) (D.sound disk) (D.sound store.disk) ⊥) }
-    ensures cause_err { IfErr result (λ e. Kept (D.faults disk) (D.faults e.1) (D.sound disk) (D.sound e.1) (e.0 ≡ FrameFault.Disk)) }
+    ensures not_a_store { IfErr result (λ e. e.0 ≡ OpenFault.NotAStore → D.tells → IsNoStore (shape_of me block records) (D.seen disk)) }
 {
     let shape = Shape {
         me,
@@ -123,21 +122,19 @@ pub fn open_store<D: Disk>(
         start: 64,
     };
     let mut disk = disk;
-    match read_store(alloc, &mut disk, shape) {
+    match read_store(alloc, &mut disk, shape, taker) {
         Ok(found) => Ok(FrameStore {
             disk,
-            alloc,
             shape,
             half: found.half,
             generation: found.generation,
             other_shut: found.other_shut,
-            frames: found.frames,
+            list: found.listing,
             used: found.used,
             closed: found.closed,
             size: found.size,
             halted: false,
             line: Vec::new(alloc),
-            spare: Vec::new(alloc),
         }),
         Err(fault) => Err((fault, disk)),
     }
@@ -145,13 +142,6 @@ pub fn open_store<D: Disk>(
 
 impl<D: Disk> FrameStore<D> {
     ghost use Rattle.frame_store.specs.Laid.{IsRenewed};
-
-    /// The list of frames.
-    pub fn frames(&self) -> &[Frame]
-        ensures { result.now ≡ self.now.frames }
-    {
-        self.frames.as_slice()
-    }
 
     /// What the store was made for.
     pub fn shape(&self) -> Shape
@@ -199,13 +189,10 @@ impl<D: Disk> FrameStore<D> {
         requires block { length into.old ≡ self.old.shape.block }
         ensures bytes { D.tells → OnOk result (into.new ≡ block_in self.old.shape slot (D.seen self.old.disk)) }
         ensures same { IsSame self.old self.new }
-        ensures untouched { IsUntouched D.seen D.may_leave D.moment D.left_since self.old.disk self.new.disk }
+        ensures still { Still D.Disk self.old.disk self.new.disk (result ≡ Err FrameFault.Disk) }
         ensures certain { D.certain self.new.disk ≡ D.certain self.old.disk }
-        ensures plan { KeepsPlan D.plan D.unlisted self.old.disk self.new.disk (result ≡ Err FrameFault.Disk) }
         ensures answer { IsAnswer self.old.halted self.new.halted result }
         ensures no_call { result ≡ Err FrameFault.Halted → self.new ≡ self.old }
-        ensures cause { Kept (D.faults self.old.disk) (D.faults self.new.disk) (D.sound self.old.disk) (D.sound self.new.disk)
-            (result ≡ Err FrameFault.Disk) }
         ensures read { IsRead D.tells D.seen self.new }
     {
         if self.halted {
@@ -241,34 +228,8 @@ impl<D: Disk> FrameStore<D> {
         if self.halted {
             return Err(FrameFault::Halted);
         }
-        let body = copied(self.alloc, &mut self.spare, body)?;
-        self.append_frame(Frame { kind, body })
-    }
-
-    // Appends a frame to a store that is not halted.
-    fn append_frame(&mut self, frame: Frame) -> Result<(), FrameFault>
-        requires runs { self.old.halted ≡ false }
-        requires fits { Fits self.old.shape self.old.frames (length frame.body) }
-        // One change of the list: each image shows it as it was before or as it is after.
-        ensures change { ListChange D.Disk 4 self.old (self.old.frames ++ frame ∷ []) None self.new.disk (end_of result) }
-        ensures ok { OnOk result (HasNow (self.old.frames ++ frame ∷ []) self.old self.new) }
-        ensures answer { IsAnswer self.old.halted self.new.halted result }
-        ensures refused { OnErr result (IsSame self.old self.new) }
-        ensures no_call { result ≡ Err FrameFault.Halted → self.new ≡ self.old }
-        ensures read { IsRead D.tells D.seen self.new }
-        ensures room { HasRoom D.has_room self.old 4 (length frame.body + 7) (length frame.body + 6) (length self.old.frames + 1) 0
-            → result ≢ Err FrameFault.NoMemory }
-    {
         let end = self.shape.end();
-        stage(
-            &mut self.disk,
-            &mut self.frames,
-            &mut self.line,
-            &frame,
-            4,
-            0,
-            end,
-        )?;
+        stage(&mut self.disk, &mut self.line, kind, body, 4, 0, end)?;
         let gate = self.shape.half_at(self.half) + self.used;
         let bytes = self.line.len() as u64;
         match write_gated(&mut self.disk, gate + 1, &self.line, gate) {
@@ -276,7 +237,7 @@ impl<D: Disk> FrameStore<D> {
                 self.used += bytes;
                 self.size = self.size.max(gate + 1 + bytes);
                 self.closed = true;
-                self.frames.push(frame).unwrap();
+                self.list = Listing::with(&self.list, &kind, body);
                 Ok(())
             }
             Err(fault) => {
@@ -310,11 +271,12 @@ impl<D: Disk> FrameStore<D> {
             return Err(FrameFault::Halted);
         }
         let end = self.shape.end();
+        let body = frame.body.as_slice();
         stage(
             &mut self.disk,
-            &mut self.frames,
             &mut self.line,
-            &frame,
+            frame.kind,
+            body,
             5,
             block.len(),
             end,
@@ -327,7 +289,7 @@ impl<D: Disk> FrameStore<D> {
                 self.used += bytes;
                 self.size = self.size.max(gate + 1 + bytes);
                 self.closed = true;
-                self.frames.push(frame).unwrap();
+                self.list = Listing::with(&self.list, &frame.kind, body);
                 Ok(())
             }
             Err(fault) => {
@@ -362,13 +324,7 @@ impl<D: Disk> FrameStore<D> {
             return Err(FrameFault::Halted);
         }
         let end = self.shape.end();
-        stage_list(
-            &mut self.disk,
-            &mut self.frames,
-            &mut self.line,
-            &frames,
-            end,
-        )?;
+        stage_list(&mut self.disk, &mut self.line, &frames, end)?;
         let other = self.half.other();
         let at = self.shape.half_at(other);
         let generation = self.generation.wrapping_add(1);
@@ -384,7 +340,7 @@ impl<D: Disk> FrameStore<D> {
                 self.used = bytes - 1;
                 self.size = self.size.max(at + bytes);
                 self.closed = true;
-                replace(&mut self.frames, frames);
+                self.list = listing_of(&frames);
                 Ok(())
             }
             Err(fault) => {
@@ -403,13 +359,10 @@ impl<D: Disk> FrameStore<D> {
     pub fn reserve(&mut self, frames: &[Frame], body: usize) -> Result<(), FrameFault>
         requires fits { Fits self.old.shape frames.now body }
         ensures same { IsSame self.old self.new }
-        ensures untouched { IsUntouched D.seen D.may_leave D.moment D.left_since self.old.disk self.new.disk }
+        ensures still { Still D.Disk self.old.disk self.new.disk (result ≡ Err FrameFault.Disk) }
         ensures certain { D.certain self.new.disk ≡ D.certain self.old.disk }
-        ensures plan { KeepsPlan D.plan D.unlisted self.old.disk self.new.disk (result ≡ Err FrameFault.Disk) }
         ensures answer { IsAnswer self.old.halted self.new.halted result }
         ensures no_call { result ≡ Err FrameFault.Halted → self.new ≡ self.old }
-        ensures cause { Kept (D.faults self.old.disk) (D.faults self.new.disk) (D.sound self.old.disk) (D.sound self.new.disk)
-            (result ≡ Err FrameFault.Disk) }
         ensures read { IsRead D.tells D.seen self.new }
         ensures room { OnOk result (HasRoom D.has_room self.new 13 (size_of frames.now + 34 + (self.old.shape.block + body + 7))
             (max (size_of frames.now + 1) (body + 6)) (max (length self.old.frames + 1) (length frames.now + 1)) body) }
@@ -419,19 +372,11 @@ impl<D: Disk> FrameStore<D> {
         }
         let sizes = Sizes {
             list: size_of(frames) as usize,
-            frames: frames.len(),
             block: self.shape.block as usize,
             body,
         };
         let end = self.shape.end();
-        make_room(
-            &mut self.disk,
-            &mut self.frames,
-            &mut self.line,
-            &mut self.spare,
-            sizes,
-            end,
-        )
+        make_room(&mut self.disk, &mut self.line, sizes, end)
     }
 
     /// Syncs the disk: after it a crash leaves what a read gives.
@@ -479,18 +424,16 @@ impl<D: Disk> FrameStore<D> {
     {
         let FrameStore {
             disk,
-            alloc: _,
             shape: _,
             half: _,
             generation: _,
             other_shut: _,
-            frames: _,
+            list: _,
             used: _,
             closed: _,
             size: _,
             halted: _,
             line: _,
-            spare: _,
         } = self;
         disk
     }

@@ -10,6 +10,7 @@ pub mod Resending
 pub mod Views
 pub mod Moments
 pub mod Steps
+pub mod Stills
 pub mod Requests
 pub mod Starts
 pub mod Sent

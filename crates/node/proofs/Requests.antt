@@ -1,5 +1,5 @@
 -- What a brick does with a message that it serves, over its store.
-use Rattle.std.proofs.Common.{◌≡◌, ℕ, List, [], Option, Some, None, inl, inr, refl, sym, ◌∙◌, ap, subst}
+use Rattle.std.proofs.Common.{◌≡◌, ◌⊎◌, ℕ, List, [], Option, Some, None, inl, inr, refl, sym, ◌∙◌, ap, subst}
 use Rattle.std.specs.Prelude.{slice_index_or}
 use Rattle.fab_base.specs.declared.identities.BrickId.{BrickId}
 use Rattle.messages.specs.declared.calls.Call.{Call}
@@ -18,10 +18,12 @@ use Rattle.protocol.specs.Nodes.{Node, NodeStep, no_step, requested_in, requeste
 use Rattle.protocol.specs.Nodes as machine
 use Rattle.replica.specs.Parts.{IsPartsOf, IsFirstView}
 use Rattle.replica.specs.Reactions.{IsStep, member_step, answer_packets}
-use Rattle.replica.specs.Handling.{me_of, OpensAsEither, OpensAsNext}
+use Rattle.replica.specs.Handling.{me_of, StandsForNext, KeepsParts}
+use Rattle.replica.specs.Calls.{message_calls}
 use Rattle.node.specs.declared.open_calls.OpenCalls.{OpenCalls}
 use Rattle.node.specs.Running.{running, state_of, shape_at, IsKept, ShowsEither, ImageShows}
 use Rattle.node.proofs.States.{same_states}
+use Rattle.node.proofs.Stills.{parts_still}
 use Rattle.node.proofs.Views.{shows_so}
 
 -- a step that tells nothing, and changes nothing but what is kept of stripes
@@ -90,6 +92,15 @@ module _ {D : Type 0} (layout : Layout) (calls : OpenCalls) (old : Brick D) (fro
       (λ g. sym (parts.accepted g)) (λ g e s. sym (parts.replicas g e s))
       (λ k. ap (λ (f : ℕ → Option _). f k) (sym keeps.calls))
 
+  -- and keeps the same parts, where no call keeps the message
+  pub follows_still : (new : Brick D) (answer : Option Message) → Follows answer new.state
+      → message_calls layout calls.me from old.shape old.listed (state_of (running layout calls old)) message ≡ 0
+      → KeepsParts layout.block old.state new.state
+  unfolding state_of
+  follows_still new answer is none g e s =
+      let node = state_of (running layout calls old) in
+      sym ((is.parts node seen_parts).replicas g e s) ∙ parts_still layout calls.me from old node message seen_parts none g e s
+
   -- it was opened as often as before
   pub follows_boot : (new : Brick D) (answer : Option Message) → Follows answer new.state → calls.stamps.boot ≡ old.state.boot
       → calls.stamps.boot ≡ new.state.boot
@@ -112,7 +123,7 @@ module _ {D : Type 0} (layout : Layout) (calls : OpenCalls) (old : Brick D) (fro
   shown_before shape kept image stands = shows_so layout calls.me (state_of (running layout calls old)) old image shape kept stands
 
   pub shown_after : old.shape ≡ shape_at layout calls.me → IsKept layout old.state (state_of (running layout calls old)) → (image : List ℕ)
-      → OpensAsNext old.shape Follows image → ImageShows layout calls.me after.node image
+      → StandsForNext old.shape Follows image → ImageShows layout calls.me after.node image
   shown_after shape kept image follows =
       let st = follows.0 in
       let is = follows.3 in
@@ -124,7 +135,7 @@ module _ {D : Type 0} (layout : Layout) (calls : OpenCalls) (old : Brick D) (fro
       }
 
   pub follows_shown : old.shape ≡ shape_at layout calls.me → IsKept layout old.state (state_of (running layout calls old)) → (image : List ℕ)
-      → OpensAsEither old.shape old.state Follows image
+      → StandsFor old.shape old.state image ⊎ StandsForNext old.shape Follows image
       → ShowsEither layout calls.me (state_of (running layout calls old)) after.node image
   follows_shown shape kept image (inl stands) = inl (shown_before shape kept image stands)
   follows_shown shape kept image (inr follows) = inr (shown_after shape kept image follows)

@@ -12,11 +12,12 @@ use Rattle.replica.specs.Calls.{message_calls}
 use Rattle.fab_base.specs.declared.identities.BrickId.{BrickId}
 use Rattle.fab_base.specs.Layouts.{Layout}
 use Rattle.protocol.specs.Nodes.{Node}
-use Rattle.node.specs.Running.{Running, state_of, shape_at, ImageShows, reopened}
+use Rattle.node.specs.Running.{shape_at, ImageShows, reopened}
 
--- so many calls keep what a packet makes a brick change: those of its store for a request that it serves, and none for any other message
-abbrev pub packet_calls : {D : Type 0} → Running D → Packet → ℕ
-packet_calls node packet = message_calls node.layout node.me packet.from node.brick.shape node.brick.listed (state_of node) packet.message
+-- So many calls keep what a packet makes a brick of the machine change, over a list of frames of so many bytes: those of its store for a request that
+-- it serves, and none for any other message.
+abbrev pub packet_calls : Layout → BrickId → Node → Packet → ℕ → ℕ
+packet_calls layout me node packet listed = message_calls layout me packet.from (shape_at layout me) listed node packet.message
 
 -- The opening of the store that a disk holds is a run of five calls, or of twelve where its list of frames can't be appended to.
 abbrev pub RunsAsOpening : {D : Type 0} → Type 0 → (D → List ℕ) → (D → ℕ) → (D → Plan) → (D → Type 0) → Shape → D → D → Type 0 → Type 0 → Type 0

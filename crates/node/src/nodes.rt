@@ -16,7 +16,6 @@ ghost use Rattle.messages.specs.declared.packets.Message.TheVariants as message;
 ghost use Rattle.stripe_code.specs.Codes.{coding};
 ghost use Rattle.replica.specs.Parts.{IsFirstView, part_seen};
 ghost use Rattle.replica.specs.Reactions.{member_step};
-ghost use Rattle.replica.specs.Handling.{KeepsParts};
 ghost use Rattle.replica.specs.Calls.{message_calls};
 ghost use Rattle.coord_phase.specs.Messages.{packets_from};
 ghost use Rattle.node.specs.Calls.{packet_calls, RunsAsOpening, StopsAsOpening};
@@ -213,9 +212,9 @@ impl<D: Disk> Node<D> {
         ensures err { OnErr result (state_of self.new ≡ state_of self.old) }
         ensures same { IsSameBrick self.old self.new }
         ensures unseen { KeepsUnseen self.old.brick.state self.new.brick.state }
-        // Where no stripe's part changes, nothing that is kept does, and no call of the disk is made.
-        ensures still { OnOk result (KeepsParts self.old.layout.block self.old.brick.state self.new.brick.state
-            → (self.new.brick.state ≡ self.old.brick.state) × IsUntouched D.seen D.may_leave D.moment D.left_since self.old.brick.disk self.new.brick.disk) }
+        // A message that makes no call of the disk changes nothing that is kept, and does not touch the disk. None is made where no stripe's part changes.
+        ensures still { packet_calls self.old.layout self.old.me (state_of self.old) packet.now self.old.brick.listed ≡ 0 → OnOk result
+            ((self.new.brick.state ≡ self.old.brick.state) × IsUntouched D.seen D.may_leave D.moment D.left_since self.old.brick.disk self.new.brick.disk) }
         // After it a crash leaves only what shows the brick as it is now.
         ensures durable { D.tells → OnOk result (LeavesBrick self.old.layout self.old.me (state_of self.new) (D.may_leave self.new.brick.disk)) }
         // At each moment of the call each image shows the brick as it was, or with what the request makes it keep.
@@ -224,11 +223,11 @@ impl<D: Disk> Node<D> {
             (absorbed (coding self.old.layout) self.old.me (state_of self.old) packet.now)) }
         // Where the disk failed, what the last sync left shows the brick as it was. So does what a read gives, until the last call but one was made;
         // from then on that shows the brick with what the request makes it keep.
-        ensures cut { D.tells → result ≡ Err NodeFault.Disk → StopsEarly D.seen D.certain D.moment (packet_calls self.old packet.now)
+        ensures cut { D.tells → result ≡ Err NodeFault.Disk → StopsEarly D.seen D.certain D.moment (packet_calls self.old.layout self.old.me (state_of self.old) packet.now self.old.brick.listed)
             self.old.brick.disk self.new.brick.disk (ImageShows self.old.layout self.old.me (state_of self.old))
             (ImageShows self.old.layout self.old.me (absorbed (coding self.old.layout) self.old.me (state_of self.old) packet.now)) }
         // Under a plan, the call that it names is reached exactly where the message makes so many.
-        ensures run { IsRun D.tells D.moment D.plan D.unlisted (packet_calls self.old packet.now) self.old.brick.disk self.new.brick.disk
+        ensures run { IsRun D.tells D.moment D.plan D.unlisted (packet_calls self.old.layout self.old.me (state_of self.old) packet.now self.old.brick.listed) self.old.brick.disk self.new.brick.disk
             (IsOk result) (result ≡ Err NodeFault.Disk) }
         ensures halted { self.old.brick.halted ≡ true → result ≡ Err NodeFault.Halted }
         ensures only_halted { result ≡ Err NodeFault.Halted → self.old.brick.halted ≡ true }
@@ -263,18 +262,19 @@ impl<D: Disk> Node<D> {
         ensures err { OnErr result (state_of self.new ≡ state_of self.old) }
         ensures same { IsSameBrick self.old self.new }
         ensures unseen { KeepsUnseen self.old.brick.state self.new.brick.state }
-        ensures still { OnOk result (KeepsParts self.old.layout.block self.old.brick.state self.new.brick.state
-            → (self.new.brick.state ≡ self.old.brick.state) × IsUntouched D.seen D.may_leave D.moment D.left_since self.old.brick.disk self.new.brick.disk) }
+        ensures still { message_calls self.old.layout self.old.me from (shape_at self.old.layout self.old.me) self.old.brick.listed (state_of self.old) message.now ≡ 0
+            → OnOk result
+            ((self.new.brick.state ≡ self.old.brick.state) × IsUntouched D.seen D.may_leave D.moment D.left_since self.old.brick.disk self.new.brick.disk) }
         ensures durable { D.tells → OnOk result (LeavesBrick self.old.layout self.old.me (state_of self.new) (D.may_leave self.new.brick.disk)) }
         ensures moments { D.tells → LeavesOnly D.moment D.left_since self.old.brick.disk self.new.brick.disk
             (ShowsEither self.old.layout self.old.me (state_of self.old)
             (member_step self.old.layout self.old.me from (state_of self.old) message.now).node) }
         ensures cut { D.tells → result ≡ Err NodeFault.Disk → StopsEarly D.seen D.certain D.moment
-            (message_calls self.old.layout self.old.me from self.old.brick.shape self.old.brick.listed (state_of self.old) message.now)
+            (message_calls self.old.layout self.old.me from (shape_at self.old.layout self.old.me) self.old.brick.listed (state_of self.old) message.now)
             self.old.brick.disk self.new.brick.disk (ImageShows self.old.layout self.old.me (state_of self.old))
             (ImageShows self.old.layout self.old.me (member_step self.old.layout self.old.me from (state_of self.old) message.now).node) }
         ensures run { IsRun D.tells D.moment D.plan D.unlisted
-            (message_calls self.old.layout self.old.me from self.old.brick.shape self.old.brick.listed (state_of self.old) message.now)
+            (message_calls self.old.layout self.old.me from (shape_at self.old.layout self.old.me) self.old.brick.listed (state_of self.old) message.now)
             self.old.brick.disk self.new.brick.disk (IsOk result) (result ≡ Err NodeFault.Disk) }
         ensures not_halted { result ≢ Err NodeFault.Halted }
         ensures halts { self.new.brick.halted ≡ halted_after false result }

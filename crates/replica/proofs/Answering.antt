@@ -1,9 +1,11 @@
 -- A call that handles a request, from the change of the store that it makes.
-use Rattle.std.proofs.Common.{◌≡◌, ◌≢◌, inl, inr, ⊎_elim, ℕ, Bool, true, false, Option, Some, List, Result, Ok, Err, refl, sym, ap, subst, ◌∙◌}
+use Rattle.std.proofs.Common.{◌≡◌, ◌≢◌, inl, inr, ⊎_elim, ℕ, Bool, true, false, Option, Some, List, Result, Ok, Err, refl, sym, ap, subst, ◌∙◌, arith}
 use Rattle.std.specs.Option.{option_map}
 use Rattle.std.specs.Result.{IfOk, OnOk, OnErr}
-use Rattle.fab_disk.specs.Disk.{IsUntouched, LeavesOnly, Kept}
-use Rattle.fab_disk.proofs.Moments.{started, goes_on, widened}
+use Rattle.fab_disk.specs.declared.disk.Disk as on_disk
+use Rattle.fab_disk.specs.Disk.{IsUntouched}
+use Rattle.fab_disk.specs.Changing.{End, Whole, Cut, NotBegun, Stands, Still}
+use Rattle.fab_disk.proofs.Changing.{widen, still}
 use Rattle.messages.specs.declared.replies.Reply.{Reply}
 use Rattle.messages.specs.declared.replies.Reply.TheVariants.{Full}
 use Rattle.frame_store.specs.declared.shapes.Shape.{Shape}
@@ -12,12 +14,15 @@ use Rattle.brick_state.specs.States.{StateOf, live}
 use Rattle.brick_store.specs.declared.faults.StoreFault.{StoreFault}
 use Rattle.brick_store.specs.declared.faults.StoreFault.TheVariants as faults
 use Rattle.brick_store.specs.Bricks.{Brick}
-use Rattle.brick_store.specs.Changes.{Changes}
-use Rattle.brick_store.specs.Images.{StandsFor, StandsForEither, LeavesState}
+use Rattle.brick_store.specs.Changes.{Answers}
+use Rattle.brick_store.specs.Ends.{BrickChange}
+use Rattle.brick_store.specs.Ends as store_ends
+use Rattle.brick_store.specs.Images.{StandsFor}
 use Rattle.replica.specs.declared.faults.ReplicaFault.{ReplicaFault}
 use Rattle.replica.specs.declared.faults.ReplicaFault.TheVariants.{Disk, Halted, NoMemory}
 use Rattle.replica.specs.Parts.{part_in}
-use Rattle.replica.specs.Handling.{Runs, Handles, KeepsParts, OpensAsEither, halted_after, answered, seen_as}
+use Rattle.replica.specs.Handling.{Runs, Handles, KeepsParts, StandsForNext, NextChange, end_of, halted_after, answered, seen_as}
+use Rattle.replica.proofs.Runs.{run_of_none}
 
 differ : {A : Type 0} → false ≡ true → A
 differ h = absurd cc
@@ -40,133 +45,193 @@ same_halted halted (Err Disk) other = absurd (other refl)
 same_halted halted (Err Halted) other = refl
 same_halted halted (Err NoMemory) other = refl
 
--- what follows from another failure
-kept_as : (before now : ℕ) (S T F G : Type 0) → (G → F) → Kept before now S T F → Kept before now S T G
-kept_as before now S T F G back kept =
-    record {
-      later = kept.later;
-      rose = λ failed. kept.rose (back failed);
-      stays = kept.stays;
-      never = λ sound failed. kept.never sound
-          (back failed);
+-- how a call ended is told by any answer that it is seen as
+ends_seen : {A B : Type 0} (f : A → B) (result : AnswerOf A) → end_of result ≡ end_of (seen_as f result)
+ends_seen f (Ok answer) = refl
+ends_seen f (Err Disk) = refl
+ends_seen f (Err Halted) = refl
+ends_seen f (Err NoMemory) = refl
+
+-- ---- what becomes of the disk
+
+module _ {D : Type 0} (d : on_disk.Ghosts D) where
+  -- a change that was refused left the disk alone
+  pub still_of : (calls : ℕ) (old : Brick D) (after : StateOf Version) (new : D) → BrickChange d calls old after new NotBegun
+      → Still d old.disk new ⊥
+  still_of calls old after new run = record {
+    untouched = run.not_begun refl;
+    plan = record { same = run.run.waits (λ is. absurd cc) (λ is. absurd cc); stays = run.run.stays; never = λ free is. is };
+    cause = record { later = run.cause.later; rose = λ is. absurd is; stays = run.cause.stays; never = λ sound is. is };
+  }
+
+  -- a call that left the disk as it is
+  pub still_here : (disk : D) → Still d disk disk ⊥
+  still_here disk = record {
+    untouched = record {
+      content = refl;
+      crash = λ image left. left;
+      clock = refl;
+      time = record { later = omega arith; nothing_else = λ t image le left. inl left; keeps = λ t image le left. left };
+    };
+    plan = record { same = refl; stays = λ free. free; never = λ free is. is };
+    cause = record { later = omega arith; rose = λ is. absurd is; stays = λ sound. sound; never = λ sound is. is };
+  }
+
+  module _ {A : Type 0} (only_now : (disk : D) (image : List ℕ) → d.left_since disk (d.moment disk) image → d.may_leave disk image)
+      (Follows : Option A → StateOf Version → Type 0) (old : Brick D) (new : D) (rest : Still d old.disk new ⊥) where
+    -- a call that was refused
+    pub next_refused : (given : ℕ) → NextChange d given old Follows new NotBegun
+    next_refused given =
+        still d only_now (StandsFor old.shape old.state) _ (λ image at. inl at) old.disk new ⊥ rest given (StandsForNext old.shape Follows)
+
+    -- a call that had nothing to change
+    pub next_none : (d.tells → Stands d (StandsFor old.shape old.state) old.disk) → (answer : Option A) → Follows answer old.state
+        → NextChange d 0 old Follows new Whole
+    next_none stands answer follows = record {
+      moments = (next_refused 0).moments;
+      whole = λ is told. record {
+        only = λ image left. (stands told).only image (rest.untouched.crash image left) ∙ sym rest.untouched.content;
+        has = (old.state, answer, subst (StandsFor old.shape old.state) (sym rest.untouched.content) (stands told).has, follows);
+      };
+      cut = λ is. absurd cc;
+      not_begun = λ is. absurd cc;
+      run = run_of_none d.tells d.moment d.plan d.unlisted old.disk new rest.plan.same rest.plan.stays _ _ (λ is. absurd cc) rest.untouched.clock;
+      cause = record { later = rest.cause.later; rose = λ is. absurd cc; stays = rest.cause.stays; never = λ sound is. absurd cc };
     }
 
-module _ {D : Type 0} (tells : Type 0) (seen certain : D → List ℕ) (may_leave : D → List ℕ → Type 0) (moment : D → ℕ)
-    (left_since : D → ℕ → List ℕ → Type 0) (faults_of : D → ℕ) (sound : D → Type 0)
-    (only_now : (disk : D) (image : List ℕ) → left_since disk (moment disk) image → may_leave disk image)
-    (Follows : Option Reply → StateOf Version → Type 0) where
-  abbrev Answer : Type 0
-  Answer = AnswerOf Reply
+  -- a change to a state that follows
+  pub next_as : {A : Type 0} (Follows : Option A → StateOf Version → Type 0) (old : Brick D) (new : D) (after : StateOf Version) (answer : Option A)
+      (calls given : ℕ) (end : End) → Follows answer after → given ≡ calls → BrickChange d calls old after new end
+      → NextChange d given old Follows new end
+  next_as Follows old new after answer calls given end follows is run =
+      subst (λ (n : ℕ). NextChange d n old Follows new end) (sym is)
+      (widen d calls (StandsFor old.shape old.state) _ (StandsFor old.shape after) (StandsFor old.shape old.state) _
+      (StandsForNext old.shape Follows) old.disk new end (λ told here. here) (λ told here image at. at)
+      (λ told here image. ⊎_elim (λ at. inl at) (λ at. inr (after, answer, at, follows)))
+      (λ told image at. (after, answer, at, follows)) run)
 
-  abbrev Called : Brick D → Brick D → Answer → Type 0
-  Called old new result = Handles tells seen may_leave moment left_since faults_of sound Follows old new result
+  -- in the words of another answer
+  pub next_seen : {A B : Type 0} (f : A → B) (Follows : Option A → StateOf Version → Type 0) (Also : Option B → StateOf Version → Type 0)
+      (implies : (answer : Option A) (st : StateOf Version) → Follows answer st → Also (option_map f answer) st) (calls : ℕ) (old : Brick D) (new : D)
+      (result : Result (Option A) ReplicaFault) → NextChange d calls old Follows new (end_of result)
+      → NextChange d calls old Also new (end_of (seen_as f result))
+  next_seen f Follows Also implies calls old new result run =
+      subst (λ (end : End). NextChange d calls old Also new end) (ends_seen f result)
+      (widen d calls (StandsFor old.shape old.state) _ (StandsForNext old.shape Follows) (StandsFor old.shape old.state) _
+      (StandsForNext old.shape Also) old.disk new (end_of result) (λ told here. here) (λ told here image at. at)
+      (λ told here image. ⊎_elim (λ at. inl at) (λ at. inr (seen image at))) (λ told image. seen image) run)
+    where
+      seen : (image : List ℕ) → StandsForNext old.shape Follows image → StandsForNext old.shape Also image
+      seen image at = (at.0, option_map f at.1, at.2, implies at.1 at.0 at.3)
 
-  not_running : (old : Brick D) (result : Answer) → Runs tells may_leave old → old.halted ≡ true → result ≡ Err Halted
+-- ---- what becomes of the store
+
+module _ {D A : Type 0} (d : on_disk.Ghosts D) (Follows : Option A → StateOf Version → Type 0) where
+  not_running : (old : Brick D) (result : AnswerOf A) → Runs d old → old.halted ≡ true → result ≡ Err Halted
   not_running old result runs halted = differ (sym runs.runs ∙ halted)
 
   -- a call that left the disk and the state as they were
-  pub handles_untouched : (old new : Brick D) (result : Answer) → Runs tells may_leave old → new.shape ≡ old.shape → new.state ≡ old.state
-      → new.halted ≡ old.halted
-      → IsUntouched seen may_leave moment left_since old.disk new.disk → Kept (faults_of old.disk) (faults_of new.disk) (sound old.disk)
-      (sound new.disk) (result ≡ Err Disk)
-      → result ≢ Err Disk → result ≢ Err Halted → IfOk result (λ reply. Follows reply old.state) → Called old new result
-  handles_untouched old new result runs shape state halted untouched cause not_disk not_halted follows = record {
+  pub handles_untouched : (old new : Brick D) (result : AnswerOf A) → Runs d old → new.shape ≡ old.shape → new.state ≡ old.state
+      → new.halted ≡ old.halted → IsUntouched d.seen d.may_leave d.moment d.left_since old.disk new.disk
+      → result ≢ Err Disk → result ≢ Err Halted → IfOk result (λ reply. Follows reply old.state) → Handles d Follows old new result
+  handles_untouched old new result runs shape state halted untouched not_disk not_halted follows = record {
     ok = followed result follows;
     refused = on_err (new.state ≡ old.state) result state;
     shape = shape;
-    durable = λ told. on_ok (LeavesState new.shape new.state (may_leave new.disk)) result
-        (λ image left. now image (runs.durable told image (untouched.crash image left)));
-    any_moment = λ told _.
-        goes_on moment left_since old.disk old.disk new.disk Either (may_leave new.disk)
-        (started moment left_since old.disk Either (λ image left. inl (runs.durable told image (only_now old.disk image left))))
-        untouched.time (λ image left. inl (runs.durable told image (untouched.crash image left)));
+    stood = λ told running. runs.stands told;
+    stands = λ told. on_ok (Stands d (StandsFor new.shape new.state) new.disk) result (stands_still told);
     still = on_ok (KeepsParts old.shape.block old.state new.state → (new.state ≡ old.state)
-        × IsUntouched seen may_leave moment left_since old.disk new.disk) result (λ same. (state, untouched));
+        × IsUntouched d.seen d.may_leave d.moment d.left_since old.disk new.disk) result (λ same. (state, untouched));
     halted = not_running old result runs;
     only_halted = λ is. absurd (not_halted is);
     halts = halted ∙ same_halted old.halted result not_disk;
-    no_call = on_err (result ≢ Err Disk → IsUntouched seen may_leave moment left_since old.disk new.disk) result (λ other. untouched);
-    cause = cause;
   }
     where
-      Either : List ℕ → Type 0
-      Either = OpensAsEither old.shape old.state Follows
+      stands_still : d.tells → Stands d (StandsFor new.shape new.state) new.disk
+      stands_still told =
+          let was = runs.stands told in
+          record {
+            only = λ image left. was.only image (untouched.crash image left) ∙ sym untouched.content;
+            has = subst (λ (image : List ℕ). StandsFor new.shape new.state image) (sym untouched.content)
+                (subst (λ (x : Shape). StandsFor x new.state (d.seen old.disk)) (sym shape)
+                (subst (λ (st : StateOf Version). StandsFor old.shape st (d.seen old.disk)) (sym state) was.has));
+          }
 
-      now : (image : List ℕ) → StandsFor old.shape old.state image → StandsFor new.shape new.state image
-      now image stands = subst (λ (x : Shape). StandsFor x new.state image) (sym shape)
-          (subst (λ (st : StateOf Version). StandsFor old.shape st image) (sym state) stands)
-
-      followed : (r : Answer) → IfOk r (λ reply. Follows reply old.state) → IfOk r (λ reply. Follows reply new.state)
+      followed : (r : AnswerOf A) → IfOk r (λ reply. Follows reply old.state) → IfOk r (λ reply. Follows reply new.state)
       followed (Ok reply) h = subst (λ (st : StateOf Version). Follows reply st) (sym state) h
       followed (Err fault) h = tt
 
+module _ {D : Type 0} (d : on_disk.Ghosts D) (Follows : Option Reply → StateOf Version → Type 0) where
   -- A change of the store, and the reply that says so, if there is one.
-  module _ (g e s : ℕ) (old new : Brick D) (after : StateOf Version) (adds : Bool) (calls : ℕ) (reply : Option Reply) (runs : Runs tells may_leave old)
+  module _ (g e s : ℕ) (old new : Brick D) (after : StateOf Version) (adds : Bool) (calls : ℕ) (reply : Option Reply) (runs : Runs d old)
       (made : (adds ≡ true → live old.state ≡ old.shape.records → ⊥) → Follows reply after)
       (none : adds ≡ true → live old.state ≡ old.shape.records → Follows (Some (Full (live old.state))) old.state)
       (moves : part_in old.shape.block after g e s ≡ part_in old.shape.block old.state g e s → ⊥) where
-    abbrev Changed : Result (Unit {0}) StoreFault → Type 0
-    Changed answer = Changes tells seen certain may_leave moment left_since faults_of sound old new after adds calls answer
-
-    -- where there was room, each image opens as the state before or after
-    moments : (answer : Result (Unit {0}) StoreFault) → Changed answer → Follows reply after → tells → old.halted ≡ false
-        → LeavesOnly moment left_since old.disk new.disk (OpensAsEither old.shape old.state Follows)
-    moments answer change follows told running =
-        widened moment left_since old.disk new.disk (StandsForEither old.shape old.state after) (OpensAsEither old.shape old.state Follows)
-        (λ image either. ⊎_elim (λ (was : StandsFor old.shape old.state image). inl was)
-        (λ (is : StandsFor old.shape after image). inr (after, reply, is, follows)) either)
-        (change.any_moment told running)
-
-    -- and it was made, or the disk failed
-    room : (answer : Result (Unit {0}) StoreFault) → Changed answer → answer ≢ Err (faults.Full (live old.state)) → adds ≡ true
+    -- it was made, or the disk failed
+    room : (answer : Result (Unit {0}) StoreFault) → Answers old new after adds answer → answer ≢ Err (faults.Full (live old.state)) → adds ≡ true
         → live old.state ≡ old.shape.records → ⊥
     room answer change other add full = other (change.answer.full runs.runs add full)
 
-    pub handles_change : (answer : Result (Unit {0}) StoreFault) → Changed answer → Called old new (answered reply answer)
-    handles_change (Ok done) change =
+    pub handles_change : (answer : Result (Unit {0}) StoreFault) → BrickChange d calls old after new.disk (store_ends.end_of answer)
+        → Answers old new after adds answer → Handles d Follows old new (answered reply answer)
+    handles_change (Ok done) run change =
         let follows : Follows reply after = made (room (Ok done) change (λ h. absurd cc)) in
         record {
           ok = subst (λ (st : StateOf Version). Follows reply st) (sym change.ok.state) follows;
           refused = tt;
           shape = change.ok.shape;
-          durable = change.durable;
-          any_moment = moments (Ok done) change follows;
+          stood = λ told running. runs.stands told;
+          stands = λ told. subst (λ (x : Shape). Stands d (StandsFor x new.state) new.disk) (sym change.ok.shape)
+              (subst (λ (st : StateOf Version). Stands d (StandsFor old.shape st) new.disk) (sym change.ok.state) (run.whole refl told));
           still = λ same. absurd (moves (subst (λ (st : StateOf Version). part_in old.shape.block st g e s ≡ part_in old.shape.block old.state g e s) change.ok.state (same g e s)));
           halted = λ h. differ (sym runs.runs ∙ h);
           only_halted = λ h. absurd cc;
           halts = change.answer.halts;
-          no_call = tt;
-          cause = kept_as (faults_of old.disk) (faults_of new.disk) (sound old.disk) (sound new.disk) _ _ (λ h. absurd cc) change.cause;
         }
-    handles_change (Err faults.Disk) change =
-        let follows : Follows reply after = made (room (Err faults.Disk) change (λ h. absurd cc)) in
-        record {
-          ok = tt;
-          refused = change.refused.state;
-          shape = change.refused.shape;
-          durable = λ told. tt;
-          any_moment = moments (Err faults.Disk) change follows;
-          still = tt;
-          halted = λ h. differ (sym runs.runs ∙ h);
-          only_halted = λ h. absurd cc;
-          halts = change.answer.halts;
-          no_call = λ other. absurd (other refl);
-          cause = kept_as (faults_of old.disk) (faults_of new.disk) (sound old.disk) (sound new.disk) _ _ (λ h. refl) change.cause;
-        }
-    handles_change (Err (faults.Full n)) change =
+    handles_change (Err faults.Disk) run change = record {
+      ok = tt;
+      refused = change.refused.state;
+      shape = change.refused.shape;
+      stood = λ told running. runs.stands told;
+      stands = λ told. tt;
+      still = tt;
+      halted = λ h. differ (sym runs.runs ∙ h);
+      only_halted = λ h. absurd cc;
+      halts = change.answer.halts;
+    }
+    handles_change (Err (faults.Full n)) run change =
         let was = change.answer.only_full n refl in
-        handles_untouched old new (Ok (Some (Full n))) runs change.refused.shape change.refused.state change.answer.halts
-        (change.no_call (λ h. absurd cc))
-        (kept_as (faults_of old.disk) (faults_of new.disk) (sound old.disk) (sound new.disk) _ _ (λ h. absurd cc) change.cause) (λ h. absurd cc)
-        (λ h. absurd cc)
+        handles_untouched d Follows old new (Ok (Some (Full n))) runs change.refused.shape change.refused.state change.answer.halts
+        (run.not_begun refl) (λ h. absurd cc) (λ h. absurd cc)
         (subst (λ (m : ℕ). Follows (Some (Full m)) old.state) (sym was.3) (none was.1 was.2))
-    handles_change (Err faults.Halted) change = differ (sym runs.runs ∙ change.answer.only_then refl)
-    handles_change (Err faults.NotAStore) change = absurd (change.answer.a_store refl)
-    handles_change (Err faults.Worn) change = absurd (change.answer.not_worn refl)
-    handles_change (Err faults.NoMemory) change =
-        handles_untouched old new (Err NoMemory) runs change.refused.shape change.refused.state change.answer.halts (change.no_call (λ h. absurd cc))
-        (kept_as (faults_of old.disk) (faults_of new.disk) (sound old.disk) (sound new.disk) _ _ (λ h. absurd cc) change.cause) (λ h. absurd cc)
-        (λ h. absurd cc) tt
+    handles_change (Err faults.Halted) run change = differ (sym runs.runs ∙ change.answer.only_then refl)
+    handles_change (Err faults.NotAStore) run change = absurd (change.answer.a_store refl)
+    handles_change (Err faults.Worn) run change = absurd (change.answer.not_worn refl)
+    handles_change (Err faults.NoMemory) run change =
+        handles_untouched d Follows old new (Err NoMemory) runs change.refused.shape change.refused.state change.answer.halts (run.not_begun refl)
+        (λ h. absurd cc) (λ h. absurd cc) tt
+
+    -- The disk was changed so, by as many calls as the message was to make, or left alone for want of room.
+    pub change_next : ((disk : D) (image : List ℕ) → d.left_since disk (d.moment disk) image → d.may_leave disk image) → (given : ℕ)
+        → ((adds ≡ true → live old.state ≡ old.shape.records → ⊥) → given ≡ calls) → (adds ≡ true → live old.state ≡ old.shape.records → given ≡ 0)
+        → (answer : Result (Unit {0}) StoreFault) → BrickChange d calls old after new.disk (store_ends.end_of answer)
+        → Answers old new after adds answer → NextChange d given old Follows new.disk (end_of (answered reply answer))
+    change_next only_now given some zero (Ok done) run change =
+        let free = room (Ok done) change (λ h. absurd cc) in
+        next_as d Follows old new.disk after reply calls given Whole (made free) (some free) run
+    change_next only_now given some zero (Err faults.Disk) run change =
+        let free = room (Err faults.Disk) change (λ h. absurd cc) in
+        next_as d Follows old new.disk after reply calls given Cut (made free) (some free) run
+    change_next only_now given some zero (Err (faults.Full n)) run change =
+        let was = change.answer.only_full n refl in
+        let follows : Follows (Some (Full n)) old.state = subst (λ (m : ℕ). Follows (Some (Full m)) old.state) (sym was.3) (none was.1 was.2) in
+        subst (λ (m : ℕ). NextChange d m old Follows new.disk Whole) (sym (zero was.1 was.2))
+        (next_none d only_now Follows old new.disk (still_of d calls old after new.disk run) runs.stands (Some (Full n)) follows)
+    change_next only_now given some zero (Err faults.Halted) run change = differ (sym runs.runs ∙ change.answer.only_then refl)
+    change_next only_now given some zero (Err faults.NotAStore) run change = absurd (change.answer.a_store refl)
+    change_next only_now given some zero (Err faults.Worn) run change = absurd (change.answer.not_worn refl)
+    change_next only_now given some zero (Err faults.NoMemory) run change =
+        next_refused d only_now Follows old new.disk (still_of d calls old after new.disk run) given
 
 abbrev fails : (A : Type 0) → ReplicaFault → AnswerOf A
 fails A fault = Err fault
@@ -186,43 +251,28 @@ halts_same A B halted Halted = refl
 halts_same A B halted NoMemory = refl
 
 -- a call whose answer is seen as another, of which what follows is implied
-module _ {D A B : Type 0} (tells : Type 0) (seen : D → List ℕ) (may_leave : D → List ℕ → Type 0) (moment : D → ℕ)
-    (left_since : D → ℕ → List ℕ → Type 0) (faults_of : D → ℕ) (sound : D → Type 0) (f : A → B)
-    (Follows : Option A → StateOf Version → Type 0) (Also : Option B → StateOf Version → Type 0)
-    (implies : (answer : Option A) (st : StateOf Version) → Follows answer st → Also (option_map f answer) st) (old new : Brick D) where
-  either : (image : List ℕ) → OpensAsEither old.shape old.state Follows image → OpensAsEither old.shape old.state Also image
-  either image (inl was) = inl was
-  either image (inr is) = inr (is.0, option_map f is.1, is.2, implies is.1 is.0 is.3)
-
-  pub handles_seen : (result : AnswerOf A) → Handles tells seen may_leave moment left_since faults_of sound Follows old new result
-      → Handles tells seen may_leave moment left_since faults_of sound Also old new (seen_as f result)
-  handles_seen (Ok answer) handles = record {
-    ok = implies answer new.state handles.ok;
-    refused = tt;
-    shape = handles.shape;
-    durable = handles.durable;
-    any_moment = λ told running.
-        widened moment left_since old.disk new.disk (OpensAsEither old.shape old.state Follows) (OpensAsEither old.shape old.state Also) either
-        (handles.any_moment told running);
-    still = handles.still;
-    halted = λ h. let wrong = handles.halted h in absurd cc;
-    only_halted = λ h. absurd cc;
-    halts = handles.halts;
-    no_call = tt;
-    cause = kept_as (faults_of old.disk) (faults_of new.disk) (sound old.disk) (sound new.disk) _ _ (λ h. absurd cc) handles.cause;
-  }
-  handles_seen (Err fault) handles = record {
-    ok = tt;
-    refused = handles.refused;
-    shape = handles.shape;
-    durable = handles.durable;
-    any_moment = λ told running.
-        widened moment left_since old.disk new.disk (OpensAsEither old.shape old.state Follows) (OpensAsEither old.shape old.state Also) either
-        (handles.any_moment told running);
-    still = tt;
-    halted = λ h. err_same A B fault Halted (handles.halted h);
-    only_halted = λ h. handles.only_halted (err_same B A fault Halted h);
-    halts = handles.halts ∙ halts_same A B old.halted fault;
-    no_call = λ other. handles.no_call (λ h. other (err_same A B fault Disk h));
-    cause = kept_as (faults_of old.disk) (faults_of new.disk) (sound old.disk) (sound new.disk) _ _ (λ h. err_same B A fault Disk h) handles.cause;
-  }
+pub handles_seen : {D A B : Type 0} (d : on_disk.Ghosts D) (f : A → B) (Follows : Option A → StateOf Version → Type 0)
+    (Also : Option B → StateOf Version → Type 0) (implies : (answer : Option A) (st : StateOf Version) → Follows answer st → Also (option_map f answer) st)
+    (old new : Brick D) (result : AnswerOf A) → Handles d Follows old new result → Handles d Also old new (seen_as f result)
+handles_seen d f Follows Also implies old new (Ok answer) handles = record {
+  ok = implies answer new.state handles.ok;
+  refused = tt;
+  shape = handles.shape;
+  stood = handles.stood;
+  stands = handles.stands;
+  still = handles.still;
+  halted = λ h. let wrong = handles.halted h in absurd cc;
+  only_halted = λ h. absurd cc;
+  halts = handles.halts;
+}
+handles_seen {D} {A} {B} d f Follows Also implies old new (Err fault) handles = record {
+  ok = tt;
+  refused = handles.refused;
+  shape = handles.shape;
+  stood = handles.stood;
+  stands = λ told. tt;
+  still = tt;
+  halted = λ h. err_same A B fault Halted (handles.halted h);
+  only_halted = λ h. handles.only_halted (err_same B A fault Halted h);
+  halts = handles.halts ∙ halts_same A B old.halted fault;
+}

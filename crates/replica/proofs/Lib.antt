@@ -9,3 +9,4 @@ pub mod Runs
 pub mod Sharing
 pub mod Stepping
 pub mod Decided
+pub mod Words

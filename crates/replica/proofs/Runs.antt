@@ -1,10 +1,6 @@
 -- How many calls of the disk a message makes, from the change of the store that it makes.
-use Rattle.std.proofs.Common.{◌≡◌, ◌≢◌, ℕ, ◌+◌, Bool, true, false, ◌&&◌, cond, eqb, Option, Some, None, List, [], ◌∷◌, ◌++◌, length, Result, Ok, Err, refl, sym, ap, subst, ◌∙◌, arith, eq-eqb}
-use Rattle.std.specs.Prelude.{IsOk, is_none, nat_lt}
-use Rattle.std.specs.Option.{option_map}
-use Rattle.fab_disk.specs.Disk.{StopsEarly}
-use Rattle.brick_store.specs.Images.{StandsFor}
-use Rattle.brick_store.proofs.Cutting.{stops_as}
+use Rattle.std.proofs.Common.{◌≡◌, ◌≢◌, ℕ, ◌+◌, Bool, true, false, ◌&&◌, cond, eqb, Option, Some, None, List, [], ◌∷◌, ◌++◌, length, refl, sym, ap, subst, ◌∙◌, arith, eq-eqb}
+use Rattle.std.specs.Prelude.{is_none, nat_lt}
 use Rattle.std.proofs.lemmas.Bool.Decides.{nat_tests}
 use Rattle.std.proofs.lemmas.List.{length-append}
 use Rattle.fab_base.specs.declared.stamps.Stamp.{Stamp}
@@ -12,25 +8,15 @@ use Rattle.fab_base.specs.Stamps.{stamp_below, stamp_same}
 use Rattle.fab_base.proofs.StampOrder.{stamp_below_irrefl, stamp_same_refl, stamp_same_true}
 use Rattle.fab_disk.specs.declared.disk.Plan.{Plan}
 use Rattle.fab_disk.specs.Plan.{IsWithin, IsRun}
-use Rattle.fab_disk.proofs.Plans.{sooner_none, run_as}
+use Rattle.fab_disk.proofs.Plans.{sooner_none}
 use Rattle.messages.specs.declared.calls.Call.{Call}
 use Rattle.messages.specs.declared.requests.Version.{Version}
-use Rattle.messages.specs.declared.replies.Reply.{Reply}
-use Rattle.messages.specs.declared.replies.Reply.TheVariants.{Full}
-use Rattle.version_log.specs.Versions.{Version as Kept}
-use Rattle.brick_state.specs.States.{StateOf, live}
-use Rattle.brick_store.specs.declared.faults.StoreFault.{StoreFault}
-use Rattle.brick_store.specs.declared.faults.StoreFault.TheVariants as faults
 use Rattle.brick_store.specs.Bricks.{Brick}
 use Rattle.brick_store.specs.Calls.{calls_of, version_calls}
 use Rattle.brick_store.specs.Sizes.{version_size}
-use Rattle.brick_store.specs.Changes.{Changes}
 use Rattle.protocol.specs.Replicas.{Replica, Reaction, below, not_below}
 use Rattle.protocol.specs.Nodes.{Node, put, with_replica, replica_at}
-use Rattle.replica.specs.declared.faults.ReplicaFault.{ReplicaFault}
-use Rattle.replica.specs.declared.faults.ReplicaFault.TheVariants.{Disk, Halted, NoMemory}
-use Rattle.replica.specs.Handling.{Runs, OpensAsNext, answered, seen_as}
-use Rattle.replica.specs.Calls.{stored_calls, part_calls, RunsAs, StopsAs}
+use Rattle.replica.specs.Calls.{stored_calls, part_calls}
 use Rattle.replica.proofs.Dropping.{dropped, shorter}
 
 differ : {A : Type 0} → false ≡ true → A
@@ -134,98 +120,3 @@ replica_after node call reaction =
     ap (λ (b : Bool). cond b (put (node.replicas g) e inmost) (node.replicas g) e s) (eq-eqb g g refl)
     ∙ ap (λ (b : Bool). cond b inmost (node.replicas g e) s) (eq-eqb e e refl)
     ∙ ap (λ (b : Bool). cond b reaction.replica (node.replicas g e s)) (eq-eqb s s refl)
-
--- ---- a change of the store
-
-module _ {D : Type 0} (tells : Type 0) (seen certain : D → List ℕ) (may_leave : D → List ℕ → Type 0) (moment : D → ℕ)
-    (left_since : D → ℕ → List ℕ → Type 0) (faults_of : D → ℕ) (sound : D → Type 0) (plan : D → Plan) (unlisted : D → Type 0) (old new : Brick D) (runs : Runs tells may_leave old) where
-  abbrev Answered : Result (Option Reply) ReplicaFault → ℕ → Type 0
-  Answered result calls = RunsAs tells moment plan unlisted calls old new result
-
-  -- the change was made, or not for want of room
-  pub change_runs : (after : StateOf Kept) (adds : Bool) (calls given : ℕ) (reply : Option Reply) (answer : Result (Unit {0}) StoreFault)
-      → Changes tells seen certain may_leave moment left_since faults_of sound old new after adds calls answer
-      → IsRun tells moment plan unlisted calls old.disk new.disk (IsOk answer) (answer ≡ Err faults.Disk)
-      → ((adds ≡ true → live old.state ≡ old.shape.records → ⊥) → given ≡ calls) → (adds ≡ true → live old.state ≡ old.shape.records → given ≡ 0)
-      → Answered (answered reply answer) given
-  change_runs after adds calls given reply (Ok done) change run room none =
-      subst (Answered (Ok reply))
-      (sym (room (λ add full. let wrong = change.answer.full runs.runs add full in absurd cc)))
-      (run_as tells moment plan unlisted calls old.disk new.disk _ _ _ _ (λ is. is) (λ is. absurd cc) (λ a b. absurd (a refl)) run)
-  change_runs after adds calls given reply (Err faults.Disk) change run room none =
-      subst (Answered (Err Disk))
-      (sym (room (λ add full. let wrong = change.answer.full runs.runs add full in absurd cc)))
-      (run_as tells moment plan unlisted calls old.disk new.disk _ _ _ _ (λ is. absurd cc) (λ is. refl) (λ a b. absurd (b refl)) run)
-  change_runs after adds calls given reply (Err (faults.Full n)) change run room none =
-      let was = change.answer.only_full n refl in
-      let nothing = change.no_call (λ h. absurd cc) in
-      subst (Answered (Ok (Some (Full n)))) (sym (none was.1 was.2))
-      (run_of_none tells moment plan unlisted old.disk new.disk (run.waits (λ h. absurd cc) (λ h. absurd cc)) run.stays _ _ (λ h. absurd cc) nothing.clock)
-  change_runs after adds calls given reply (Err faults.Halted) change run room none = differ (sym runs.runs ∙ change.answer.only_then refl)
-  change_runs after adds calls given reply (Err faults.NotAStore) change run room none = absurd (change.answer.a_store refl)
-  change_runs after adds calls given reply (Err faults.Worn) change run room none = absurd (change.answer.not_worn refl)
-  change_runs after adds calls given reply (Err faults.NoMemory) change run room none =
-      run_refused tells moment plan unlisted old.disk new.disk (run.waits (λ h. absurd cc) (λ h. absurd cc)) run.stays _ _ given
-      (λ h. absurd cc) (λ h. absurd cc)
-
-  -- and where the disk failed it was cut short
-  pub change_cut : (Follows : Option Reply → StateOf Kept → Type 0) (after : StateOf Kept) (adds : Bool) (calls given : ℕ) (reply : Option Reply)
-      (answer : Result (Unit {0}) StoreFault)
-      → Changes tells seen certain may_leave moment left_since faults_of sound old new after adds calls answer
-      → ((adds ≡ true → live old.state ≡ old.shape.records → ⊥) → Follows reply after)
-      → ((adds ≡ true → live old.state ≡ old.shape.records → ⊥) → given ≡ calls)
-      → StopsAs tells seen certain moment given Follows old new (answered reply answer)
-  change_cut Follows after adds calls given reply (Ok done) change made room told is = absurd cc
-  change_cut Follows after adds calls given reply (Err faults.Disk) change made room told is =
-      let free = λ (add : adds ≡ true) (full : live old.state ≡ old.shape.records). not_full change add full in
-      subst (λ (n : ℕ). StopsEarly seen certain moment n old.disk new.disk (StandsFor old.shape old.state) (OpensAsNext old.shape Follows))
-      (sym (room free))
-      (stops_as seen certain moment calls old.disk new.disk (StandsFor old.shape old.state) (StandsFor old.shape after) _ _ (λ image at. at)
-      (λ image at. (after, reply, at, made free)) (change.cut told refl))
-    where
-      not_full : Changes tells seen certain may_leave moment left_since faults_of sound old new after adds calls (Err faults.Disk) → adds ≡ true
-          → live old.state ≡ old.shape.records → ⊥
-      not_full change add full = let wrong = change.answer.full runs.runs add full in absurd cc
-  change_cut Follows after adds calls given reply (Err (faults.Full n)) change made room told is = absurd cc
-  change_cut Follows after adds calls given reply (Err faults.Halted) change made room told is = absurd cc
-  change_cut Follows after adds calls given reply (Err faults.NotAStore) change made room told is = absurd cc
-  change_cut Follows after adds calls given reply (Err faults.Worn) change made room told is = absurd cc
-  change_cut Follows after adds calls given reply (Err faults.NoMemory) change made room told is = absurd cc
-
--- ---- what a run says of the answer that is made of another
-
--- a call that was cut short, in the words of another answer
-pub cut_seen : {D A B tells : Type 0} {seen certain : D → List ℕ} {moment : D → ℕ} (f : A → B) (calls : ℕ)
-    (Follows : Option A → StateOf Kept → Type 0) (Also : Option B → StateOf Kept → Type 0)
-    (implies : (answer : Option A) (st : StateOf Kept) → Follows answer st → Also (option_map f answer) st) (old new : Brick D)
-    (result : Result (Option A) ReplicaFault)
-    → StopsAs tells seen certain moment calls Follows old new result → StopsAs tells seen certain moment calls Also old new (seen_as f result)
-cut_seen {seen = seen} {certain = certain} {moment = moment} f calls Follows Also implies old new (Err Disk) cut told is =
-    stops_as seen certain moment calls old.disk new.disk (StandsFor old.shape old.state) (OpensAsNext old.shape Follows) _ _ (λ image at. at)
-    (λ image at. (at.0, option_map f at.1, at.2, implies at.1 at.0 at.3)) (cut told refl)
-cut_seen f calls Follows Also implies old new (Ok answer) cut told is = absurd cc
-cut_seen f calls Follows Also implies old new (Err Halted) cut told is = absurd cc
-cut_seen f calls Follows Also implies old new (Err NoMemory) cut told is = absurd cc
-
-module _ {D : Type 0} (tells : Type 0) (moment : D → ℕ) (plan : D → Plan) (unlisted : D → Type 0) where
-  abbrev answered_so : {A : Type 0} → Option A → Result (Option A) ReplicaFault
-  answered_so answer = Ok answer
-
-  -- a call that answers at once makes none
-  pub runs_told : {A : Type 0} (store : Brick D) (answer : Option A) → RunsAs tells moment plan unlisted 0 store store (Ok answer)
-  runs_told store answer =
-      run_of_none tells moment plan unlisted store.disk store.disk refl (λ free. free) _ _ (never answer) refl
-    where
-      never : {A : Type 0} (answer : Option A) → answered_so answer ≡ Err Disk → ⊥
-      never answer h = absurd cc
-
-  pub runs_seen : {A B : Type 0} (f : A → B) (calls : ℕ) (old new : Brick D) (result : Result (Option A) ReplicaFault)
-      → RunsAs tells moment plan unlisted calls old new result → RunsAs tells moment plan unlisted calls old new (seen_as f result)
-  runs_seen f calls old new (Ok answer) run =
-      run_as tells moment plan unlisted calls old.disk new.disk _ _ _ _ (λ is. is) (λ is. absurd cc) (λ a b. absurd (a refl)) run
-  runs_seen f calls old new (Err Disk) run =
-      run_as tells moment plan unlisted calls old.disk new.disk _ _ _ _ (λ is. absurd cc) (λ is. refl) (λ a b. absurd (b refl)) run
-  runs_seen f calls old new (Err Halted) run =
-      run_as tells moment plan unlisted calls old.disk new.disk _ _ _ _ (λ is. absurd cc) (λ is. absurd cc) (λ a b. run.waits (λ h. absurd cc) (λ h. absurd cc)) run
-  runs_seen f calls old new (Err NoMemory) run =
-      run_as tells moment plan unlisted calls old.disk new.disk _ _ _ _ (λ is. absurd cc) (λ is. absurd cc) (λ a b. run.waits (λ h. absurd cc) (λ h. absurd cc)) run

@@ -20,7 +20,7 @@ use Rattle.protocol.specs.Views.{Learnt, first_learnt}
 use Rattle.protocol.specs.Nodes.{Node, NodeStep, put, group_at, with_part, seat_served, requested_in, requested_at, reacted, with_replica, full_at, replica_at, no_step, reply_packets}
 use Rattle.replica.specs.Parts.{learnt_or, part_in, IsPartsOf, IsFirstView}
 use Rattle.stripe_code.specs.Codes.{block_code, coding}
-use Rattle.replica.specs.Reactions.{part_at, served_seat, answer_packets, IsReacted, IsStep}
+use Rattle.replica.specs.Reactions.{part_at, served_seat, member_step, answer_packets, IsReacted, IsStep}
 use Rattle.replica.specs.Calls.{shares_block, part_calls, message_calls}
 use Rattle.replica.proofs.Runs.{calls_kept, replica_after}
 
@@ -181,3 +181,26 @@ module _ (layout : Layout) (me from : BrickId) (call : Call) (request : Request)
 
     pub calls_void : Serves None → message_calls layout me from store.shape store.listed node (Message.Request call request) ≡ 0
     calls_void void = ap changed_by (void_step void node parts) ∙ calls_kept store (shares_block request) (replica_at node call)
+
+-- a message that is no request asks for nothing, and makes no call
+module _ (layout : Layout) (me from : BrickId) (before : StateOf Version) where
+  abbrev nothing : {D : Type 0} → Brick D → Node → Message → Type 0
+  nothing store node message =
+      (message_calls layout me from store.shape store.listed node message ≡ 0) × IsStep layout me from message before None before
+
+  ignored : (message : Message) → ((node : Node) → member_step layout me from node message ≡ no_step node) → IsStep layout me from message before None before
+  ignored message same = record {
+    packets = λ node parts. ap (λ (step : NodeStep). step.packets) (same node);
+    parts = λ node parts. subst (λ (step : NodeStep). IsPartsOf layout before step.node) (sym (same node)) parts;
+    groups = refl;
+    views = λ h v t other. refl;
+  }
+
+  pub other_ignored : {D : Type 0} (store : Brick D) (node : Node) (message : Message)
+      → ((call : Call) (request : Request) → message ≡ Message.Request call request → ⊥) → nothing store node message
+  other_ignored store node (Message.Request call request) other = absurd (other call request refl)
+  other_ignored store node (Message.Reply call reply) other = (refl, ignored (Message.Reply call reply) (λ n. refl))
+  other_ignored store node (Message.Learn group view) other = (refl, ignored (Message.Learn group view) (λ n. refl))
+  other_ignored store node (Message.Synced group view) other = (refl, ignored (Message.Synced group view) (λ n. refl))
+  other_ignored store node (Message.Client ask) other = (refl, ignored (Message.Client ask) (λ n. refl))
+  other_ignored store node (Message.ClientReply id answer) other = (refl, ignored (Message.ClientReply id answer) (λ n. refl))

@@ -1,26 +1,16 @@
 -- How many calls of the disk's `write_at` and `sync` a message makes of a member's store.
-use Rattle.std.specs.Prelude.{ℕ, Bool, false, nat_eq, nat_lt, ◌&&◌, if◌then◌else◌, Option, List, length, Result, Err, IsOk, ◌≡◌}
+use Rattle.std.specs.Prelude.{ℕ, Bool, false, nat_eq, nat_lt, ◌&&◌, if◌then◌else◌, List, length}
 use Rattle.fab_base.specs.declared.identities.BrickId.{BrickId}
 use Rattle.fab_base.specs.Stamps.{stamp_same}
 use Rattle.fab_base.specs.Layouts.{Layout}
 use Rattle.frame_store.specs.declared.shapes.Shape.{Shape}
-use Rattle.fab_disk.specs.declared.disk.Plan.{Plan}
-use Rattle.fab_disk.specs.Plan.{IsRun}
-use Rattle.fab_disk.specs.Disk.{StopsEarly}
-use Rattle.version_log.specs.Versions.{Version}
-use Rattle.brick_state.specs.States.{StateOf}
-use Rattle.brick_store.specs.Images.{StandsFor}
 use Rattle.messages.specs.declared.packets.Message.{Message}
 use Rattle.messages.specs.declared.packets.Message.TheVariants as message
 use Rattle.messages.specs.declared.requests.Request.{Request}
 use Rattle.messages.specs.declared.requests.Request.TheVariants.{Modify}
-use Rattle.brick_store.specs.Bricks.{Brick}
 use Rattle.brick_store.specs.Calls.{calls_with}
 use Rattle.protocol.specs.Replicas.{Replica}
 use Rattle.protocol.specs.Nodes.{Node, replica_at}
-use Rattle.replica.specs.declared.faults.ReplicaFault.{ReplicaFault}
-use Rattle.replica.specs.declared.faults.ReplicaFault.TheVariants.{Disk}
-use Rattle.replica.specs.Handling.{OpensAsNext}
 use Rattle.replica.specs.Reactions.{member_step}
 
 -- A version that a request stores shares the block of the newest one where the request is a Modify that tells no change.
@@ -46,16 +36,3 @@ message_calls layout me from shape listed node (message.Request call request) =
     part_calls shape listed (shares_block request) (replica_at node call)
     (replica_at (member_step layout me from node (message.Request call request)).node call)
 message_calls layout me from shape listed node message = 0
-
--- the message makes just this run of calls: it is cut short where it answers Disk
-abbrev pub RunsAs : {D A : Type 0} → Type 0 → (D → ℕ) → (D → Plan) → (D → Type 0) → ℕ → Brick D → Brick D → Result (Option A) ReplicaFault → Type 0
-RunsAs tells moment plan unlisted calls old new result =
-    IsRun tells moment plan unlisted calls old.disk new.disk (IsOk result) (result ≡ Err Disk)
-
--- A message that answers Disk was cut short at one of so many calls. What the last sync left opens as the state before it, and so does what a read
--- gives, until the last call but one was made; from then on that opens as a state that may follow.
-abbrev pub StopsAs : {D A : Type 0} → Type 0 → (D → List ℕ) → (D → List ℕ) → (D → ℕ) → ℕ → (Option A → StateOf Version → Type 0) → Brick D → Brick D
-    → Result (Option A) ReplicaFault → Type 0
-StopsAs tells seen certain moment calls Follows old new result =
-    tells → result ≡ Err Disk
-    → StopsEarly seen certain moment calls old.disk new.disk (StandsFor old.shape old.state) (OpensAsNext old.shape Follows)

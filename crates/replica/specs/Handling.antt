@@ -1,8 +1,10 @@
 -- What a call that handles a message promises of the store.
-use Rattle.std.specs.Prelude.{◌≡◌, ◌≢◌, ◌⊎◌, ℕ, Bool, true, false, Option, Some, List, Result, Ok, Err, IfOk, OnOk, OnErr}
+use Rattle.std.specs.Prelude.{◌≡◌, ℕ, Bool, true, false, Option, Some, List, Result, Ok, Err, IfOk, OnOk, OnErr}
 use Rattle.std.specs.Option.{option_map}
 use Rattle.fab_base.specs.declared.identities.BrickId.{BrickId}
-use Rattle.fab_disk.specs.Disk.{IsUntouched, LeavesOnly, Kept}
+use Rattle.fab_disk.specs.declared.disk.Disk as on_disk
+use Rattle.fab_disk.specs.Disk.{IsUntouched}
+use Rattle.fab_disk.specs.Changing.{End, Whole, Cut, NotBegun, Stands, Change}
 use Rattle.messages.specs.declared.replies.Reply.{Reply}
 use Rattle.messages.specs.declared.replies.Reply.TheVariants.{Full}
 use Rattle.frame_store.specs.declared.shapes.Shape.{Shape}
@@ -11,7 +13,7 @@ use Rattle.brick_state.specs.States.{StateOf}
 use Rattle.brick_store.specs.declared.faults.StoreFault.{StoreFault}
 use Rattle.brick_store.specs.declared.faults.StoreFault.TheVariants as faults
 use Rattle.brick_store.specs.Bricks.{Brick, IsOrdered}
-use Rattle.brick_store.specs.Images.{StandsFor, LeavesState}
+use Rattle.brick_store.specs.Images.{StandsFor}
 use Rattle.replica.specs.declared.faults.ReplicaFault.{ReplicaFault}
 use Rattle.replica.specs.declared.faults.ReplicaFault.TheVariants.{Disk, Halted, NoMemory}
 use Rattle.replica.specs.Parts.{part_in}
@@ -26,43 +28,47 @@ halted_after halted (Err Disk) = true
 halted_after halted (Err other) = halted
 halted_after halted (Ok answer) = halted
 
+-- how a call ended, by its answer: a fault of the disk cut it short, and any other came before the first call of the disk
+abbrev pub end_of : {A : Type 0} → Result A ReplicaFault → End
+end_of (Ok answer) = Whole
+end_of (Err Disk) = Cut
+end_of (Err fault) = NotBegun
+
 -- the image opens as a state that may follow
-abbrev pub OpensAsNext : {A : Type 0} → Shape → (Option A → StateOf Version → Type 0) → List ℕ → Type 0
-OpensAsNext {A} shape Follows image = (st : StateOf Version) × (answer : Option A) × StandsFor shape st image × Follows answer st
+abbrev pub StandsForNext : {A : Type 0} → Shape → (Option A → StateOf Version → Type 0) → List ℕ → Type 0
+StandsForNext {A} shape Follows image = (st : StateOf Version) × (answer : Option A) × StandsFor shape st image × Follows answer st
 
--- as the state before the call, or as one that may follow it
-abbrev pub OpensAsEither : {A : Type 0} → Shape → StateOf Version → (Option A → StateOf Version → Type 0) → List ℕ → Type 0
-OpensAsEither shape before Follows image = StandsFor shape before image ⊎ OpensAsNext shape Follows image
+-- What a store keeps is changed to a state that may follow, by one change of its disk.
+abbrev pub NextChange : {D A : Type 0} → on_disk.Ghosts D → ℕ → Brick D → (Option A → StateOf Version → Type 0) → D → End → Type 0
+NextChange d calls store Follows new end =
+    Change d calls (StandsFor store.shape store.state) (StandsForNext store.shape Follows) store.disk new end
 
--- The store runs, and a crash leaves only what opens as its state.
-pub record Runs {D : Type 0} (tells : Type 0) (may_leave : D → List ℕ → Type 0) (store : Brick D) : Type 0 where
+-- The store runs, and its state stands on its disk.
+pub record Runs {D : Type 0} (d : on_disk.Ghosts D) (store : Brick D) : Type 0 where
   pub runs : store.halted ≡ false
-  pub durable : tells → LeavesState store.shape store.state (may_leave store.disk)
+  pub stands : d.tells → Stands d (StandsFor store.shape store.state) store.disk
   pub ordered : IsOrdered store.shape.block store.state
 
 -- the parts of all stripes are as they were
 abbrev pub KeepsParts : ℕ → StateOf Version → StateOf Version → Type 0
 KeepsParts block old new = (g e s : ℕ) → part_in block new g e s ≡ part_in block old g e s
 
--- The call makes an answer and a state that follow, the state whole or not at all, or is refused.
-pub record Handles {D A : Type 0} (tells : Type 0) (seen : D → List ℕ) (may_leave : D → List ℕ → Type 0) (moment : D → ℕ)
-    (left_since : D → ℕ → List ℕ → Type 0) (faults : D → ℕ) (sound : D → Type 0)
-    (Follows : Option A → StateOf Version → Type 0) (old new : Brick D) (result : Result (Option A) ReplicaFault) : Type 0 where
+-- The call makes an answer and a state that follow, or is refused.
+pub record Handles {D A : Type 0} (d : on_disk.Ghosts D) (Follows : Option A → StateOf Version → Type 0) (old new : Brick D)
+    (result : Result (Option A) ReplicaFault) : Type 0 where
   pub ok : IfOk result (λ answer. Follows answer new.state)
   pub refused : OnErr result (new.state ≡ old.state)
   pub shape : new.shape ≡ old.shape
-  -- after Ok a crash leaves only the state of the store now
-  pub durable : tells → OnOk result (LeavesState new.shape new.state (may_leave new.disk))
-  -- at each moment of the call each image opens as the state before it, or as one that follows
-  pub any_moment : tells → old.halted ≡ false → LeavesOnly moment left_since old.disk new.disk (OpensAsEither old.shape old.state Follows)
+  -- while the store was not halted, its state stood on its disk
+  pub stood : d.tells → old.halted ≡ false → Stands d (StandsFor old.shape old.state) old.disk
+  -- after Ok the state of the store now stands on its disk
+  pub stands : d.tells → OnOk result (Stands d (StandsFor new.shape new.state) new.disk)
   -- where no stripe's part is changed, nothing is, and no call of the disk was made
   pub still : OnOk result (KeepsParts old.shape.block old.state new.state → (new.state ≡ old.state)
-      × IsUntouched seen may_leave moment left_since old.disk new.disk)
+      × IsUntouched d.seen d.may_leave d.moment d.left_since old.disk new.disk)
   pub halted : old.halted ≡ true → result ≡ Err Halted
   pub only_halted : result ≡ Err Halted → old.halted ≡ true
   pub halts : new.halted ≡ halted_after old.halted result
-  pub no_call : OnErr result (result ≢ Err Disk → IsUntouched seen may_leave moment left_since old.disk new.disk)
-  pub cause : Kept (faults old.disk) (faults new.disk) (sound old.disk) (sound new.disk) (result ≡ Err Disk)
 
 -- what a change's answer makes of the reply to be given, if there is one; no change of a running store answers the others
 abbrev pub answered : Option Reply → Result (Unit {0}) StoreFault → Result (Option Reply) ReplicaFault

@@ -11,8 +11,8 @@ ghost use Rattle.messages.specs.declared.replies.Reply as told;
 ghost use Rattle.replica.specs.Parts.{IsPartsOf, IsFirstView};
 ghost use Rattle.replica.specs.Plans.{planned, is_shared, IsChange};
 ghost use Rattle.replica.specs.Reactions.{part_at, served_seat, IsReacted, IsStep};
-ghost use Rattle.replica.specs.Handling.{Handles, Runs, answered, me_of, seen_as};
-ghost use Rattle.replica.specs.Calls.{part_calls, message_calls, RunsAs, StopsAs};
+ghost use Rattle.replica.specs.Handling.{Handles, NextChange, Runs, end_of, answered, me_of, seen_as};
+ghost use Rattle.replica.specs.Calls.{part_calls, message_calls};
 
 use crate::faults::ReplicaFault;
 use crate::members::decide;
@@ -67,22 +67,17 @@ fn carry_out<D: Disk>(
     requires group { call.group.0 < 64 }
     requires first { call.view.0 ≡ 1 }
     requires view { IsFirstView store.old.state }
-    requires runs { Runs D.tells D.may_leave store.old }
+    requires runs { Runs D.Disk store.old }
     requires change { IsChange store.old.shape.block (is_shared plan) (part_at store.old.shape.block store.old.state call) plan }
-    ensures handles { Handles D.tells D.seen D.may_leave D.moment D.left_since D.faults D.sound
-        (IsReacted store.old.shape.block call store.old.state
-        (planned (full_at store.old.shape.records (live store.old.state))
-        (part_at store.old.shape.block store.old.state call) plan)) store.old store.new result }
-    ensures cut { StopsAs D.tells D.seen D.certain D.moment
-        (part_calls store.old.shape store.old.listed (is_shared plan) (part_at store.old.shape.block store.old.state call)
-        (planned (full_at store.old.shape.records (live store.old.state)) (part_at store.old.shape.block store.old.state call) plan).replica)
-        (IsReacted store.old.shape.block call store.old.state
+    ensures handles { Handles D.Disk (IsReacted store.old.shape.block call store.old.state
         (planned (full_at store.old.shape.records (live store.old.state)) (part_at store.old.shape.block store.old.state call) plan))
         store.old store.new result }
-    ensures run { RunsAs D.tells D.moment D.plan D.unlisted
+    ensures change { NextChange D.Disk
         (part_calls store.old.shape store.old.listed (is_shared plan) (part_at store.old.shape.block store.old.state call)
         (planned (full_at store.old.shape.records (live store.old.state)) (part_at store.old.shape.block store.old.state call) plan).replica)
-        store.old store.new result }
+        store.old (IsReacted store.old.shape.block call store.old.state
+        (planned (full_at store.old.shape.records (live store.old.state)) (part_at store.old.shape.block store.old.state call) plan))
+        store.new.disk (end_of result) }
 {
     let (group, view, stripe) = (call.group, call.view, call.stripe);
     match plan {
@@ -179,15 +174,12 @@ pub fn handle<D: Disk>(
 ) -> Result<Option<Message>, ReplicaFault>
     requires shape { store.old.shape ≡ shape_of store.old.shape.me layout.now.block layout.now.records }
     requires view { IsFirstView store.old.state }
-    ensures handles { Handles D.tells D.seen D.may_leave D.moment D.left_since D.faults D.sound
-        (IsStep layout.now (me_of store.old) from message.now store.old.state) store.old store.new result }
-    // Where the disk failed, what it holds is what it held before, or what the message makes it keep, by how many calls were made.
-    ensures cut { (node : Node) → IsPartsOf layout.now store.old.state node → StopsAs D.tells D.seen D.certain D.moment
+    ensures handles { Handles D.Disk (IsStep layout.now (me_of store.old) from message.now store.old.state) store.old store.new result }
+    // At each moment each image opens as the state before, or as what the message makes the store keep. The calls are those that the
+    // message makes of the machine's brick.
+    ensures change { (node : Node) → IsPartsOf layout.now store.old.state node → NextChange D.Disk
         (message_calls layout.now (me_of store.old) from store.old.shape store.old.listed node message.now)
-        (IsStep layout.now (me_of store.old) from message.now store.old.state) store.old store.new result }
-    // Under a plan, the call that it names is reached exactly where the message makes so many.
-    ensures run { (node : Node) → IsPartsOf layout.now store.old.state node → RunsAs D.tells D.moment D.plan D.unlisted
-        (message_calls layout.now (me_of store.old) from store.old.shape store.old.listed node message.now) store.old store.new result }
+        store.old (IsStep layout.now (me_of store.old) from message.now store.old.state) store.new.disk (end_of result) }
 {
     // A member answers whoever asks.
     let _ = from;

@@ -6,7 +6,7 @@ use Rattle.version_log.specs.Versions.{Version, block_of}
 use Rattle.brick_state.specs.States.{StateOf}
 use Rattle.brick_store.specs.declared.faults.StoreFault.{StoreFault}
 use Rattle.brick_store.specs.Bricks.{Brick, Keeps}
-use Rattle.brick_store.specs.Changes.{Changes}
+use Rattle.brick_store.specs.Changes.{Answers}
 
 of_answer : {D : Type 0} (before after : StateOf Version) (old new : Brick D) (result : Result (Unit {0}) StoreFault)
     → OnOk result (Keeps after old new) → OnErr result (Keeps before old new) → new.shape ≡ old.shape
@@ -14,10 +14,8 @@ of_answer before after old new (Ok u) ok refused = ok.shape
 of_answer before after old new (Err e) ok refused = refused.shape
 
 -- a change keeps what a store was made for, also where it was refused
-pub same_shape : {D tells : Type 0} {seen certain : D → List ℕ} {may_leave : D → List ℕ → Type 0} {moment : D → ℕ}
-    {left_since : D → ℕ → List ℕ → Type 0} {faults : D → ℕ} {sound : D → Type 0}
-    {old new : Brick D} {after : StateOf Version} {adds : Bool} {calls : ℕ} {result : Result (Unit {0}) StoreFault}
-    → Changes tells seen certain may_leave moment left_since faults sound old new after adds calls result → new.shape ≡ old.shape
+pub same_shape : {D : Type 0} {old new : Brick D} {after : StateOf Version} {adds : Bool} {result : Result (Unit {0}) StoreFault}
+    → Answers old new after adds result → new.shape ≡ old.shape
 same_shape {old = old} {new = new} {after = after} {result = result} made =
     of_answer old.state after old new result made.ok made.refused
 

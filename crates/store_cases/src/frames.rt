@@ -8,18 +8,19 @@ use crate::bricks::{Change, ROOMY, disk_after, empty_disk};
 use anyhow::Result;
 use fab_base::Bytes;
 use fab_disk::{Armed, Disk, FileDisk, MemDisk, Plan};
-use frame_store::{Frame, FrameFault, FrameStore, format, open_store};
+use frame_store::{Collected, Frame, FrameFault, FrameStore, OpenFault, format, open_store};
 use std::alloc::Global;
 use std::fs::File;
 use std::rt::Files;
 use std::{fs, io};
 
-/// The list on a disk that was made for one block of two bytes at brick 258.
-fn opened<D: Disk + Drop>(alloc: Global, disk: D) -> Result<FrameStore<D>, FrameFault>
-    ensures { IfOk result (λ store. store.shape ≡ shape_of 258 2 1) }
+/// The list on a disk that was made for one block of two bytes at brick 258, and its frames.
+fn opened<D: Disk + Drop>(alloc: Global, disk: D) -> Result<(FrameStore<D>, Collected), OpenFault>
+    ensures { IfOk result (λ made. made.0.shape ≡ shape_of 258 2 1) }
 {
-    match open_store(alloc, disk, 258, 2, 1) {
-        Ok(store) => Ok(store),
+    let mut list = Collected::new(alloc);
+    match open_store(alloc, disk, 258, 2, 1, &mut list) {
+        Ok(store) => Ok((store, list)),
         Err((fault, _)) => Err(fault),
     }
 }
@@ -52,8 +53,8 @@ fn rewrite<D: Armed>(
 }
 
 /// The disk after such a rewrite of its list.
-fn rewritten<D: Armed + Drop>(alloc: Global, disk: D, call: u64) -> Result<D, FrameFault> {
-    let mut store = opened(alloc, disk)?;
+fn rewritten<D: Armed + Drop>(alloc: Global, disk: D, call: u64) -> Result<D> {
+    let (mut store, _) = opened(alloc, disk)?;
     let answer = rewrite(alloc, &mut store, call);
     let disk = store.into_disk();
     answer?;
@@ -70,13 +71,14 @@ fn fresh_disk(alloc: Global, bricks: &[u16]) -> Result<MemDisk, FrameFault> {
 }
 
 /// How many frames the list on a disk has.
-fn count_frames<D: Disk + Drop>(alloc: Global, disk: D) -> Result<usize, FrameFault> {
-    Ok(opened(alloc, disk)?.frames().len())
+fn count_frames<D: Disk + Drop>(alloc: Global, disk: D) -> Result<usize> {
+    let (_, list) = opened(alloc, disk)?;
+    Ok(list.frames().len())
 }
 
 /// How many frames are found where a rewrite stopped before its gate was opened, and the next one at its first call, which is settled by
 /// this number.
-fn stale_frames(alloc: Global, pick: u64) -> Result<usize, FrameFault> {
+fn stale_frames(alloc: Global, pick: u64) -> Result<usize> {
     let mut disk = rewritten(alloc, fresh_disk(alloc, &[258])?, 5)?;
     disk.settle(1);
     let mut disk = rewritten(alloc, disk, 1)?;
@@ -86,7 +88,7 @@ fn stale_frames(alloc: Global, pick: u64) -> Result<usize, FrameFault> {
 
 /// A rewrite that was stopped before its gate was opened leaves a list that the next one's first call may not bring to life. How many
 /// frames are found, at most, over many picks.
-fn most_stale_frames(alloc: Global) -> Result<usize, FrameFault> {
+fn most_stale_frames(alloc: Global) -> Result<usize> {
     let mut most = 0;
     for pick in 0..32 {
         most = stale_frames(alloc, pick)?.max(most);
@@ -112,7 +114,8 @@ fn print_slots<D: Disk>(rt: &impl Print, store: &mut FrameStore<D>) -> Result<()
 
 /// Prints the first bytes of the slots of the brick's store on a disk.
 fn print_slots_on<D: Disk + Drop>(rt: &(impl Print + AllocGlobal), disk: D) -> Result<()> {
-    match open_store(rt.alloc(), disk, 5, 2, ROOMY) {
+    let mut list = Collected::new(rt.alloc());
+    match open_store(rt.alloc(), disk, 5, 2, ROOMY, &mut list) {
         Ok(mut store) => print_slots(rt, &mut store),
         Err((fault, _)) => Err(fault.into()),
     }
@@ -167,7 +170,7 @@ fn print_format(rt: &impl Print, bytes: &[u8]) -> io::Result<()> {
 }
 
 /// Why a list is not opened on whose disk another brick's was made.
-fn refusal(alloc: Global) -> Result<Option<FrameFault>, FrameFault> {
+fn refusal(alloc: Global) -> Result<Option<OpenFault>, FrameFault> {
     let disk = fresh_disk(alloc, &[258, 259])?;
     Ok(opened(alloc, disk).err())
 }

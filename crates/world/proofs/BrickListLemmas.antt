@@ -19,6 +19,7 @@ use Rattle.node.specs.declared.outs.Begun.{Begun}
 use Rattle.node.specs.Outcomes.{Outcome}
 use Rattle.node.specs.declared.faults.NodeFault.{NodeFault}
 use Rattle.stripe_code.specs.Codes.{coding}
+use Rattle.node.specs.Calls.{packet_calls}
 use Rattle.node.specs.Faults.{RefusesAs}
 use Rattle.node.specs.Running.{Running, state_of, IsSameBrick}
 use Rattle.node.specs.States.{BeginsAs}
@@ -26,10 +27,11 @@ use Rattle.protocol.specs.Worlds.{World, first_world, is_brick, is_up}
 use Rattle.fab_base.specs.Layouts.{Layout}
 use Rattle.protocol.specs.Nodes as machine
 use Rattle.world.specs.Runs.{brick_of}
-use Rattle.world.specs.Faults.{IsReached, IsLeft, plan_of, delivery_calls}
+use Rattle.world.specs.Disks.{IsUnwritten}
+use Rattle.world.specs.Faults.{IsReached, IsLeft, plan_of}
 use Rattle.world.specs.Shown.{IsRunning, Rests, ShowsPower, ShowsBrick, ShowsBricks, Takes, HandledAs, IsNodeOf, IsOn, IsUp, FindsUp, AreNodesOf, disk_in, disks_of}
 use Rattle.lines.specs.declared.forms.Fault.{Fault}
-use Rattle.world.proofs.DiskLemmas.{disk_at, disk_set}
+use Rattle.world.proofs.DiskLemmas.{disk_at, disk_set, unwritten_but}
 use Rattle.world.specs.declared.bricks.Brick.{Brick}
 use Rattle.world.specs.declared.bricks.Power.{Power}
 use Rattle.world.specs.declared.bricks.Power.TheVariants.{Up, Down}
@@ -255,6 +257,9 @@ module _ (layout : Layout) (bricks : List Brick) (number : BrickId) (old : Brick
     spared = λ disk disk_is reached.
         let same : node.brick.disk ≡ disk = (let e : Some node.brick.disk ≡ Some disk = sym disk_here ∙ disk_is in cc) in
         took.spared (subst (λ (d : MemDisk). IsReached layout number (w.nodes number.0) packet d (plan_of fault)) (sym same) reached);
+    still = λ none.
+        unwritten_but bricks number old (with_power old power) within is
+        (subst (λ (p : Power). IsUnwritten (disk_in p) (disk_in power)) (sym on) (took.still none));
   }
   took_as (Ok None) took = record {
     disk = node.brick.disk;
@@ -268,7 +273,7 @@ module _ (layout : Layout) (bricks : List Brick) (number : BrickId) (old : Brick
         in
         subst (λ (d : MemDisk). IsLeft layout number (machine.stopped (w.nodes number.0))
         (machine.stopped (machine.absorbed (coding layout) number (w.nodes number.0) packet))
-        (delivery_calls layout number (w.nodes number.0) packet took.reached.listed) fault d) same took.left;
+        (packet_calls layout number (w.nodes number.0) packet took.reached.listed) fault d) same took.left;
   }
   took_as (Err refused) took =
       shows_kept layout bricks number.0 old power w within is (power_now (w.nodes number.0) (w.after number.0) took) shows

@@ -2,16 +2,18 @@
 use Rattle.std.proofs.Common.{◌≡◌, ◌⊎◌, inl, inr, ⊎_elim, ℕ, ◌+◌, Bool, true, false, cond, List, [], ◌∷◌, length, append-nil, arith, Option, Some, None, Result, Ok, Err, refl, sym, ap, ◌∙◌, subst}
 use Rattle.std.specs.Prelude.{slice_get, map, IfOk, OnOk, OnErr}
 use Rattle.std.proofs.lemmas.List.{drop_all}
-use Rattle.std.specs.Option.{option_map}
 use Rattle.std.proofs.lemmas.Bool.{eq-eqb}
 use Rattle.fab_base.specs.declared.identities.BrickId.{BrickId}
 use Rattle.fab_base.specs.Layouts.{Layout}
 use Rattle.fab_disk.specs.MemDisk.{content_of}
+use Rattle.fab_disk.specs.declared.disk.Plan.{Plan}
+use Rattle.fab_disk.specs.Plan.{IsWithin}
 use Rattle.fab_disk.specs.declared.mem_disk.MemDisk.{MemDisk}
 use Rattle.lines.specs.declared.forms.Fault.{Fault}
 use Rattle.lines.specs.declared.forms.Line.{Line}
 use Rattle.lines.specs.declared.forms.Line.TheVariants.{Nothing, Deliver, Start, Calm}
 use Rattle.messages.specs.declared.packets.Packet.{Packet}
+use Rattle.node.specs.Calls.{packet_calls}
 use Rattle.node.specs.Outcomes.{Outcome as Sent}
 use Rattle.stripe_code.specs.Codes.{coding}
 use Rattle.protocol.specs.Settings.{Setting}
@@ -21,14 +23,15 @@ use Rattle.protocol.specs.Calms.{IsCalm}
 use Rattle.world.specs.Runs.{brick_of}
 use Rattle.world.specs.Faults.{IsEventsOf, IsStartOf, StaysDown, IsStarted, IsNoStart, IsReached, plan_of}
 use Rattle.world.specs.Ledgers.{Notes}
-use Rattle.world.specs.Disks.{KeepsOthers, changes_disk_of}
+use Rattle.world.specs.Disks.{KeepsOthers, LeavesDisks, receiver_of, changes_disk_of}
+use Rattle.world.specs.EventCalls.{handled_calls}
 use Rattle.world.specs.Shown.{Shows, ShowsBricks, StartsAs, Tells, Comes, IsReachedBy, Refused, HandledWhole, HandledPart, disks_of}
 use Rattle.world.specs.Texts.{marks_if, is_deliverable, outcome_of, marks_text, outcome_text, new_marks, event_text, text_of, line_text}
 use Rattle.world.specs.declared.simulations.Outcome.{Outcome}
 use Rattle.world.specs.declared.simulations.Outcome.TheVariants.{Marks, Idle}
 use Rattle.world.specs.declared.simulations.Simulation.{Simulation}
 use Rattle.world.specs.declared.histories.History.{History}
-use Rattle.world.proofs.DiskLemmas.{all_kept, one_kept}
+use Rattle.world.proofs.DiskLemmas.{same_kept, one_kept}
 use Rattle.world.proofs.HistoryLemmas.{tells_during}
 use Rattle.world.specs.declared.bricks.Brick.{Brick}
 use Rattle.world.specs.declared.ledgers.Ledger.{Ledger}
@@ -48,7 +51,7 @@ ok_both (Err e) Q R both p q = tt
 pub one_event : (layout : Layout) (w : World) (disks : List MemDisk) (state : Simulation) (line : Line) (outcome : Outcome) (event : Event)
     → IsEventsOf layout w disks (disks_of state.bricks.items) line (event ∷ [])
     → Shows layout state (happens (coding layout) w event) → outcome ≡ outcome_of (coding layout) w event
-    → KeepsOthers (changes_disk_of w event) disks (disks_of state.bricks.items) → Notes state.ledger (happens (coding layout) w event)
+    → LeavesDisks layout w event disks (disks_of state.bricks.items) → Notes state.ledger (happens (coding layout) w event)
     → Comes layout w disks state line outcome
 one_event layout w disks state line outcome event are shows comes kept notes = (
   event ∷ [],
@@ -62,6 +65,10 @@ one_event layout w disks state line outcome event are shows comes kept notes = (
   notes,
 )
 
+-- no call of none is named
+never_within : (calls : ℕ) (plan : Plan) → calls ≡ 0 → IsWithin calls plan → ⊥
+never_within calls plan none within = omega (arith, none, within.some, within.reached)
+
 -- a message that was not sent
 pub unsent_comes : (layout : Layout) (w : World) (state : Simulation) (number : ℕ) (fault : Option Fault) → packet_of w.packets number ≡ None
     → Shows layout state w → Notes state.ledger w
@@ -71,7 +78,7 @@ unsent_comes layout w state number fault none shows notes =
     (inr (record { spared = λ struck. (let never : Some struck.packet ≡ None = sym struck.sent ∙ none in cc); events_are = refl }))
     (shows_still layout state w (happens (coding layout) w (Delivers number)) (happens_unsent (coding layout) w number none) shows)
     (sym (ap (λ p. marks_if (is_deliverable (coding layout) w p)) none))
-    (all_kept (changes_disk_of w (Delivers number)) (disks_of state.bricks.items))
+    (same_kept layout w (Delivers number) (disks_of state.bricks.items) (disks_of state.bricks.items) refl)
     (subst (λ (v : World). Notes state.ledger v) (sym (happens_unsent (coding layout) w number none)) notes)
 
 -- a message to a brick that is not up
@@ -83,7 +90,7 @@ astray_comes layout w state number fault packet sent down shows notes =
     (inr (record { spared = λ struck. not_struck struck.packet struck.sent struck.up; events_are = refl }))
     (shows_still layout state w (happens (coding layout) w (Delivers number)) (happens_astray (coding layout) w number packet sent down) shows)
     (handled_astray layout w packet (packet_of w.packets number) sent down)
-    (all_kept (changes_disk_of w (Delivers number)) (disks_of state.bricks.items))
+    (same_kept layout w (Delivers number) (disks_of state.bricks.items) (disks_of state.bricks.items) refl)
     (subst (λ (v : World). Notes state.ledger v) (sym (happens_astray (coding layout) w number packet sent down)) notes)
   where
     not_struck : (other : Packet) → packet_of w.packets number ≡ Some other → is_up layout w other.to ≡ true → ⊥
@@ -96,8 +103,13 @@ astray_comes layout w state number fault packet sent down shows notes =
 module _ (layout : Layout) (w : World) (old new : Simulation) (number : ℕ) (fault : Option Fault) (packet : Packet)
     (sent : packet_of w.packets number ≡ Some packet) (up : is_up layout w packet.to ≡ true)
     (others : KeepsOthers (Some packet.to) (disks_of old.bricks.items) (disks_of new.bricks.items)) where
-  changes_here : changes_disk_of w (Delivers number) ≡ Some packet.to
-  changes_here = ap (option_map (λ (p : Packet). p.to)) sent
+  changes_here : changes_disk_of layout w (Delivers number) ≡ Some packet.to
+  changes_here = ap (receiver_of layout w) sent ∙ ap (λ (b : Bool). cond b (Some packet.to) None) up
+
+  calls_here : (listed : ℕ) → handled_calls layout w listed (packet_of w.packets number) ≡ packet_calls layout packet.to (w.nodes packet.to.0) packet listed
+  calls_here listed =
+      ap (handled_calls layout w listed) sent
+      ∙ ap (λ (b : Bool). cond b (packet_calls layout packet.to (w.nodes packet.to.0) packet listed) 0) up
 
   pub whole_comes : (outs : Sent) → HandledWhole layout w packet.to packet fault old.bricks.items new.bricks.items outs
       → Tells new.history (world_stepped (coding layout) (record w { replies = replies_with (coding layout) w packet; reached = put w.reached number true }) packet.to
@@ -109,7 +121,10 @@ module _ (layout : Layout) (w : World) (old new : Simulation) (number : ℕ) (fa
       (inr (record { spared = λ struck. not_struck struck.packet struck.sent struck.disk struck.disk_is struck.reached; events_are = refl }))
       (shows_handled layout new w number packet sent up handled.bricks history)
       (handled_here layout w packet (packet_of w.packets number) sent up)
-      (subst (λ (b : Option BrickId). KeepsOthers b (disks_of old.bricks.items) (disks_of new.bricks.items)) (sym changes_here) others)
+      (record {
+        others = subst (λ (b : Option BrickId). KeepsOthers b (disks_of old.bricks.items) (disks_of new.bricks.items)) (sym changes_here) others;
+        still = λ none. handled.still (λ listed. sym (calls_here listed) ∙ none listed true);
+      })
       (subst (λ (v : World). Notes new.ledger v) (sym (happens_handled (coding layout) w number packet sent up)) notes)
     where
       not_struck : (other : Packet) → packet_of w.packets number ≡ Some other → (disk : MemDisk)
@@ -144,7 +159,12 @@ module _ (layout : Layout) (w : World) (old new : Simulation) (number : ℕ) (fa
         history = tells_during (coding layout) new.history w packet.to (Some number) history;
       }))
       (sym (ap marks_if up))
-      others
+      (record {
+        others = others;
+        still = λ none.
+            absurd (never_within (packet_calls layout packet.to (w.nodes packet.to.0) packet handled.reached.listed) (plan_of fault)
+            (sym (calls_here handled.reached.listed) ∙ none handled.reached.listed true) handled.reached.within);
+      })
       (subst (λ (v : World). Notes new.ledger v) (sym (happens_stopped_during (coding layout) w packet.to (Some number) up)) notes)
 
 -- what a start prints is the text of its events
@@ -172,11 +192,11 @@ start_notes layout w bricks old new brick fault events ledger reached shows are 
 
 -- the start of a brick
 pub start_comes : (layout : Layout) (w : World) (old new : Simulation) (brick : BrickId) (fault : Option Fault) (started : Bool)
-    → KeepsOthers (Some brick) (disks_of old.bricks.items) (disks_of new.bricks.items) → new.history ≡ old.history → new.ledger ≡ old.ledger
+    → new.history ≡ old.history → new.ledger ≡ old.ledger
     → IsReachedBy layout w → Shows layout old w → Notes old.ledger w
     → (events : List Event) × StartsAs layout w brick fault old.bricks.items new.bricks.items started events
     → Comes layout w (disks_of old.bricks.items) new (Start brick.0 fault) (cond started Marks Idle)
-start_comes layout w old new brick fault started others same noted reached shows notes (events, starts) = (
+start_comes layout w old new brick fault started same noted reached shows notes (events, starts) = (
   events,
   record {
     are = starts.are;
@@ -187,7 +207,7 @@ start_comes layout w old new brick fault started others same noted reached shows
     prints = ap (λ (o : Outcome). outcome_text o (new_marks w (run (coding layout) events w))) starts.comes
         ∙ came_text (coding layout) w events (start_few layout w (disks_of old.bricks.items) (disks_of new.bricks.items) brick fault events starts.are)
         ∙ sym (start_text (coding layout) w brick.0 fault events);
-    kept = starts.kept (disks_of new.bricks.items) others;
+    kept = starts.kept;
   },
   start_notes layout w old.bricks.items (disks_of old.bricks.items) (disks_of new.bricks.items) brick fault events new.ledger reached shows.bricks starts.are
       (subst (λ (ledger : Ledger). Notes ledger w) (sym noted) notes),

@@ -1,14 +1,16 @@
 -- What becomes of the disks where one brick changes.
-use Rattle.std.proofs.Common.{◌≡◌, ℕ, zero, suc, ◌<◌, List, [], ◌∷◌, length, set, get_or, map, Option, Some, None, refl, sym, ap, ◌∙◌}
+use Rattle.std.proofs.Common.{◌≡◌, ◌≢◌, ℕ, zero, suc, ◌<◌, Bool, true, false, eqb, List, [], ◌∷◌, length, set, get_or, map, Option, Some, None, refl, sym, ap, ◌∙◌, subst}
 use Rattle.std.specs.Option.{option_map}
 use Rattle.std.specs.Prelude.{slice_get}
+use Rattle.std.proofs.lemmas.Bool.{eqb-true, eqb-false}
 use Rattle.std.proofs.lemmas.Option.{slice_get-map, slice_get_read}
+use Rattle.fab_base.specs.Layouts.{Layout}
 use Rattle.fab_base.specs.declared.identities.BrickId.{BrickId}
 use Rattle.fab_disk.specs.MemDisk.{content_of}
 use Rattle.fab_disk.specs.declared.mem_disk.MemDisk.{MemDisk}
 use Rattle.protocol.specs.Settings.{Setting}
 use Rattle.protocol.specs.Worlds.{World, Event}
-use Rattle.world.specs.Disks.{KeepsOthers, KeepsDisks, changes_disk_of}
+use Rattle.world.specs.Disks.{KeepsOthers, IsUnwritten, AreUnwritten, LeavesDisks, KeepsDisks, changes_disk_of}
 use Rattle.world.specs.Shown.{disk_in, disks_of}
 use Rattle.world.specs.declared.bricks.Brick.{Brick}
 use Rattle.world.proofs.Places.{set_here, set_elsewhere}
@@ -52,17 +54,44 @@ contents_same (x ∷ bricks) zero old new is same =
 contents_same (x ∷ bricks) (suc b) old new is same =
     ap (λ (all : List (List ℕ)). content_of (disk_in x.power) ∷ all) (contents_same bricks b old new is same)
 
--- where nothing has changed
-pub all_kept : (brick : Option BrickId) (disks : List MemDisk) → KeepsOthers brick disks disks
-all_kept None disks = refl
-all_kept (Some brick) disks = λ i other. refl
+-- nothing was written on a disk that is as it was
+unwritten_same : (was disk : MemDisk) → was ≡ disk → IsUnwritten was disk
+unwritten_same was disk same = subst (λ (d : MemDisk). IsUnwritten was d) same (record { content = refl; crash = λ image left. left })
+
+-- nor on the disks, where a brick has one on which nothing was
+pub unwritten_but : (bricks : List Brick) (b : BrickId) (old new : Brick) → b.0 < length bricks → old ≡ get_or bricks b.0 old
+    → IsUnwritten (disk_in old.power) (disk_in new.power) → AreUnwritten (disks_of bricks) (disks_of (set bricks b.0 new))
+unwritten_but bricks b old new within is unwritten i was disk at now = by (eqb i b.0) refl
+  where
+    by : (here : Bool) → eqb i b.0 ≡ here → IsUnwritten was disk
+    by true here =
+        let same : i ≡ b.0 = eqb-true i b.0 here in
+        let before : disk_in old.power ≡ was =
+        (let e : Some (disk_in old.power) ≡ Some was = sym (disk_at bricks b.0 old within is) ∙ sym (ap (slice_get (disks_of bricks)) same) ∙ at in cc)
+        in
+        let after : disk_in new.power ≡ disk =
+        (let e : Some (disk_in new.power) ≡ Some disk =
+        sym (disk_set bricks b.0 new within) ∙ sym (ap (slice_get (disks_of (set bricks b.0 new))) same) ∙ now in cc)
+        in
+        subst (λ (d : MemDisk). IsUnwritten d disk) before (subst (λ (d : MemDisk). IsUnwritten (disk_in old.power) d) after unwritten)
+    by false there =
+        let other : i ≢ b.0 = eqb-false i b.0 there in
+        unwritten_same was disk (let e : Some was ≡ Some disk = sym at ∙ sym (others_kept bricks b new i other) ∙ now in cc)
 
 -- what one event keeps
-pub one_kept : (setting : Setting) (w : World) (event : Event) (old new : List MemDisk) → KeepsOthers (changes_disk_of w event) old new
+pub one_kept : (setting : Setting) (w : World) (event : Event) (old new : List MemDisk) → LeavesDisks setting.layout w event old new
     → KeepsDisks setting w (event ∷ []) old new
 one_kept setting w event old new kept = (new, kept, refl)
 
 -- where no disk has changed
-pub same_kept : (brick : Option BrickId) (old new : List MemDisk) → new ≡ old → KeepsOthers brick old new
-same_kept None old new same = same
-same_kept (Some brick) old new same = λ i other. ap (λ (disks : List MemDisk). slice_get disks i) same
+pub same_kept : (layout : Layout) (w : World) (event : Event) (old new : List MemDisk) → new ≡ old → LeavesDisks layout w event old new
+same_kept layout w event old new same = record {
+  others = by (changes_disk_of layout w event);
+  still = λ none i was disk at now.
+      unwritten_same was disk
+      (let e : Some was ≡ Some disk = sym at ∙ ap (λ (disks : List MemDisk). slice_get disks i) (sym same) ∙ now in cc);
+}
+  where
+    by : (brick : Option BrickId) → KeepsOthers brick old new
+    by None = same
+    by (Some brick) = λ i other. ap (λ (disks : List MemDisk). slice_get disks i) same

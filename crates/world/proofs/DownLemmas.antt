@@ -4,7 +4,7 @@ use Rattle.std.specs.Prelude.{nat_lt}
 use Rattle.std.proofs.lemmas.Bool.Decides.{nat_tests}
 use Rattle.fab_base.specs.declared.identities.BrickId.{BrickId}
 use Rattle.fab_base.specs.Layouts.{Layout}
-use Rattle.fab_disk.specs.Disk.{LeavesOnly, StopsEarly}
+use Rattle.fab_disk.specs.Disk.{IsUntouched, LeavesOnly, StopsEarly}
 use Rattle.fab_disk.specs.MediumLaws.{fits_shown}
 use Rattle.fab_disk.specs.PastLaws.{content_is_image, image_had}
 use Rattle.fab_disk.specs.Plan.{IsWithin, IsRun, calls_made}
@@ -27,7 +27,6 @@ use Rattle.brick_store.specs.Openings.{opens_appendable, IsAllowedOr}
 use Rattle.brick_store.specs.declared.faults.StoreFault.{StoreFault}
 use Rattle.brick_store.specs.declared.faults.StoreFault.TheVariants.{NotAStore, Disk}
 use Rattle.replica.specs.Parts.{IsFirstView}
-use Rattle.replica.specs.Calls.{message_calls}
 use Rattle.coord_phase.specs.Messages.{packets_from}
 use Rattle.node.specs.Calls.{packet_calls, RunsAsOpening, StopsAsOpening}
 use Rattle.node.specs.Outcomes.{Outcome}
@@ -40,8 +39,8 @@ use Rattle.stripe_code.specs.Codes.{coding}
 use Rattle.lines.specs.declared.forms.Fault.{Fault}
 use Rattle.protocol.specs.Nodes as machine
 use Rattle.protocol.specs.Worlds.{Found, Before, After}
-use Rattle.world.specs.Disks.{ShowsDisk}
-use Rattle.world.specs.Faults.{plan_of, opened_more, ShowsOne, HoldsOne, ReadsAs, LeftBy, Finds, found_of, delivery_calls}
+use Rattle.world.specs.Disks.{ShowsDisk, IsUnwritten}
+use Rattle.world.specs.Faults.{plan_of, opened_more, ShowsOne, HoldsOne, ReadsAs, LeftBy, Finds, found_of}
 use Rattle.world.specs.Shown.{IsRunning, Rests, TookWhole, TookPart, WasStarted, IsWorn, WasCutShort}
 use Rattle.world.specs.declared.bricks.Power.TheVariants.{Up, Down}
 use Rattle.world.proofs.BrickLemmas.{found_boot, found_first, stopped_shows, kept_by}
@@ -136,6 +135,15 @@ pub record IsArmed (plan : Plan) (disk armed : MemDisk) : Type 0 where
   pub crash : (image : List ℕ) → may_be_left armed image → may_be_left disk image
   pub planned : armed.plan ≡ plan
   pub listed : is_unlisted disk → is_unlisted armed
+
+-- nothing was written on it, where a call did not touch it and its plan was taken back
+pub unwritten_by : (plan : Plan) (disk armed left last : MemDisk) → IsArmed plan disk armed
+    → IsUntouched content_of may_be_left moment_of was_left_since armed left → content_of last ≡ content_of left
+    → ((image : List ℕ) → may_be_left last image → may_be_left left image) → IsUnwritten disk last
+unwritten_by plan disk armed left last arms untouched same crash = record {
+  content = same ∙ untouched.content ∙ arms.content;
+  crash = λ image is. arms.crash image (untouched.crash image (crash image is));
+}
 
 -- a store's opening reaches no call of a plan that did not befall it
 both_true : (x y : Bool) → x ≡ true → y ≡ true → x && y ≡ true
@@ -247,9 +255,10 @@ module _ (layout : Layout) (me : BrickId) (state after : machine.Node) (fault : 
   }
 
   pub worn : (last : MemDisk) → ((st : StateOf Version) × IsFound (shape_at layout me) st (content_of armed) × (st.boot ≡ 2 ^ 32 - 1))
-      → Rests layout me state after last → IsWorn layout me state after disk (Down last)
-  worn last found kept = record {
+      → IsUnwritten disk last → Rests layout me state after last → IsWorn layout me state after disk (Down last)
+  worn last found still kept = record {
     finds = found_there;
+    still = still;
     may = may_open_never state found_there.openings found.0.boot (boots_there found.0 found.1) found.2;
     off = (refl, kept);
   }
@@ -271,13 +280,19 @@ module _ (layout : Layout) (me : BrickId) (state after : machine.Node) (fault : 
       let made : moment_of left ≡ moment_of armed + calls_made (plan_of fault) =
       run.stopped tt unlisted_there is ∙ ap (λ (p : Plan). moment_of armed + calls_made p) arms.planned in
       let each = moments node_there shows_there in
+      let had : (image : List ℕ) → may_be_left left image → may_be_left disk image ⊎ ShowsEither layout me node_there (reopened node_there) image =
+      λ image now. ⊎_elim
+      (λ (allowed : may_be_left armed image). inl (arms.crash image allowed))
+      (λ (either : ShowsEither layout me node_there (reopened node_there) image). inr either)
+      (each.each image (image_had (past_of_disk left) (content_of left) (moment_of armed) image now))
+      in
       let holds : HoldsOne layout me state after left =
       holds_by layout me state after left
       (λ image now. ⊎_elim
-      (λ (allowed : may_be_left armed image). rests.holds.durable image (arms.crash image allowed))
+      (λ (allowed : may_be_left disk image). rests.holds.durable image allowed)
       (λ (either : ShowsEither layout me node_there (reopened node_there) image).
       either_shows layout me state after found_there.openings found_there.found image either)
-      (each.each image (image_had (past_of_disk left) (content_of left) (moment_of armed) image now)))
+      (had image now))
       in
       record {
         finds = found_there;
@@ -302,8 +317,8 @@ module _ (layout : Layout) (me : BrickId) (state after : machine.Node) (fault : 
         );
         left = record {
           was = left;
-          holds = holds;
-          synced = ⊎_elim (λ had. inl (had ∙ same)) (λ now. inr now) stops.settled;
+          holds = had;
+          synced = ⊎_elim (λ before. inl (before ∙ same)) (λ now. inr now) stops.settled;
           reads = record {
             early = λ soon. stops.early (omega (arith, soon, made));
             late = λ late. stops.late (omega (arith, late, made));
@@ -343,13 +358,13 @@ module _ (layout : Layout) (me : BrickId) (state : machine.Node) (time : ℕ) (p
       subst (λ (image : List ℕ). IsListed (shape_at layout me) armed.brick.listed image) arms.content
       (subst (λ (s : Shape). IsListed s armed.brick.listed (content_of armed.brick.disk)) shape_there listed)
 
-  pub calls_there : (n : ℕ) → armed.brick.listed ≡ n → packet_calls armed packet ≡ message_calls layout me packet.from (shape_at layout me) n state packet.message
+  pub calls_there : (n : ℕ) → armed.brick.listed ≡ n
+      → packet_calls armed.layout armed.me (state_of armed) packet armed.brick.listed ≡ packet_calls layout me state packet n
   calls_there n is =
-      ap (λ (l : Layout). message_calls l armed.me packet.from armed.brick.shape armed.brick.listed (state_of armed) packet.message) layout_there
-      ∙ ap (λ (b : BrickId). message_calls layout b packet.from armed.brick.shape armed.brick.listed (state_of armed) packet.message) me_there
-      ∙ ap (λ (s : Shape). message_calls layout me packet.from s armed.brick.listed (state_of armed) packet.message) shape_there
-      ∙ ap (λ (k : ℕ). message_calls layout me packet.from (shape_at layout me) k (state_of armed) packet.message) is
-      ∙ ap (λ (s : machine.Node). message_calls layout me packet.from (shape_at layout me) n s packet.message) state_there
+      ap (λ (l : Layout). packet_calls l armed.me (state_of armed) packet armed.brick.listed) layout_there
+      ∙ ap (λ (b : BrickId). packet_calls layout b (state_of armed) packet armed.brick.listed) me_there
+      ∙ ap (λ (k : ℕ). packet_calls layout me (state_of armed) packet k) is
+      ∙ ap (λ (s : machine.Node). packet_calls layout me s packet n) state_there
 
   pub unlisted_here : is_unlisted armed.brick.disk
   unlisted_here = arms.listed runs.sound.unlisted
@@ -387,11 +402,13 @@ module _ (layout : Layout) (me : BrickId) (state : machine.Node) (time : ℕ) (p
       → StepsAs armed.me (state_of new) (machine.received (coding armed.layout) armed.me time (state_of armed) packet) outs
       → state_of up ≡ state_of new
       → LeavesBrick armed.layout armed.me (state_of new) (may_be_left new.brick.disk)
+      → content_of up.brick.disk ≡ content_of new.brick.disk
       → ((image : List ℕ) → may_be_left up.brick.disk image → may_be_left new.brick.disk image)
-      → (whole cut : Type 0) → IsRun (Unit {0}) moment_of plan_in is_unlisted (packet_calls armed packet) armed.brick.disk new.brick.disk whole cut → whole
+      → (packet_calls armed.layout armed.me (state_of armed) packet armed.brick.listed ≡ 0 → IsUntouched content_of may_be_left moment_of was_left_since armed.brick.disk new.brick.disk)
+      → (whole cut : Type 0) → IsRun (Unit {0}) moment_of plan_in is_unlisted (packet_calls armed.layout armed.me (state_of armed) packet armed.brick.listed) armed.brick.disk new.brick.disk whole cut → whole
       → up.brick.halted ≡ false → (is_unlisted new.brick.disk → IsSound up.brick.disk)
       → TookWhole layout me state time packet node.brick.disk fault (Up up) outs
-  took_whole new up outs stays_new stays_up steps up_is durable crash whole cut run done halted sound = record {
+  took_whole new up outs stays_new stays_up steps up_is durable content crash idle whole cut run done halted sound = record {
     packets = ap (λ (b : BrickId). packets_from b outs.messages) (sym me_there) ∙ steps.packets ∙ ap (λ (s : machine.NodeStep). s.packets) steps_there;
     told = steps.told ∙ ap (λ (s : machine.NodeStep). s.told) steps_there;
     answers = steps.answers ∙ ap (λ (s : machine.NodeStep). s.answers) steps_there;
@@ -406,14 +423,17 @@ module _ (layout : Layout) (me : BrickId) (state : machine.Node) (time : ℕ) (p
         in
         run.spared done
         (subst (λ (k : ℕ). IsWithin k armed.brick.disk.plan) (sym (calls_there reached.listed n))
-        (subst (λ (p : Plan). IsWithin (message_calls layout me packet.from (shape_at layout me) reached.listed state packet.message) p) (sym arms.planned) reached.within));
+        (subst (λ (p : Plan). IsWithin (packet_calls layout me state packet reached.listed) p) (sym arms.planned) reached.within));
+    still = λ none.
+        unwritten_by (plan_of fault) node.brick.disk armed.brick.disk new.brick.disk up.brick.disk arms
+        (idle (calls_there armed.brick.listed refl ∙ none armed.brick.listed)) content crash;
   }
 
   pub took_part : (new : Running MemDisk) (left last : MemDisk) → left ≡ new.brick.disk → armed.brick.halted ≡ false
       → LeavesOnly moment_of was_left_since armed.brick.disk new.brick.disk (ShowsEither armed.layout armed.me (state_of armed)
       (machine.absorbed (coding armed.layout) armed.me (state_of armed) packet))
-      → (whole cut : Type 0) → IsRun (Unit {0}) moment_of plan_in is_unlisted (packet_calls armed packet) armed.brick.disk new.brick.disk whole cut → cut
-      → StopsEarly content_of certain_of moment_of (packet_calls armed packet) armed.brick.disk new.brick.disk
+      → (whole cut : Type 0) → IsRun (Unit {0}) moment_of plan_in is_unlisted (packet_calls armed.layout armed.me (state_of armed) packet armed.brick.listed) armed.brick.disk new.brick.disk whole cut → cut
+      → StopsEarly content_of certain_of moment_of (packet_calls armed.layout armed.me (state_of armed) packet armed.brick.listed) armed.brick.disk new.brick.disk
       (ImageShows armed.layout armed.me (state_of armed))
       (ImageShows armed.layout armed.me (machine.absorbed (coding armed.layout) armed.me (state_of armed) packet))
       → LeftBy fault left last → ((image : List ℕ) → may_be_left last image → may_be_left left image) → (IsSound left → IsSound last)
@@ -437,29 +457,36 @@ module _ (layout : Layout) (me : BrickId) (state : machine.Node) (time : ℕ) (p
       in
       let made : moment_of new.brick.disk ≡ moment_of armed.brick.disk + calls_made (plan_of fault) =
       run.stopped tt unlisted_here done ∙ ap (λ (p : Plan). moment_of armed.brick.disk + calls_made p) arms.planned in
-      let holds_new : HoldsOne layout me before after new.brick.disk =
-      holds_by layout me before after new.brick.disk
-      (λ image now. ⊎_elim
-      (λ (is : ImageShows armed.layout armed.me (state_of armed) image). shows_before layout me before after image (as_before image is))
-      (λ (is : ImageShows armed.layout armed.me (machine.absorbed (coding armed.layout) armed.me (state_of armed) packet) image).
-      shows_after layout me before after image (as_after image is))
-      (moments.each image (image_had (past_of_disk new.brick.disk) (content_of new.brick.disk) (moment_of armed.brick.disk) image now)))
+      let either_new : (image : List ℕ) → may_be_left new.brick.disk image → ShowsEither layout me before after image =
+      λ image now. ⊎_elim
+      (λ (is : ImageShows armed.layout armed.me (state_of armed) image). inl (as_before image is))
+      (λ (is : ImageShows armed.layout armed.me (machine.absorbed (coding armed.layout) armed.me (state_of armed) packet) image). inr (as_after image is))
+      (moments.each image (image_had (past_of_disk new.brick.disk) (content_of new.brick.disk) (moment_of armed.brick.disk) image now))
       in
-      let holds : HoldsOne layout me before after left = subst (λ (d : MemDisk). HoldsOne layout me before after d) (sym same_disk) holds_new in
+      let either : (image : List ℕ) → may_be_left left image → ShowsEither layout me before after image =
+      subst (λ (d : MemDisk). (image : List ℕ) → may_be_left d image → ShowsEither layout me before after image) (sym same_disk) either_new
+      in
+      let holds : HoldsOne layout me before after left =
+      holds_by layout me before after left
+      (λ image now. ⊎_elim
+      (λ (is : ImageShows layout me before image). shows_before layout me before after image is)
+      (λ (is : ImageShows layout me after image). shows_after layout me before after image is)
+      (either image now))
+      in
       let quiet : IsSound left = subst IsSound (sym same_disk) (record { unplanned = run.used_up unlisted_here done; unlisted = run.stays unlisted_here }) in
       record {
         reached = record {
           listed = armed.brick.listed;
           is_listed = listed_there;
-          within = subst (λ (p : Plan). IsWithin (message_calls layout me packet.from (shape_at layout me) armed.brick.listed state packet.message) p) arms.planned
+          within = subst (λ (p : Plan). IsWithin (packet_calls layout me state packet armed.brick.listed) p) arms.planned
               (subst (λ (k : ℕ). IsWithin k armed.brick.disk.plan) (calls_there armed.brick.listed refl) (run.named unlisted_here done));
         };
         off = (refl, record { holds = holds_less layout me before after left last crash holds; boots = stopped_boots state (machine.absorbed (coding layout) me state packet) boots; sound = sound quiet });
         left = record {
           was = left;
-          holds = holds;
+          holds = either;
           synced = subst (λ (d : MemDisk). ImageShows layout me before (certain_of d)) (sym same_disk) (as_before (certain_of new.brick.disk) stops.settled);
-          reads = subst (λ (d : MemDisk). ReadsAs layout me before after (delivery_calls layout me state packet armed.brick.listed) fault d) (sym same_disk)
+          reads = subst (λ (d : MemDisk). ReadsAs layout me before after (packet_calls layout me state packet armed.brick.listed) fault d) (sym same_disk)
               (record {
                 early = λ soon. as_before (content_of new.brick.disk) (stops.early (omega (arith, soon, made, calls_there armed.brick.listed refl)));
                 late = λ late. as_after (content_of new.brick.disk) (stops.late (omega (arith, late, made, calls_there armed.brick.listed refl)));
@@ -471,7 +498,7 @@ module _ (layout : Layout) (me : BrickId) (state : machine.Node) (time : ℕ) (p
   pub took_nothing : (new up : Running MemDisk) → IsSameBrick armed new → IsSameBrick new up → state_of new ≡ state_of armed → state_of up ≡ state_of new
       → ((image : List ℕ) → may_be_left new.brick.disk image → may_be_left armed.brick.disk image)
       → ((image : List ℕ) → may_be_left up.brick.disk image → may_be_left new.brick.disk image)
-      → (whole cut : Type 0) → IsRun (Unit {0}) moment_of plan_in is_unlisted (packet_calls armed packet) armed.brick.disk new.brick.disk whole cut
+      → (whole cut : Type 0) → IsRun (Unit {0}) moment_of plan_in is_unlisted (packet_calls armed.layout armed.me (state_of armed) packet armed.brick.listed) armed.brick.disk new.brick.disk whole cut
       → up.brick.halted ≡ false → (is_unlisted new.brick.disk → IsSound up.brick.disk) → IsRunning layout me state up
   took_nothing new up stays_new stays_up is up_is untouched crash whole cut run halted sound = record {
     layout_is = stays_up.layout ∙ stays_new.layout ∙ layout_there;

@@ -208,6 +208,9 @@ runs_to layout old new before disks state line outcome same (events, comes, note
         events_are = subst (λ (d : List MemDisk). IsEventsOf layout (world_of r) before d line events) (sym same) comes.are;
         run = ap (λ (steps : List Step). record { layout = layout; steps = steps; disks = disks }) grown;
         disks = subst (λ (d : List MemDisk). KeepsDisks (coding layout) (world_of r) events before d) (sym same) comes.kept;
+        shows = subst (λ (d : List MemDisk). ShowsDisks (record { layout = layout; steps = new; disks = d })) (sym same)
+            (disks_shown layout state new
+            (stands_step (Shows layout state) layout old new (record { line = line; events = events }) before disks grown comes.shows));
       };
       prints = ap (λ (v : World). outcome_text outcome (new_marks (world_of r) v))
           (ap (λ (steps : List Step). world_of (record { layout = layout; steps = steps; disks = disks })) grown

@@ -1,5 +1,5 @@
 -- What the bricks show after one of them was to start.
-use Rattle.std.proofs.Common.{◌≡◌, ◌≢◌, inl, inr, ⊎_elim, ℕ, ◌+◌, ◌<◌, ◌≤◌, ◌&&◌, Bool, true, false, not, cond, List, [], ◌∷◌, length, set, get_or, Option, Some, None, Result, Ok, Err, refl, sym, ap, ◌∙◌, subst, arith}
+use Rattle.std.proofs.Common.{◌≡◌, ◌≢◌, inl, inr, ⊎_elim, ℕ, suc, ◌+◌, ◌<◌, ◌≤◌, ◌&&◌, Bool, true, false, not, cond, List, [], ◌∷◌, length, set, get_or, Option, Some, None, Result, Ok, Err, refl, sym, ap, ◌∙◌, subst, arith}
 use Rattle.std.specs.Prelude.{slice_get, IfOk, OnErr}
 use Rattle.std.proofs.lemmas.Bool.Decides.{nat_tests}
 use Rattle.fab_base.specs.declared.faults.NoMem.{NoMem}
@@ -11,8 +11,9 @@ use Rattle.node.specs.Running.{Running}
 use Rattle.stripe_code.specs.Codes.{coding}
 use Rattle.protocol.specs.Nodes as machine
 use Rattle.protocol.specs.Worlds.{World, Event, Starts, Stops, Found, Before, After, is_brick, is_up, may_start, world_found, world_started, happens}
-use Rattle.world.specs.Faults.{IsLeftOpening, StartsDown, Finds, found_of, is_down}
-use Rattle.world.specs.Disks.{KeepsOthers}
+use Rattle.world.specs.EventCalls.{is_down}
+use Rattle.world.specs.Faults.{IsLeftOpening, StartsDown, Finds, found_of}
+use Rattle.world.specs.Disks.{KeepsOthers, IsUnwritten}
 use Rattle.world.specs.Shown.{Rests, ShowsPower, ShowsBricks, StartsAs, TurnsOn, WasStarted, IsWorn, WasCutShort, Tells, disk_in, disks_of}
 use Rattle.world.specs.Texts.{marks_if}
 use Rattle.world.specs.declared.bricks.Brick.{Brick}
@@ -20,7 +21,7 @@ use Rattle.world.specs.declared.bricks.Power.{Power}
 use Rattle.world.specs.declared.bricks.Power.TheVariants.{Up, Down}
 use Rattle.world.specs.declared.histories.History.{History}
 use Rattle.world.proofs.Places.{value_here, value_elsewhere}
-use Rattle.world.proofs.DiskLemmas.{disk_at, disk_set, one_kept}
+use Rattle.world.proofs.DiskLemmas.{disk_at, disk_set, disks_same, others_kept, unwritten_but, one_kept, same_kept}
 use Rattle.world.proofs.HistoryLemmas.{tells_found_started}
 use Rattle.world.proofs.MachineBegins.{happens_started, happens_unstarted, happens_unstopped}
 use Rattle.world.proofs.BrickListLemmas.{shows_after, brick_at, runs_at, rests_at, with_power, shows_kept}
@@ -97,6 +98,11 @@ down_never : (x y : Bool) → y ≡ false → x && y ≡ false
 down_never true y down = down
 down_never false y down = refl
 
+-- an opening that is made makes calls
+never_none : (opens : Bool) (calls : ℕ) → opens ≡ true → cond opens (suc calls) 0 ≡ 0 → ⊥
+never_none true calls is none = absurd cc
+never_none false calls is none = absurd cc
+
 -- A brick that is down was to start.
 module _ (layout : Layout) (bricks : List Brick) (number : BrickId) (old : Brick) (disk : MemDisk) (power : Power) (fault : Option Fault) (w : World)
     (within : number.0 < length bricks) (is : old ≡ get_or bricks number.0 old) (off : old.power ≡ Down disk)
@@ -107,9 +113,17 @@ module _ (layout : Layout) (bricks : List Brick) (number : BrickId) (old : Brick
   abbrev new_bricks : List Brick
   new_bricks = set bricks number.0 (with_power old power)
 
+  is_down_here : is_down layout w number ≡ true
+  is_down_here = down_both (is_brick layout number) (w.up number.0) (is_there layout bricks number within shows.count) down_here
+
+  others_here : KeepsOthers (cond (is_down layout w number) (Some number) None) (disks_of bricks) (disks_of new_bricks)
+  others_here =
+      subst (λ (down : Bool). KeepsOthers (cond down (Some number) None) (disks_of bricks) (disks_of new_bricks)) (sym is_down_here)
+      (others_kept bricks number (with_power old power))
+
   abbrev start_here : (finds : Finds layout number (w.nodes number.0) (w.after number.0) disk) → StartsDown layout w (disks_of bricks) number
   start_here finds = record {
-    down = down_both (is_brick layout number) (w.up number.0) (is_there layout bricks number within shows.count) down_here;
+    down = is_down_here;
     disk = disk;
     disk_is = disk_at bricks number.0 old within is ∙ ap (λ (p : Power). Some (disk_in p)) off;
     finds = finds;
@@ -166,7 +180,8 @@ module _ (layout : Layout) (bricks : List Brick) (number : BrickId) (old : Brick
           bricks = subst (λ (x : World). ShowsBricks layout new_bricks x.nodes x.after x.up x.clocks) (sym happened) shown;
           comes = sym (ap marks_if may);
           tells = λ history tells. subst (λ (x : World). Tells history x) (sym happened) (tells_found_started history w number openings was.finds.found tells);
-          kept = λ next kept. one_kept (coding layout) w event (disks_of bricks) next kept;
+          kept = one_kept (coding layout) w event (disks_of bricks) (disks_of new_bricks)
+              (record { others = others_here; still = λ none. absurd (never_none (may_start layout w number openings) 4 may (none 0 true)) });
         },
       )
 
@@ -185,7 +200,13 @@ module _ (layout : Layout) (bricks : List Brick) (number : BrickId) (old : Brick
           bricks = unchanged_bricks layout new_bricks w (happens (coding layout) w event) happened (kept_here was.off);
           comes = sym (ap marks_if may);
           tells = λ history tells. unchanged_tells history w (happens (coding layout) w event) happened tells;
-          kept = λ next kept. one_kept (coding layout) w event (disks_of bricks) next kept;
+          kept = one_kept (coding layout) w event (disks_of bricks) (disks_of new_bricks)
+              (record {
+                others = others_here;
+                still = λ none.
+                    unwritten_but bricks number old (with_power old power) within is
+                    (subst (λ (p : Power). IsUnwritten (disk_in p) (disk_in power)) (sym off) was.still);
+              });
         },
       )
 
@@ -201,8 +222,8 @@ module _ (layout : Layout) (bricks : List Brick) (number : BrickId) (old : Brick
           bricks = unchanged_bricks layout new_bricks w (happens (coding layout) w event) happened (kept_here was.off);
           comes = sym (ap marks_if down);
           tells = λ history tells. unchanged_tells history w (happens (coding layout) w event) happened tells;
-          kept = λ next kept. one_kept (coding layout) w event (disks_of bricks) next
-              (subst (λ (up : Bool). KeepsOthers (cond up None (Some number)) (disks_of bricks) next) (sym down_here) kept);
+          kept = one_kept (coding layout) w event (disks_of bricks) (disks_of new_bricks)
+              (record { others = others_here; still = λ none. absurd (never_none (is_down layout w number) 4 is_down_here (none 0 true)) });
         },
       )
 
@@ -231,9 +252,9 @@ module _ (layout : Layout) (bricks : List Brick) (number : BrickId) (old : Brick
 
 -- the start of a brick that is up, or that there is not, comes to nothing
 pub starts_not : (layout : Layout) (bricks new : List Brick) (number : BrickId) (fault : Option Fault) (w : World) → is_down layout w number ≡ false
-    → may_start layout w number 1 ≡ false → ShowsBricks layout new w.nodes w.after w.up w.clocks
+    → may_start layout w number 1 ≡ false → disks_of new ≡ disks_of bricks → ShowsBricks layout new w.nodes w.after w.up w.clocks
     → (events : List Event) × StartsAs layout w number fault bricks new false events
-starts_not layout bricks new number fault w not_down may shows =
+starts_not layout bricks new number fault w not_down may same shows =
     let event : Event = Starts number 1 Before in
     let happened : happens (coding layout) w event ≡ w = happens_unstarted (coding layout) w number 1 Before may in (
       event ∷ [],
@@ -242,7 +263,7 @@ starts_not layout bricks new number fault w not_down may shows =
         bricks = unchanged_bricks layout new w (happens (coding layout) w event) happened shows;
         comes = sym (ap marks_if may);
         tells = λ history tells. unchanged_tells history w (happens (coding layout) w event) happened tells;
-        kept = λ next kept. one_kept (coding layout) w event (disks_of bricks) next kept;
+        kept = one_kept (coding layout) w event (disks_of bricks) (disks_of new) (same_kept layout w event (disks_of bricks) (disks_of new) same);
       },
     )
 
@@ -255,6 +276,7 @@ starts_up layout bricks number old node fault w within is on shows =
     starts_not layout bricks (set bricks number.0 (with_power old (Up node))) number fault w
     (up_not (is_brick layout number) (w.up number.0) up)
     (up_never (is_brick layout number) (w.up number.0) (machine.may_open 1 (w.nodes number.0)) up)
+    (disks_same bricks number.0 old (with_power old (Up node)) is (ap disk_in (sym on)))
     (shows_kept layout bricks number.0 old (Up node) w within is
     (subst (λ (power : Power). ShowsPower layout number (w.nodes number.0) (w.after number.0) (w.up number.0) power) on
     (brick_at layout bricks w number.0 old within is shows).power) shows)
@@ -269,7 +291,7 @@ pub starts_nowhere : (layout : Layout) (bricks : List Brick) (number : BrickId) 
 starts_nowhere layout bricks number fault w past shows =
     let none : is_brick layout number ≡ false = grind (arith, nat_tests) in
     starts_not layout bricks bricks number fault w (first_not (is_brick layout number) (not (w.up number.0)) none)
-    (first_not (is_brick layout number) (not (w.up number.0) && machine.may_open 1 (w.nodes number.0)) none) shows
+    (first_not (is_brick layout number) (not (w.up number.0) && machine.may_open 1 (w.nodes number.0)) none) refl shows
 
 -- what a start of a brick that is down answered
 module _ (layout : Layout) (bricks : List Brick) (number : BrickId) (old : Brick) (disk : MemDisk) (power : Power) (fault : Option Fault)

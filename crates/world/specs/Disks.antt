@@ -1,15 +1,16 @@
 -- What the disks of a run hold, and which of them an event may change.
 use Rattle.std.specs.Prelude.{◌≡◌, ◌≢◌, ℕ, Bool, true, false, if◌then◌else◌, List, [], ◌∷◌, length, map, slice_get, Option, Some, None}
-use Rattle.std.specs.Option.{option_map}
 use Rattle.fab_base.specs.declared.identities.BrickId.{BrickId}
 use Rattle.fab_base.specs.Layouts.{Layout}
 use Rattle.fab_disk.specs.MemDisk.{content_of, may_be_left}
 use Rattle.fab_disk.specs.declared.mem_disk.MemDisk.{MemDisk}
+use Rattle.messages.specs.declared.packets.Packet.{Packet}
 use Rattle.node.specs.Running.{ImageShows, LeavesBrick}
 use Rattle.protocol.specs.Nodes.{Node}
 use Rattle.protocol.specs.Settings.{Setting}
-use Rattle.protocol.specs.Worlds.{World, Event, Invokes, Delivers, Sets, Ticks, Stops, Starts, packet_of, happens}
+use Rattle.protocol.specs.Worlds.{World, Event, Invokes, Delivers, Sets, Ticks, Stops, Starts, is_up, packet_of, happens}
 use Rattle.world.specs.Runs.{Run, world_of, brick_of}
+use Rattle.world.specs.EventCalls.{MakesNoCall, is_down}
 use Rattle.world.specs.Faults.{HoldsOne}
 
 -- a disk keeps just what this brick of the layout keeps: so says what a read gives, and whatever a crash may leave
@@ -28,26 +29,45 @@ pub record ShowsDisks (r : Run) : Type 0 where
   pub each : (i : ℕ) (disk : MemDisk) → slice_get r.disks i ≡ Some disk
       → ShowsDiskOf ((world_of r).up i) r.layout (brick_of i) ((world_of r).nodes i) ((world_of r).after i) disk
 
--- the brick whose disk an event may change: the one that handles a message, or stops in the midst of that, or starts, or was to start
-abbrev pub changes_disk_of : World → Event → Option BrickId
-changes_disk_of w (Invokes brick ask) = None
-changes_disk_of w (Delivers number) = option_map (λ packet. packet.to) (packet_of w.packets number)
-changes_disk_of w (Sets brick time) = None
-changes_disk_of w (Ticks brick) = None
-changes_disk_of w (Stops brick None) = if w.up brick.0 then None else Some brick
-changes_disk_of w (Stops brick (Some number)) = Some brick
-changes_disk_of w (Starts brick openings found) = Some brick
+-- the receiver of a packet that was sent, where it is up
+abbrev pub receiver_of : Layout → World → Option Packet → Option BrickId
+receiver_of layout w None = None
+receiver_of layout w (Some packet) = if is_up layout w packet.to then Some packet.to else None
+
+-- the brick whose disk an event may change: the one that handles a message, or stops in the midst of that, or is down and starts, or was to start
+abbrev pub changes_disk_of : Layout → World → Event → Option BrickId
+changes_disk_of layout w (Invokes brick ask) = None
+changes_disk_of layout w (Delivers number) = receiver_of layout w (packet_of w.packets number)
+changes_disk_of layout w (Sets brick time) = None
+changes_disk_of layout w (Ticks brick) = None
+changes_disk_of layout w (Stops brick None) = if is_down layout w brick then Some brick else None
+changes_disk_of layout w (Stops brick (Some number)) = Some brick
+changes_disk_of layout w (Starts brick openings found) = if is_down layout w brick then Some brick else None
 
 -- every disk but that of this brick, if there is one, is as it was
 abbrev pub KeepsOthers : Option BrickId → List MemDisk → List MemDisk → Type 0
 KeepsOthers None old new = new ≡ old
 KeepsOthers (Some brick) old new = (i : ℕ) → i ≢ brick.0 → slice_get new i ≡ slice_get old i
 
+-- a read of the disk gives what it gave, and a crash leaves nothing that it would not have left
+pub record IsUnwritten (old new : MemDisk) : Type 0 where
+  pub content : content_of new ≡ content_of old
+  pub crash : (image : List ℕ) → may_be_left new image → may_be_left old image
+
+-- so it is with each of these
+abbrev pub AreUnwritten : List MemDisk → List MemDisk → Type 0
+AreUnwritten old new = (i : ℕ) (was disk : MemDisk) → slice_get old i ≡ Some was → slice_get new i ≡ Some disk → IsUnwritten was disk
+
+-- An event changes no disk but that of its brick, and nothing of that where it makes no call of it.
+pub record LeavesDisks (layout : Layout) (w : World) (event : Event) (old new : List MemDisk) : Type 0 where
+  pub others : KeepsOthers (changes_disk_of layout w event) old new
+  pub still : MakesNoCall layout w event → AreUnwritten old new
+
 -- each of these events, one after another from this world, changes no disk but that of its brick
 abbrev pub KeepsDisks : Setting → World → List Event → List MemDisk → List MemDisk → Type 0
 KeepsDisks setting w [] old new = new ≡ old
 KeepsDisks setting w (event ∷ events) old new =
-    (next : List MemDisk) × KeepsOthers (changes_disk_of w event) old next × KeepsDisks setting (happens setting w event) events next new
+    (next : List MemDisk) × LeavesDisks setting.layout w event old next × KeepsDisks setting (happens setting w event) events next new
 
 -- so each did, and after them a read of each disk gives what it gave
 pub record LeavesContents (setting : Setting) (w : World) (events : List Event) (old new : List MemDisk) : Type 0 where

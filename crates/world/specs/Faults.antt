@@ -1,5 +1,5 @@
 -- Which events of the machine a line of a schedule is, where a call of a disk may be cut short or fail in the midst of it.
-use Rattle.std.specs.Prelude.{◌≡◌, ◌⊎◌, ℕ, ◌+◌, ◌<◌, ◌≤◌, ◌&&◌, Bool, true, false, not, List, [], ◌∷◌, map, Option, Some, None, slice_get}
+use Rattle.std.specs.Prelude.{◌≡◌, ◌⊎◌, ℕ, ◌+◌, ◌<◌, ◌≤◌, Bool, true, false, List, [], ◌∷◌, map, Option, Some, None, slice_get}
 use Rattle.fab_base.specs.declared.identities.BrickId.{BrickId}
 use Rattle.fab_base.specs.Layouts.{Layout}
 use Rattle.fab_disk.specs.declared.disk.Plan.{Plan}
@@ -16,7 +16,7 @@ use Rattle.messages.specs.declared.packets.Packet.{Packet}
 use Rattle.brick_store.specs.Images.{IsListed}
 use Rattle.brick_store.specs.Calls.{opening_calls}
 use Rattle.brick_store.specs.Openings.{opens_appendable}
-use Rattle.replica.specs.Calls.{message_calls}
+use Rattle.node.specs.Calls.{packet_calls}
 use Rattle.node.specs.Running.{shape_at, ImageShows, ShowsEither, reopened}
 use Rattle.lines.specs.declared.forms.Fault.{Fault}
 use Rattle.lines.specs.declared.forms.Fault.TheVariants.{Cut, Fail}
@@ -24,9 +24,10 @@ use Rattle.lines.specs.declared.forms.Line.{Line}
 use Rattle.lines.specs.declared.forms.Line.TheVariants.{Deliver, Crash, Start, Calm}
 use Rattle.stripe_code.specs.Codes.{coding}
 use Rattle.protocol.specs.Nodes.{Node, absorbed, stopped, may_open}
-use Rattle.protocol.specs.Worlds.{World, Event, Delivers, Stops, Starts, Found, Before, After, is_brick, is_up, packet_of}
+use Rattle.protocol.specs.Worlds.{World, Event, Delivers, Stops, Starts, Found, Before, After, is_up, packet_of}
 use Rattle.world.specs.Runs.{brick_of, events_of}
 use Rattle.world.specs.Calms.{IsCalmRun}
+use Rattle.world.specs.EventCalls.{is_down}
 
 -- what is to befall a call of the disk
 abbrev pub plan_of : Option Fault → Plan
@@ -66,23 +67,19 @@ pub record ReadsAs (layout : Layout) (me : BrickId) (before after : Node) (calls
   pub late : calls < calls_made (plan_of fault) + 2 → ImageShows layout me after (content_of disk)
 
 -- What is left of the disk of a brick that this befell in the midst of a delivery of so many calls. As it was at the call, whatever a crash might have
--- left shows one of the two, and what the last sync left the brick before it.
+-- left shows the brick before the delivery or after it, its store opened as often as before, and what the last sync left the brick before it.
 pub record IsLeft (layout : Layout) (me : BrickId) (before after : Node) (calls : ℕ) (fault : Option Fault) (disk : MemDisk) : Type 0 where
   pub was : MemDisk
-  pub holds : HoldsOne layout me before after was
+  pub holds : (image : List ℕ) → may_be_left was image → ShowsEither layout me before after image
   pub synced : ImageShows layout me before (certain_of was)
   pub reads : ReadsAs layout me before after calls fault was
   pub left : LeftBy fault was disk
-
--- so many calls keep what a packet makes the brick change, over a list of frames of so many bytes
-abbrev pub delivery_calls : Layout → BrickId → Node → Packet → ℕ → ℕ
-delivery_calls layout me node packet listed = message_calls layout me packet.from (shape_at layout me) listed node packet.message
 
 -- the handling of a packet by the brick that this disk keeps makes the call that the plan names
 pub record IsReached (layout : Layout) (me : BrickId) (node : Node) (packet : Packet) (disk : MemDisk) (plan : Plan) : Type 0 where
   pub listed : ℕ
   pub is_listed : IsListed (shape_at layout me) listed (content_of disk)
-  pub within : IsWithin (delivery_calls layout me node packet listed) plan
+  pub within : IsWithin (packet_calls layout me node packet listed) plan
 
 -- so does the opening of this disk
 pub record IsReachedOpening (layout : Layout) (me : BrickId) (disk : MemDisk) (plan : Plan) : Type 0 where
@@ -107,7 +104,7 @@ pub record StopsMidway (layout : Layout) (w : World) (old new : List MemDisk) (n
   pub left : (disk : MemDisk) → slice_get new struck.packet.to.0 ≡ Some disk
       → IsLeft layout struck.packet.to (stopped (w.nodes struck.packet.to.0))
       (stopped (absorbed (coding layout) struck.packet.to (w.nodes struck.packet.to.0) struck.packet))
-      (delivery_calls layout struck.packet.to (w.nodes struck.packet.to.0) struck.packet struck.reached.listed) fault disk
+      (packet_calls layout struck.packet.to (w.nodes struck.packet.to.0) struck.packet struck.reached.listed) fault disk
 
 -- a delivery that makes no such call
 pub record IsDelivered (layout : Layout) (w : World) (old : List MemDisk) (number : ℕ) (fault : Option Fault) (events : List Event) : Type 0 where
@@ -125,20 +122,18 @@ pub record Finds (layout : Layout) (me : BrickId) (before after : Node) (disk : 
   pub found : Found
   pub shows : ImageShows layout me (opened_more openings (found_of before after found)) (content_of disk)
 
--- a brick of the layout that is down
-abbrev pub is_down : Layout → World → BrickId → Bool
-is_down layout w brick = is_brick layout brick && not (w.up brick.0)
-
 -- the brick that was found, its store opened as often as it was
 abbrev pub found_in : {layout : Layout} {me : BrickId} {before after : Node} {disk : MemDisk} → Finds layout me before after disk → Node
 found_in {before = before} {after = after} finds = opened_more finds.openings (found_of before after finds.found)
 
--- What is left of the disk of a brick whose start was cut short, where its opening makes so many calls. What the last sync left is as it was before the
+-- What is left of the disk of a brick whose start was cut short, where its opening makes so many calls. Whatever a crash might have left then it might
+-- have left before the start, or it shows what was found, or that with its store opened once more. What the last sync left is as it was before the
 -- start, or shows what was found. A read gives what was found, or that with its store opened once more.
 pub record IsLeftOpening (layout : Layout) (me : BrickId) (before after : Node) (old : MemDisk) (finds : Finds layout me before after old) (calls : ℕ)
     (fault : Option Fault) (disk : MemDisk) : Type 0 where
   pub was : MemDisk
-  pub holds : HoldsOne layout me before after was
+  pub holds : (image : List ℕ) → may_be_left was image
+      → may_be_left old image ⊎ ShowsEither layout me (found_in finds) (reopened (found_in finds)) image
   pub synced : (certain_of was ≡ certain_of old) ⊎ ImageShows layout me (found_in finds) (certain_of was)
   pub reads : ReadsAs layout me (found_in finds) (reopened (found_in finds)) calls fault was
   pub left : LeftBy fault was disk

@@ -1,6 +1,7 @@
 pub mod Runs
 pub mod Calms
 pub mod Ledgers
+pub mod EventCalls
 pub mod Faults
 pub mod Disks
 pub mod Texts

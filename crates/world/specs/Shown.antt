@@ -12,6 +12,7 @@ use Rattle.fab_disk.specs.MemDisk.{IsSound, content_of}
 use Rattle.fab_disk.specs.declared.mem_disk.MemDisk.{MemDisk}
 use Rattle.brick_store.specs.Calls.{opening_calls}
 use Rattle.brick_store.specs.Openings.{opens_appendable}
+use Rattle.node.specs.Calls.{packet_calls}
 use Rattle.node.specs.Running.{Running, state_of, shape_at}
 use Rattle.fab_base.specs.Layouts.{Layout, Group}
 use Rattle.protocol.specs.Coordinators.{Coordinator}
@@ -24,8 +25,8 @@ use Rattle.protocol.specs.Happenings.{writes}
 use Rattle.protocol.specs.Settings.{Setting}
 use Rattle.protocol.specs.Worlds.{Event}
 use Rattle.world.specs.Runs.{brick_of}
-use Rattle.world.specs.Faults.{HoldsOne, IsEventsOf, IsStartOf, IsLeft, IsLeftOpening, IsReached, IsReachedOpening, Finds, plan_of, found_of, delivery_calls}
-use Rattle.world.specs.Disks.{ShowsDisk, KeepsOthers, KeepsDisks, LeavesContents}
+use Rattle.world.specs.Faults.{HoldsOne, IsEventsOf, IsStartOf, IsLeft, IsLeftOpening, IsReached, IsReachedOpening, Finds, plan_of, found_of}
+use Rattle.world.specs.Disks.{ShowsDisk, IsUnwritten, AreUnwritten, KeepsDisks, LeavesContents}
 use Rattle.lines.specs.declared.forms.Fault.{Fault}
 use Rattle.lines.specs.declared.forms.Line.{Line}
 use Rattle.lines.specs.declared.forms.Line.TheVariants.{Calm}
@@ -167,6 +168,7 @@ pub record TookWhole (layout : Layout) (me : BrickId) (state : machine.Node) (ti
   pub answers : outs.answers ≡ (machine.received (coding layout) me time state packet).answers
   pub on : (after : machine.Node) → ShowsPower layout me (machine.received (coding layout) me time state packet).node after true power
   pub spared : IsReached layout me state packet disk (plan_of fault) → ⊥
+  pub still : ((listed : ℕ) → packet_calls layout me state packet listed ≡ 0) → IsUnwritten disk (disk_in power)
 
 -- or a call was befallen in the midst of that, and the brick is down
 pub record TookPart (layout : Layout) (me : BrickId) (state : machine.Node) (packet : Packet) (disk : MemDisk) (fault : Option Fault)
@@ -174,7 +176,7 @@ pub record TookPart (layout : Layout) (me : BrickId) (state : machine.Node) (pac
   pub reached : IsReached layout me state packet disk (plan_of fault)
   pub off : ShowsPower layout me (machine.stopped state) (machine.stopped (machine.absorbed (coding layout) me state packet)) false power
   pub left : IsLeft layout me (machine.stopped state) (machine.stopped (machine.absorbed (coding layout) me state packet))
-      (delivery_calls layout me state packet reached.listed) fault (disk_in power)
+      (packet_calls layout me state packet reached.listed) fault (disk_in power)
 
 -- or memory was refused, and nothing has changed
 abbrev pub Takes : Layout → BrickId → machine.Node → ℕ → Packet → MemDisk → Option Fault → Power → Result (Option Sent) NoMem → Type 0
@@ -193,6 +195,7 @@ pub record WasStarted (layout : Layout) (me : BrickId) (state after : machine.No
 pub record IsWorn (layout : Layout) (me : BrickId) (state after : machine.Node) (disk : MemDisk) (power : Power) : Type 0 where
   pub finds : Finds layout me state after disk
   pub may : machine.may_open (finds.openings + 1) state ≡ false
+  pub still : IsUnwritten disk (disk_in power)
   pub off : ShowsPower layout me state after false power
 
 -- or a call was befallen in the midst of that
@@ -221,6 +224,7 @@ pub record HandledWhole (layout : Layout) (w : World) (number : BrickId) (packet
       (machine.put w.nodes number.0 (machine.received (coding layout) number (w.clocks number.0) (w.nodes number.0) packet).node) w.after w.up w.clocks
   pub spared : (disk : MemDisk) → slice_get (disks_of old) number.0 ≡ Some disk
       → IsReached layout number (w.nodes number.0) packet disk (plan_of fault) → ⊥
+  pub still : ((listed : ℕ) → packet_calls layout number (w.nodes number.0) packet listed ≡ 0) → AreUnwritten (disks_of old) (disks_of new)
 
 pub record HandledPart (layout : Layout) (w : World) (number : BrickId) (packet : Packet) (fault : Option Fault) (old new : List Brick) : Type 0 where
   pub disk : MemDisk
@@ -231,7 +235,7 @@ pub record HandledPart (layout : Layout) (w : World) (number : BrickId) (packet 
       (machine.put w.up number.0 false) w.clocks
   pub left : (one : MemDisk) → slice_get (disks_of new) number.0 ≡ Some one → IsLeft layout number (machine.stopped (w.nodes number.0))
       (machine.stopped (machine.absorbed (coding layout) number (w.nodes number.0) packet))
-      (delivery_calls layout number (w.nodes number.0) packet reached.listed) fault one
+      (packet_calls layout number (w.nodes number.0) packet reached.listed) fault one
 
 abbrev pub HandledAs : Layout → World → BrickId → Packet → Option Fault → List Brick → List Brick → Result (Option Sent) NoMem → Type 0
 HandledAs layout w number packet fault old new (Ok (Some outs)) = HandledWhole layout w number packet fault old new outs
@@ -301,7 +305,7 @@ pub record StartsAs (layout : Layout) (w : World) (brick : BrickId) (fault : Opt
       (run (coding layout) events w).clocks
   pub comes : (if started then Marks else Idle) ≡ came_to (coding layout) w events
   pub tells : (history : History) → Tells history w → Tells history (run (coding layout) events w)
-  pub kept : (next : List MemDisk) → KeepsOthers (Some brick) (disks_of old) next → KeepsDisks (coding layout) w events (disks_of old) next
+  pub kept : KeepsDisks (coding layout) w events (disks_of old) (disks_of new)
 
 -- A line came to this outcome, and is these events: the state shows the world after them, and no disk has changed but theirs.
 pub record ComesTo (layout : Layout) (w : World) (disks : List MemDisk) (state : Simulation) (line : Line) (outcome : Outcome)

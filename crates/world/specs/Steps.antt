@@ -9,7 +9,7 @@ use Rattle.stripe_code.specs.Codes.{coding}
 use Rattle.calm_laws.specs.Logs.{log_in}
 use Rattle.world.specs.Runs.{Run, Step, world_of, brick_of}
 use Rattle.world.specs.Faults.{IsEventsOf}
-use Rattle.world.specs.Disks.{KeepsDisks, LeavesContents}
+use Rattle.world.specs.Disks.{ShowsDisks, KeepsDisks, LeavesContents}
 use Rattle.world.specs.Shown.{IsBegunBy}
 use Rattle.world.specs.Texts.{outcome_text, new_marks, line_text, step_text}
 use Rattle.world.specs.declared.simulations.Outcome.{Outcome}
@@ -21,11 +21,13 @@ abbrev pub with_step : Run → Step → List MemDisk → Run
 with_step r step disks = record { layout = r.layout; steps = r.steps ++ step ∷ []; disks = disks }
 
 -- A step of this line was run: its events are such as the line is over these disks, and no disk has changed but those of the bricks that they are events of.
+-- Each disk then keeps what the machine's brick keeps.
 pub record Runs (old new : Run) (line : Line) (step : Step) : Type 0 where
   pub line_is : step.line ≡ line
   pub events_are : IsEventsOf old.layout (world_of old) old.disks new.disks line step.events
   pub run : new ≡ with_step old step new.disks
   pub disks : KeepsDisks (coding old.layout) (world_of old) step.events old.disks new.disks
+  pub shows : ShowsDisks new
 
 -- a step of this line was run, and what it came to, with the marks that were made, is printed so
 pub record RunsTo (old new : Run) (line : Line) (outcome : Outcome) : Type 0 where

@@ -1,21 +1,49 @@
 -- The append, after room was made for it.
-use Rattle.std.proofs.Common.{rules, ◌≡◌, ◌++◌, ◌∷◌, [], ℕ, Some, None, List, length, Ok, Err, refl, sym, ap, subst, ◌∙◌, arith}
+use Rattle.std.proofs.Common.{◌≡◌, ◌+◌, ◌++◌, ◌∷◌, [], ℕ, ⊎_elim, List, Option, Some, None, length, Ok, Err, refl, sym, ap, subst, ◌∙◌, arith}
 use Rattle.std.proofs.lemmas.Result.{err_from_is_err_and}
+use Rattle.fab_disk.specs.Changing.{Whole}
+use Rattle.frame_store.specs.Listed.{size_of, frame_of}
+use Rattle.frame_store.specs.Ends.{end_of}
 use Rattle.frame_store.specs.declared.faults.FrameFault.{FrameFault}
-use Rattle.frame_store.specs.Listed.{frame_of}
 use Rattle.brick_state.specs.Indexes.{state_of, limits_of}
 use Rattle.brick_store.specs.Images.{record_of}
-use Rattle.brick_store.specs.declared.faults.StoreFault.TheVariants.{NoMemory}
 use Rattle.brick_store.specs.Bricks.{fault_of}
-use Rattle.brick_store.specs.Steps.{changed, HasAppendRoom}
-use Rattle.fab_disk.proofs.Plans.{run_both, run_whole}
-use Rattle.frame_store.specs.Listed.{size_of}
-use Rattle.frame_store.proofs.Words.{run_by, cause_by}
 use Rattle.brick_store.specs.Calls.{calls_with}
+use Rattle.brick_store.specs.Steps.{changed, HasAppendRoom}
 use Rattle.brick_store.proofs.Counting.{room_then}
-use Rattle.brick_store.proofs.Stepping.{words, call_made, call_refused, call_moments, steps_both, may_go_on, nothing_changed, change_leads, memory_refused, refused, room_less}
-use Rattle.brick_store.proofs.Cutting.{call_cut, first_cut, then_cut}
+use Rattle.brick_store.proofs.Stepping.{call_made, call_refused, step_from, step_stopped, not_halted, refused, room_less}
+use Rattle.brick_store.proofs.StateChanges.{unbegun, not_whole, not_begun_so, at_fault, state_change, may_go_on, change_leads, first_stopped, room_then_changed}
 use Rattle.brick_store.proofs.commits.append_record.Goals as goal
+
+pub returns-in_err-frame-clause-change : goal.returns-in_err-frame-clause-change
+returns-in_err-frame-clause-change g c =
+    let st = state_of c.args.index.now in
+    let p = err_from_is_err_and c.from_residual.result c.from_residual.ensures.1 in
+    rw (p.1, p.2) (unbegun g.D.Disk g.met.D.Disk.only_now _ None st (changed (limits_of c.args.index.now) c.args.item.now st) c.args.frames.now)
+
+pub returns-in_err-make_room-clause-change : goal.returns-in_err-make_room-clause-change
+returns-in_err-make_room-clause-change g c =
+    let d = g.D.Disk in
+    let index = c.args.index.now in
+    let st = state_of index in
+    let next = changed (limits_of index) c.args.item.now st in
+    let old = c.args.frames.now in
+    let f = c.in_err-make_room.field-0.0 in
+    let body = c.len.ensures ∙ c.in_ok-frame.ensures.length in
+    let sum = ap (λ (n : ℕ). calls_with old.shape (size_of old.frames) n 4) (sym body) ∙ room_then old.shape (size_of old.frames) c.len.result 4 in
+    let p = err_from_is_err_and c.from_residual-in_err-make_room.result c.from_residual-in_err-make_room.ensures.1 in
+    rw (p.1, p.2) (first_stopped d None st next old (calls_with old.shape (size_of old.frames) c.len.result 0) _ c.make_room.new.frames.disk _ (omega (arith, sum)) (not_whole f)
+    c.in_err-make_room.ensures.change)
+
+pub returns-in_err-make_room-clause-step : goal.returns-in_err-make_room-clause-step
+returns-in_err-make_room-clause-step g c =
+    let d = g.D.Disk in
+    let index = c.args.index.now in
+    let st = state_of index in
+    let next = changed (limits_of index) c.args.item.now st in
+    let old = c.args.frames.now in
+    let p = err_from_is_err_and c.from_residual-in_err-make_room.result c.from_residual-in_err-make_room.ensures.1 in
+    rw (p.1, p.2) (step_stopped d st next old c.make_room.new.frames c.in_err-make_room.field-0.0 c.in_err-make_room.ensures.step)
 
 pub returns-in_err-append-clause-step : goal.returns-in_err-append-clause-step
 returns-in_err-append-clause-step g c =
@@ -28,29 +56,17 @@ returns-in_err-append-clause-step g c =
     let new = c.append.new.self in
     let frame = c.in_ok-frame.frame in
     let bytes = c.as_slice.result.now in
-    let f = c.in_err-append.field-0.0 in
+    let made = c.in_ok-make_room.ensures in
+    let may = may_go_on d (calls_with old.shape (size_of old.frames) c.len.result 0) None st st old mid c.requires.store.may made.step made.change in
+    let leads = change_leads d (limits_of index) c.args.item.now st old mid (frame_of frame.kind bytes) may made.step.shape c.requires.store.indexed.limits_are
+    (subst (λ (b : List ℕ). record_of (frame_of frame.kind b) ≡ Some c.args.item.now) (sym c.as_slice.ensures.value) c.in_ok-frame.ensures.read) c.requires.can in
     let call = c.in_err-append.ensures in
-    let first = c.in_ok-make_room.ensures.step in
-    let may = may_go_on d.tells d.seen d.may_leave d.moment d.left_since st st None old mid first in
-    let read = subst (λ (b : List ℕ). record_of (frame_of frame.kind b) ≡ Some c.args.item.now)
-    (sym c.as_slice.ensures.value) c.in_ok-frame.ensures.read in
-    let leads = change_leads d.tells d.seen d.may_leave d.moment d.left_since (limits_of index) c.args.item.now st old mid
-    (frame_of frame.kind bytes) first c.requires.indexed.limits_are read c.requires.can in
-    let words = words d 4 None st (mid.frames ++ frame_of frame.kind bytes ∷ []) mid new (refused f) may call.answer call.change in
-    let run = call_moments d.tells d.seen d.may_leave d.moment d.left_since None st next
-    (mid.frames ++ frame_of frame.kind bytes ∷ []) mid new.disk may leads words.any_moment in
-    let second = call_refused d.tells d.seen d.may_leave d.moment d.left_since None st next mid new f may call.refused run words.no_memory call.read call.answer in
-    let len : c.len.result ≡ length bytes = c.len.ensures ∙ sym (ap length c.as_slice.ensures.value) in
-    let never = λ (room : HasAppendRoom d.has_room mid c.len.result) (is : refused (fault_of f) ≡ refused NoMemory).
-    call.room (room_less d.has_room g.met.D.Disk.room_for_less mid _ _ _ _ _ _ _ _ _ _ (omega arith) (omega (arith, len)) (omega (arith, len))
-    (omega arith) (omega (arith, len)) room) (ap (refused {E = FrameFault}) (memory_refused f is)) in
     let p = err_from_is_err_and c.from_residual-in_err-append.result c.from_residual-in_err-append.ensures.1 in
-    rw (p.1, p.2) (steps_both d.tells d.seen d.may_leave d.moment d.left_since None st next old mid new (Err (fault_of f)) first second
-    (nothing_changed d.tells d.seen d.may_leave d.moment d.left_since None st next old mid new (Err (fault_of f))
-    (HasAppendRoom d.has_room mid c.len.result) second c.in_ok-make_room.ensures.room never))
+    rw (p.1, p.2) (step_from d st next old mid new _ made.step.shape made.step.closed
+    (call_refused d st next mid new c.in_err-append.field-0.0 may call.refused call.read call.answer))
 
-pub returns-in_err-append-clause-cut : goal.returns-in_err-append-clause-cut
-returns-in_err-append-clause-cut g c =
+pub returns-in_err-append-clause-change : goal.returns-in_err-append-clause-change
+returns-in_err-append-clause-change g c =
     let d = g.D.Disk in
     let index = c.args.index.now in
     let st = state_of index in
@@ -60,34 +76,23 @@ returns-in_err-append-clause-cut g c =
     let new = c.append.new.self in
     let frame = c.in_ok-frame.frame in
     let bytes = c.as_slice.result.now in
-    let f = c.in_err-append.field-0.0 in
     let made = c.in_ok-make_room.ensures in
-    let may = may_go_on d.tells d.seen d.may_leave d.moment d.left_since st st None old mid made.step in
-    let read = subst (λ (b : List ℕ). record_of (frame_of frame.kind b) ≡ Some c.args.item.now)
-    (sym c.as_slice.ensures.value) c.in_ok-frame.ensures.read in
-    let leads = change_leads d.tells d.seen d.may_leave d.moment d.left_since (limits_of index) c.args.item.now st old mid
-    (frame_of frame.kind bytes) made.step c.requires.indexed.limits_are read c.requires.can in
+    let may = may_go_on d (calls_with old.shape (size_of old.frames) c.len.result 0) None st st old mid c.requires.store.may made.step made.change in
+    let leads = change_leads d (limits_of index) c.args.item.now st old mid (frame_of frame.kind bytes) may made.step.shape c.requires.store.indexed.limits_are
+    (subst (λ (b : List ℕ). record_of (frame_of frame.kind b) ≡ Some c.args.item.now) (sym c.as_slice.ensures.value) c.in_ok-frame.ensures.read) c.requires.can in
     let call = c.in_err-append.ensures in
-    let words = words d 4 None st (mid.frames ++ frame_of frame.kind bytes ∷ []) mid new (refused f) may call.answer call.change in
-    let second = call_cut d.tells d.seen d.certain d.may_leave d.moment d.left_since 4 None st next
-    (mid.frames ++ frame_of frame.kind bytes ∷ []) mid new f may leads words.cut in
+    let f = c.in_err-append.field-0.0 in
+    let len : c.len.result ≡ length bytes = c.len.ensures ∙ sym (ap length c.as_slice.ensures.value) in
+    let never = λ (room : HasAppendRoom d.has_room mid c.len.result).
+    call.room (room_less d.has_room g.met.D.Disk.room_for_less mid _ _ _ _ _ _ _ _ _ _ (omega arith) (omega (arith, len)) (omega (arith, len))
+    (omega arith) (omega (arith, len)) room) in
+    let same = not_begun_so {P = mid ≡ old} f (not_halted f may.runs call.answer)
+    (λ is. ⊎_elim (λ at. at) (λ room. absurd (never room (ap (refused {E = FrameFault}) is))) made.room) in
     let body = c.len.ensures ∙ c.in_ok-frame.ensures.length in
     let sum = ap (λ (n : ℕ). calls_with old.shape (size_of old.frames) n 4) (sym body) ∙ room_then old.shape (size_of old.frames) c.len.result 4 in
     let p = err_from_is_err_and c.from_residual-in_err-append.result c.from_residual-in_err-append.ensures.1 in
-    rw (p.1, p.2) (then_cut d.tells d.seen d.certain d.may_leave d.moment d.left_since _ 4 _ None st next old mid new (Err (fault_of f)) sum
-    (λ told. made.run.counted told refl) made.step second)
-
-pub returns-in_err-make_room-clause-cut : goal.returns-in_err-make_room-clause-cut
-returns-in_err-make_room-clause-cut g c =
-    let d = g.D.Disk in
-    let index = c.args.index.now in
-    let st = state_of index in
-    let old = c.args.frames.now in
-    let body = c.len.ensures ∙ c.in_ok-frame.ensures.length in
-    let sum = ap (λ (n : ℕ). calls_with old.shape (size_of old.frames) n 4) (sym body) ∙ room_then old.shape (size_of old.frames) c.len.result 4 in
-    let p = err_from_is_err_and c.from_residual-in_err-make_room.result c.from_residual-in_err-make_room.ensures.1 in
-    rw (p.1, p.2) (first_cut d.tells d.seen d.certain d.may_leave d.moment d.left_since _ 4 _ None st (changed (limits_of index) c.args.item.now st) old
-    c.make_room.new.frames (Err c.in_err-make_room.field-0.0) sum (omega arith) c.in_err-make_room.ensures.cut)
+    rw (p.1, p.2) (room_then_changed d None st next old mid made.step.shape (calls_with old.shape (size_of old.frames) c.len.result 0) 4 _ new.disk _ sum same made.change
+    (at_fault d 4 None st next mid new.disk f (state_change d 4 None st next (mid.frames ++ frame_of frame.kind bytes ∷ []) mid new.disk (end_of (refused f)) may leads call.change)))
 
 pub returns-clause-step : goal.returns-clause-step
 returns-clause-step g c =
@@ -100,41 +105,31 @@ returns-clause-step g c =
     let new = c.append.new.self in
     let frame = c.in_ok-frame.frame in
     let bytes = c.as_slice.result.now in
+    let made = c.in_ok-make_room.ensures in
+    let may = may_go_on d (calls_with old.shape (size_of old.frames) c.len.result 0) None st st old mid c.requires.store.may made.step made.change in
+    let leads = change_leads d (limits_of index) c.args.item.now st old mid (frame_of frame.kind bytes) may made.step.shape c.requires.store.indexed.limits_are
+    (subst (λ (b : List ℕ). record_of (frame_of frame.kind b) ≡ Some c.args.item.now) (sym c.as_slice.ensures.value) c.in_ok-frame.ensures.read) c.requires.can in
     let call = c.in_ok-append.ensures in
-    let first = c.in_ok-make_room.ensures.step in
-    let may = may_go_on d.tells d.seen d.may_leave d.moment d.left_since st st None old mid first in
-    let read = subst (λ (b : List ℕ). record_of (frame_of frame.kind b) ≡ Some c.args.item.now)
-    (sym c.as_slice.ensures.value) c.in_ok-frame.ensures.read in
-    let leads = change_leads d.tells d.seen d.may_leave d.moment d.left_since (limits_of index) c.args.item.now st old mid
-    (frame_of frame.kind bytes) first c.requires.indexed.limits_are read c.requires.can in
-    let words = words d 4 None st (mid.frames ++ frame_of frame.kind bytes ∷ []) mid new (Ok tt) may call.answer call.change in
-    let second = call_made d.tells d.seen d.may_leave d.moment d.left_since None st next
-    (mid.frames ++ frame_of frame.kind bytes ∷ []) mid new may leads call.ok words.after words.durable words.any_moment call.read call.answer.halts in
-    steps_both d.tells d.seen d.may_leave d.moment d.left_since None st next old mid new (Ok tt) first second (λ bad. absurd cc)
+    step_from d st next old mid new (Ok tt) made.step.shape made.step.closed
+    (call_made d st next (mid.frames ++ frame_of frame.kind bytes ∷ []) mid new may leads call.ok call.read call.answer.halts)
 
-pub returns-clause-run : goal.returns-clause-run
-returns-clause-run g c =
+pub returns-clause-change : goal.returns-clause-change
+returns-clause-change g c =
     let d = g.D.Disk in
+    let index = c.args.index.now in
+    let st = state_of index in
+    let next = changed (limits_of index) c.args.item.now st in
     let old = c.args.frames.now in
     let mid = c.make_room.new.frames in
+    let new = c.append.new.self in
+    let frame = c.in_ok-frame.frame in
+    let bytes = c.as_slice.result.now in
+    let made = c.in_ok-make_room.ensures in
+    let may = may_go_on d (calls_with old.shape (size_of old.frames) c.len.result 0) None st st old mid c.requires.store.may made.step made.change in
+    let leads = change_leads d (limits_of index) c.args.item.now st old mid (frame_of frame.kind bytes) may made.step.shape c.requires.store.indexed.limits_are
+    (subst (λ (b : List ℕ). record_of (frame_of frame.kind b) ≡ Some c.args.item.now) (sym c.as_slice.ensures.value) c.in_ok-frame.ensures.read) c.requires.can in
+    let call = c.in_ok-append.ensures in
     let body = c.len.ensures ∙ c.in_ok-frame.ensures.length in
     let sum = ap (λ (n : ℕ). calls_with old.shape (size_of old.frames) n 4) (sym body) ∙ room_then old.shape (size_of old.frames) c.len.result 4 in
-    run_whole d.tells d.moment d.plan d.unlisted _ old.disk c.append.new.self.disk _ _ _ _ refl refl (λ bad. absurd cc)
-    (run_both d.tells d.moment d.plan d.unlisted _ 4 _ old.disk mid.disk c.append.new.self.disk _ _ _ _ sum refl (λ a b. a refl)
-    c.in_ok-make_room.ensures.run
-    (run_by d 4 _ _ _ mid.disk c.append.new.self.disk (Ok tt) c.in_ok-append.ensures.change))
-
-pub returns-in_err-append-clause-run : goal.returns-in_err-append-clause-run
-returns-in_err-append-clause-run g c =
-    let run = run_by g.D.Disk 4 _ _ _ c.make_room.new.frames.disk c.append.new.self.disk (refused c.in_err-append.field-0.0) c.in_err-append.ensures.change in
-    search (rules, run)
-
-pub returns-in_err-append-clause-cause : goal.returns-in_err-append-clause-cause
-returns-in_err-append-clause-cause g c =
-    let cause = cause_by g.D.Disk 4 _ _ _ c.make_room.new.frames.disk c.append.new.self.disk (refused c.in_err-append.field-0.0) c.in_err-append.ensures.change in
-    search (rules, cause)
-
-pub returns-clause-cause : goal.returns-clause-cause
-returns-clause-cause g c =
-    let cause = cause_by g.D.Disk 4 _ _ _ c.make_room.new.frames.disk c.append.new.self.disk (Ok tt) c.in_ok-append.ensures.change in
-    search (rules, cause)
+    room_then_changed d None st next old mid made.step.shape (calls_with old.shape (size_of old.frames) c.len.result 0) 4 _ new.disk Whole sum (λ is. absurd cc) made.change
+    (state_change d 4 None st next (mid.frames ++ frame_of frame.kind bytes ∷ []) mid new.disk Whole may leads call.change)

@@ -45,9 +45,9 @@ returns-in_err-sync-clause-cut g c =
     let meant = λ (is : refused (fault_of f) ≡ refused Disk). ap (refused {E = FrameFault}) (disk_meant f is) in
     let p = err_from_is_err_and c.from_residual-in_err-sync.result c.from_residual-in_err-sync.ensures.1 in
     rw (p.1, p.2) (λ told free closed is. sync_cut d.seen d.certain d.may_leave d.moment d.left_since _ old
-    c.reserve.new.self.disk c.sync.new.self.disk (state_of c.args.index.now) (c.requires.read told c.requires.runs) closed c.requires.found made.untouched
+    c.reserve.new.self.disk c.sync.new.self.disk (state_of c.args.index.now) (c.requires.held.read told c.requires.held.runs) closed c.requires.held.found made.still.untouched
     call.content made.certain call.certain
-    (few (is_appendable c.args.whole old c.args.body) _ _ (run_clock {whole = IsOk (refused f)} {cut = refused f ≡ refused frames.Disk} call.run told (made.plan.stays free) (meant is))))
+    (few (is_appendable c.args.whole old c.args.body) _ _ (run_clock {whole = IsOk (refused f)} {cut = refused f ≡ refused frames.Disk} call.run told (made.still.plan.stays free) (meant is))))
 
 pub returns : goal.returns
 returns g c = search rules

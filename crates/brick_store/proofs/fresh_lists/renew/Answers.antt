@@ -34,8 +34,8 @@ returns-in_err-sync-clause-cut g c =
     let meant = λ (is : refused (fault_of f) ≡ refused Disk). ap (refused {E = FrameFault}) (disk_meant f is) in
     let p = err_from_is_err_and c.from_residual-in_err-sync.result c.from_residual-in_err-sync.ensures.1 in
     rw (p.1, p.2) (λ told free closed is. sync_cut d.seen d.certain d.may_leave d.moment d.left_since 8 old
-    c.reserve.new.self.disk c.sync.new.self.disk (state_of c.args.index.now) (c.requires.read told c.requires.runs) closed c.requires.found made.untouched
-    call.content made.certain call.certain (omega (arith, run_clock {whole = IsOk (refused f)} {cut = refused f ≡ refused frames.Disk} call.run told (made.plan.stays free) (meant is))))
+    c.reserve.new.self.disk c.sync.new.self.disk (state_of c.args.index.now) (c.requires.held.read told c.requires.held.runs) closed c.requires.held.found made.still.untouched
+    call.content made.certain call.certain (omega (arith, run_clock {whole = IsOk (refused f)} {cut = refused f ≡ refused frames.Disk} call.run told (made.still.plan.stays free) (meant is))))
 
 pub returns-in_err-rewrite-clause-cut : goal.returns-in_err-rewrite-clause-cut
 returns-in_err-rewrite-clause-cut g c =
@@ -46,13 +46,13 @@ returns-in_err-rewrite-clause-cut g c =
     let made = c.in_ok-reserve.ensures in
     let call = c.in_ok-sync.ensures in
     let meant = λ (is : refused (fault_of f) ≡ refused Disk). ap (refused {E = FrameFault}) (disk_meant f is) in
-    let leads = live_lead (limits_of old.shape) c.in_ok-live.live.items st c.requires.kept c.in_ok-live.ensures.read in
+    let leads = live_lead (limits_of old.shape) c.in_ok-live.live.items st c.requires.held.kept c.in_ok-live.ensures.read in
     let held = c.sync.new.self in
     let words = words_of d 7 held c.rewrite.new.self c.in_ok-live.live.items None (refused f) call.read tt c.in_err-rewrite.ensures.change in
     let p = err_from_is_err_and c.from_residual-in_err-rewrite.result c.from_residual-in_err-rewrite.ensures.1 in
     rw (p.1, p.2) (λ told free closed is. rewrite_cut d.seen d.certain d.may_leave d.moment d.left_since old c.sync.new.self c.reserve.new.self.disk
-    c.rewrite.new.self.disk c.in_ok-live.live.items st made.untouched call.content (call.run.counted told refl) (call.same.shape ∙ made.same.shape)
-    (call.same.frames ∙ made.same.frames) c.requires.found leads
+    c.rewrite.new.self.disk c.in_ok-live.live.items st made.still.untouched call.content (call.run.counted told refl) (call.same.shape ∙ made.same.shape)
+    (call.same.frames ∙ made.same.frames) c.requires.held.found leads
     (words.cut (call.durable told) (call.same.closed ∙ made.same.closed ∙ closed) (meant is)))
 
 pub returns-in_err-rewrite-clause-moments : goal.returns-in_err-rewrite-clause-moments
@@ -62,11 +62,11 @@ returns-in_err-rewrite-clause-moments g c = λ told closed.
     let st = state_of c.args.index.now in
     let made = c.in_ok-reserve.ensures in
     let call = c.in_ok-sync.ensures in
-    let leads = live_lead (limits_of old.shape) c.in_ok-live.live.items st c.requires.kept c.in_ok-live.ensures.read in
+    let leads = live_lead (limits_of old.shape) c.in_ok-live.live.items st c.requires.held.kept c.in_ok-live.ensures.read in
     let held = c.sync.new.self in
     let words = words_of d 7 held c.rewrite.new.self c.in_ok-live.live.items None (refused c.in_err-rewrite.field-0.0) call.read tt c.in_err-rewrite.ensures.change in
-    renewed d.tells d.seen d.may_leave d.moment d.left_since g.met.D.Disk.only_now old c.sync.new.self c.reserve.new.self.disk c.rewrite.new.self.disk c.in_ok-live.live.items st made.untouched
-    call.time call.crash call.content (call.same.shape ∙ made.same.shape) (call.same.frames ∙ made.same.frames) c.requires.found leads
+    renewed d.tells d.seen d.may_leave d.moment d.left_since g.met.D.Disk.only_now old c.sync.new.self c.reserve.new.self.disk c.rewrite.new.self.disk c.in_ok-live.live.items st made.still.untouched
+    call.time call.crash call.content (call.same.shape ∙ made.same.shape) (call.same.frames ∙ made.same.frames) c.requires.held.found leads
     (words.any_moment (call.durable told) (call.same.closed ∙ made.same.closed ∙ closed))
 
 pub returns-in_err-rewrite-clause-no_memory : goal.returns-in_err-rewrite-clause-no_memory
@@ -99,12 +99,12 @@ returns-in_err-rewrite-clause-run g c =
     let never = call.room (room_less d.has_room g.met.D.Disk.room_for_less held _ _ _ _ _ _ _ _ _ _ (omega arith)
     (omega (arith, ap size_of are)) (omega (arith, ap size_of are)) (omega (arith, ap length are)) (omega arith)
     (synced.left 12 _ _ _ _ made.room)) in
-    let runs : held.halted ≡ false = synced.answer.halts ∙ made.answer.halts ∙ c.requires.runs in
-    let is : f ≡ frames.Disk = disk_failed f held.halted runs call.answer.only_then call.answer.a_store never in
+    let runs : held.halted ≡ false = synced.answer.halts ∙ made.answer.halts ∙ c.requires.held.runs in
+    let is : f ≡ frames.Disk = disk_failed f held.halted runs call.answer.only_then never in
     rw (p.1, p.2)
     (run_as d.tells d.moment d.plan d.unlisted 8 old.disk new _ _ _ _ (λ whole. absurd cc) (λ cut. ap Err is)
     (λ not_whole not_cut. absurd (not_cut (ap (refused {E = StoreFault}) (ap fault_of is))))
-    (run_after d.tells d.moment d.plan d.unlisted 8 old.disk c.reserve.new.self.disk new _ _ _ made.plan made.untouched.clock
+    (run_after d.tells d.moment d.plan d.unlisted 8 old.disk c.reserve.new.self.disk new _ _ _ made.still.plan made.still.untouched.clock
     (run_both d.tells d.moment d.plan d.unlisted 1 7 8 c.reserve.new.self.disk held.disk new _ _ _ _ refl refl
     (λ not_whole not_cut. not_cut (ap Err is)) synced.run
     (run_by d 7 _ _ _ held.disk new (refused f) call.change))))
@@ -116,11 +116,11 @@ returns-clause-moments g c = λ told closed.
     let st = state_of c.args.index.now in
     let made = c.in_ok-reserve.ensures in
     let call = c.in_ok-sync.ensures in
-    let leads = live_lead (limits_of old.shape) c.in_ok-live.live.items st c.requires.kept c.in_ok-live.ensures.read in
+    let leads = live_lead (limits_of old.shape) c.in_ok-live.live.items st c.requires.held.kept c.in_ok-live.ensures.read in
     let held = c.sync.new.self in
-    let words = words_of d 7 held c.rewrite.new.self c.in_ok-live.live.items None (Ok tt) call.read (c.in_ok-rewrite.ensures.answer.halts ∙ call.answer.halts ∙ made.answer.halts ∙ c.requires.runs) c.in_ok-rewrite.ensures.change in
-    renewed d.tells d.seen d.may_leave d.moment d.left_since g.met.D.Disk.only_now old c.sync.new.self c.reserve.new.self.disk c.rewrite.new.self.disk c.in_ok-live.live.items st made.untouched
-    call.time call.crash call.content (call.same.shape ∙ made.same.shape) (call.same.frames ∙ made.same.frames) c.requires.found leads
+    let words = words_of d 7 held c.rewrite.new.self c.in_ok-live.live.items None (Ok tt) call.read (c.in_ok-rewrite.ensures.answer.halts ∙ call.answer.halts ∙ made.answer.halts ∙ c.requires.held.runs) c.in_ok-rewrite.ensures.change in
+    renewed d.tells d.seen d.may_leave d.moment d.left_since g.met.D.Disk.only_now old c.sync.new.self c.reserve.new.self.disk c.rewrite.new.self.disk c.in_ok-live.live.items st made.still.untouched
+    call.time call.crash call.content (call.same.shape ∙ made.same.shape) (call.same.frames ∙ made.same.frames) c.requires.held.found leads
     (words.any_moment (call.durable told) (call.same.closed ∙ made.same.closed ∙ closed))
 
 pub returns-clause-may : goal.returns-clause-may
@@ -131,10 +131,10 @@ returns-clause-may g c =
     let here = c.in_ok-rewrite.ensures in
     let shape : new.shape ≡ old.shape = here.ok.shape ∙ c.in_ok-sync.ensures.same.shape ∙ c.in_ok-reserve.ensures.same.shape in
     let leads : Leads (limits_of old.shape) c.in_ok-live.live.items empty st = live_lead
-    (limits_of old.shape) c.in_ok-live.live.items st c.requires.kept c.in_ok-live.ensures.read in
+    (limits_of old.shape) c.in_ok-live.live.items st c.requires.held.kept c.in_ok-live.ensures.read in
     let listed : Leads (limits_of old.shape) new.frames empty st = subst (λ (xs : List Frame). Leads (limits_of old.shape) xs empty st)
     (sym here.ok.frames) leads in
-    let runs : new.halted ≡ false = here.answer.halts ∙ c.in_ok-sync.ensures.answer.halts ∙ c.in_ok-reserve.ensures.answer.halts ∙ c.requires.runs in
+    let runs : new.halted ≡ false = here.answer.halts ∙ c.in_ok-sync.ensures.answer.halts ∙ c.in_ok-reserve.ensures.answer.halts ∙ c.requires.held.runs in
     record {
       runs = runs;
       leads = subst (λ (s : Shape). Leads (limits_of s) new.frames empty st) (sym shape) listed;

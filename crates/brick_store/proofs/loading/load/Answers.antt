@@ -18,7 +18,7 @@ returns-in-Err-clause-no_slot g c = λ told no.
     let index = c.in_ok-folded.folded.index in
     let here = c.in_ok-folded.ensures in
     let inside = inside_from d.tells d.seen c.args.frames.now c.args.records (indexes.limits_of index) (state_of index) c.requires.records
-    (here.state ∙ ap (λ (fs : List Frame). folded (limits_for c.args.records) (records_of fs) empty) c.frames.ensures) c.deref.result.now
+    (here.state ∙ ap (λ (fs : List Frame). folded (limits_for c.args.records) (records_of fs) empty) c.requires.list) c.deref.result.now
     (c.deref.ensures.value ∙ c.in_ok-slots.ensures) (c.requires.read told c.requires.runs) in
     let fault : c.in-Err.fault ≡ NotAStore = cc in
     c.in-Err.ensures.no_slot (ap Err fault) inside
@@ -31,9 +31,9 @@ returns-in-Ok g c =
     let here = c.in_ok-folded.ensures in
     loaded_from d.tells d.seen c.args.frames.now c.args.records (indexes.limits_of index) (state_of index) c.requires.records
     (here.state ∙ ap (λ (fs : List Frame). folded (limits_for c.args.records)
-    (records_of fs) empty) c.frames.ensures) c.in_ok-folded.folded.whole c.in-Ok.blocks c.deref.result.now
-    here.limits (λ w. subst (λ (fs : List Frame). Leads (limits_for c.args.records) fs empty (state_of index)) c.frames.ensures
-    (here.whole w)) (here.whole_is ∙ ap (λ (fs : List Frame). is_whole (limits_for c.args.records) fs empty) c.frames.ensures) here.members
+    (records_of fs) empty) c.requires.list) c.in_ok-folded.folded.whole c.in-Ok.blocks c.deref.result.now
+    here.limits (λ w. subst (λ (fs : List Frame). Leads (limits_for c.args.records) fs empty (state_of index)) c.requires.list
+    (here.whole w)) (here.whole_is ∙ ap (λ (fs : List Frame). is_whole (limits_for c.args.records) fs empty) c.requires.list) here.members
     (c.deref.ensures.value ∙ c.in_ok-slots.ensures) c.in-Ok.ensures.held c.in-Ok.ensures.read (λ told. c.requires.read told c.requires.runs)
     (omega arith)
     ) in

@@ -31,7 +31,7 @@ returns-in-Ok-take_up-clause-state g c = λ told.
     let size = c.take_up.new.frames.shape.block in
     subst (λ (s : Shape). (st : StateOf Version) → StandsFor s st (d.seen c.args.disk) → resolved (cached size taken.blocks)
     (state_of taken.index) ≡ booted (st.boot + 1) st) here.shape
-    (λ st stands. state_counted d.seen held (here.read told here.runs) (d.seen c.args.disk) here.untouched.content st stands taken.blocks size
+    (λ st stands. state_counted d.seen held (here.read told here.runs) (d.seen c.args.disk) here.still.untouched.content st stands taken.blocks size
     (state_of taken.index) (ap (λ (s : Shape). s.block) made.shape) (made.stored told) made.state)
 
 pub returns-in-Ok-take_up-clause-found : goal.returns-in-Ok-take_up-clause-found
@@ -44,7 +44,7 @@ returns-in-Ok-take_up-clause-found g c = λ told.
     let size = c.take_up.new.frames.shape.block in
     subst (λ (s : Shape). (st : StateOf Version) × IsFound s st (d.seen c.args.disk) × (st.boot < 4294967295)
     × (resolved (cached size taken.blocks) (state_of taken.index) ≡ booted (st.boot + 1) st)) here.shape
-    (found_there d.seen held (here.read told here.runs) (d.seen c.args.disk) here.untouched.content taken.blocks size (state_of taken.index)
+    (found_there d.seen held (here.read told here.runs) (d.seen c.args.disk) here.still.untouched.content taken.blocks size (state_of taken.index)
     (ap (λ (s : Shape). s.block) made.shape) (made.stored told) made.state (made.boots refl))
 
 pub returns-in-Ok-take_up-clause-durable : goal.returns-in-Ok-take_up-clause-durable
@@ -62,7 +62,7 @@ returns-in-Ok-take_up-clause-moments g c = λ told.
     let new = c.take_up.new.frames.disk in
     subst (λ (s : Shape). (st : StateOf Version) → StandsFor s st (d.seen c.args.disk) → LeavesOnly d.moment d.left_since c.args.disk new
     (IsAllowedOr (d.may_leave c.args.disk) (StandsForEither s st (booted (st.boot + 1) st)))) here.shape
-    (opening_moments d.seen d.may_leave d.moment d.left_since g.met.D.Disk.only_now c.args.disk new held (here.read told here.runs) here.untouched
+    (opening_moments d.seen d.may_leave d.moment d.left_since g.met.D.Disk.only_now c.args.disk new held (here.read told here.runs) here.still.untouched
     (c.in-Ok-take_up.ensures.moments told))
 
 pub returns-in-Ok-take_up-clause-any_moment : goal.returns-in-Ok-take_up-clause-any_moment
@@ -73,11 +73,11 @@ returns-in-Ok-take_up-clause-any_moment g c = λ told.
     let new = c.take_up.new.frames.disk in
     subst (λ (s : Shape). (st : StateOf Version) → LeavesState s st (d.may_leave c.args.disk) → LeavesOnly d.moment d.left_since c.args.disk new
     (StandsForEither s st (booted (st.boot + 1) st))) here.shape
-    (synced_moments d.seen d.may_leave d.moment d.left_since g.met.D.Disk.only_now c.args.disk new held (here.read told here.runs) here.untouched
+    (synced_moments d.seen d.may_leave d.moment d.left_since g.met.D.Disk.only_now c.args.disk new held (here.read told here.runs) here.still.untouched
     (g.met.D.Disk.seen_is_left c.args.disk) (c.in-Ok-take_up.ensures.moments told))
 
-pub returns-in-Err-take_up-clause-moments_err : goal.returns-in-Err-take_up-clause-moments_err
-returns-in-Err-take_up-clause-moments_err g c = λ told.
+pub returns-clause-moments_err : goal.returns-clause-moments_err
+returns-clause-moments_err g c = λ told.
     let d = g.D.Disk in
     let held = c.in-Ok.frames in
     let here = c.in-Ok.ensures in
@@ -89,11 +89,11 @@ returns-in-Err-take_up-clause-moments_err g c = λ told.
     (IsAllowedOr (d.may_leave c.args.disk) (StandsForEither shape st (booted (st.boot + 1) st)))) back
     (subst (λ (s : Shape). (st : StateOf Version) → StandsFor s st (d.seen c.args.disk) → LeavesOnly d.moment d.left_since c.args.disk new
     (IsAllowedOr (d.may_leave c.args.disk) (StandsForEither s st (booted (st.boot + 1) st)))) here.shape
-    (opening_moments d.seen d.may_leave d.moment d.left_since g.met.D.Disk.only_now c.args.disk new held (here.read told here.runs) here.untouched
+    (opening_moments d.seen d.may_leave d.moment d.left_since g.met.D.Disk.only_now c.args.disk new held (here.read told here.runs) here.still.untouched
     (c.in-Err-take_up.ensures.moments told)))
 
-pub returns-in-Err-take_up-clause-any_moment_err : goal.returns-in-Err-take_up-clause-any_moment_err
-returns-in-Err-take_up-clause-any_moment_err g c = λ told.
+pub returns-clause-any_moment_err : goal.returns-clause-any_moment_err
+returns-clause-any_moment_err g c = λ told.
     let d = g.D.Disk in
     let held = c.in-Ok.frames in
     let here = c.in-Ok.ensures in
@@ -104,16 +104,16 @@ returns-in-Err-take_up-clause-any_moment_err g c = λ told.
     → LeavesOnly d.moment d.left_since c.args.disk last (StandsForEither shape st (booted (st.boot + 1) st))) back
     (subst (λ (s : Shape). (st : StateOf Version) → LeavesState s st (d.may_leave c.args.disk) → LeavesOnly d.moment d.left_since c.args.disk new
     (StandsForEither s st (booted (st.boot + 1) st))) here.shape
-    (synced_moments d.seen d.may_leave d.moment d.left_since g.met.D.Disk.only_now c.args.disk new held (here.read told here.runs) here.untouched
+    (synced_moments d.seen d.may_leave d.moment d.left_since g.met.D.Disk.only_now c.args.disk new held (here.read told here.runs) here.still.untouched
     (g.met.D.Disk.seen_is_left c.args.disk) (c.in-Err-take_up.ensures.moments told)))
 
-pub returns-in-Err-take_up-clause-worn : goal.returns-in-Err-take_up-clause-worn
-returns-in-Err-take_up-clause-worn g c = λ is told.
+pub returns-clause-worn : goal.returns-clause-worn
+returns-clause-worn g c = λ is told.
     let d = g.D.Disk in
     let held = c.in-Ok.frames in
     let here = c.in-Ok.ensures in
     subst (λ (s : Shape). (st : StateOf Version) × IsFound s st (d.seen c.args.disk) × (st.boot ≡ 4294967295)) here.shape
-    (worn_there d.seen held (here.read told here.runs) (d.seen c.args.disk) here.untouched.content (c.in-Err-take_up.ensures.worn (ap Err is)))
+    (worn_there d.seen held (here.read told here.runs) (d.seen c.args.disk) here.still.untouched.content (c.in-Err-take_up.ensures.worn (ap Err is)))
 
 pub returns-in-Ok-take_up-clause-run : goal.returns-in-Ok-take_up-clause-run
 returns-in-Ok-take_up-clause-run g c = λ told frames closed opens.
@@ -123,16 +123,16 @@ returns-in-Ok-take_up-clause-run g c = λ told frames closed opens.
     let shape = shape_of c.args.me.0 c.args.block c.args.records in
     let shows = subst (λ (s : Shape). OpensAs s held.frames held.closed (d.seen held.disk)) here.shape (here.read told here.runs).opens in
     let once = opens_once shape (d.seen c.args.disk) held.frames frames held.closed closed
-    (subst (OpensAs shape held.frames held.closed) here.untouched.content shows) opens in
+    (subst (OpensAs shape held.frames held.closed) here.still.untouched.content shows) opens in
     let calls = opening_is held (is_whole (limits_of held.shape) held.frames empty) (is_whole (limits_of shape) frames empty) shape frames closed
     (ap (λ (s : Shape). is_whole (limits_of s) held.frames empty) here.shape
     ∙ ap (λ (fs : List Frame). is_whole (limits_of shape) fs empty) once.0) here.shape once.0 once.1 in
     run_whole d.tells d.moment d.plan d.unlisted _ c.args.disk c.take_up.new.frames.disk (true ≡ true) _ (Unit {0}) ⊥ refl tt (λ never. never)
-    (run_after d.tells d.moment d.plan d.unlisted _ c.args.disk held.disk c.take_up.new.frames.disk _ _ _ here.plan here.untouched.clock
+    (run_after d.tells d.moment d.plan d.unlisted _ c.args.disk held.disk c.take_up.new.frames.disk _ _ _ here.still.plan here.still.untouched.clock
     (run_calls d.tells d.moment d.plan d.unlisted _ _ held.disk c.take_up.new.frames.disk _ _ calls c.in-Ok-take_up.ensures.run))
 
-pub returns-in-Err-take_up-clause-run_err : goal.returns-in-Err-take_up-clause-run_err
-returns-in-Err-take_up-clause-run_err g c = λ told frames closed opens.
+pub returns-clause-run_err : goal.returns-clause-run_err
+returns-clause-run_err g c = λ told frames closed opens.
     let d = g.D.Disk in
     let held = c.in-Ok.frames in
     let here = c.in-Ok.ensures in
@@ -141,7 +141,7 @@ returns-in-Err-take_up-clause-run_err g c = λ told frames closed opens.
     let back : new ≡ c.into_disk.result = sym c.into_disk.ensures in
     let shows = subst (λ (s : Shape). OpensAs s held.frames held.closed (d.seen held.disk)) here.shape (here.read told here.runs).opens in
     let once = opens_once shape (d.seen c.args.disk) held.frames frames held.closed closed
-    (subst (OpensAs shape held.frames held.closed) here.untouched.content shows) opens in
+    (subst (OpensAs shape held.frames held.closed) here.still.untouched.content shows) opens in
     let calls = opening_is held (is_whole (limits_of held.shape) held.frames empty) (is_whole (limits_of shape) frames empty) shape frames closed
     (ap (λ (s : Shape). is_whole (limits_of s) held.frames empty) here.shape
     ∙ ap (λ (fs : List Frame). is_whole (limits_of shape) fs empty) once.0) here.shape once.0 once.1 in
@@ -149,24 +149,24 @@ returns-in-Err-take_up-clause-run_err g c = λ told frames closed opens.
     subst (λ (last : g.row.D.Denot). IsRun d.tells d.moment d.plan d.unlisted (opening_calls (opens_appendable shape frames closed)) c.args.disk last
     ⊥ (c.in-Err-take_up.fault ≡ Disk)) back
     (run_as d.tells d.moment d.plan d.unlisted _ c.args.disk new _ _ _ _ (λ never. absurd never) (λ is. ap Err is)
-    (λ a b. made.waits (λ whole. absurd cc) (λ is. b (let same : c.in-Err-take_up.fault ≡ Disk = cc in same)) ∙ here.plan.same)
-    (run_after d.tells d.moment d.plan d.unlisted _ c.args.disk held.disk new _ _ _ here.plan here.untouched.clock
+    (λ a b. made.waits (λ whole. absurd cc) (λ is. b (let same : c.in-Err-take_up.fault ≡ Disk = cc in same)) ∙ here.still.plan.same)
+    (run_after d.tells d.moment d.plan d.unlisted _ c.args.disk held.disk new _ _ _ here.still.plan here.still.untouched.clock
     (run_calls d.tells d.moment d.plan d.unlisted _ _ held.disk new _ _ calls made)))
 
-pub returns-in-Err-take_up-clause-not_worn : goal.returns-in-Err-take_up-clause-not_worn
-returns-in-Err-take_up-clause-not_worn g c = λ is told free st stands.
+pub returns-clause-not_worn : goal.returns-clause-not_worn
+returns-clause-not_worn g c = λ is told free st stands.
     let d = g.D.Disk in
     let held = c.in-Ok.frames in
     let here = c.in-Ok.ensures in
     let there = subst (λ (s : Shape). StandsFor s st (d.seen c.args.disk)) (sym here.shape) stands in
     omega (
       arith,
-      c.in-Err-take_up.ensures.counted (here.plan.stays free) (ap Err is),
-      boot_there d.seen held (here.read told here.runs) (d.seen c.args.disk) here.untouched.content st there,
+      c.in-Err-take_up.ensures.counted (here.still.plan.stays free) (ap Err is),
+      boot_there d.seen held (here.read told here.runs) (d.seen c.args.disk) here.still.untouched.content st there,
     )
 
-pub returns-in-Err-take_up-clause-cut : goal.returns-in-Err-take_up-clause-cut
-returns-in-Err-take_up-clause-cut g c = λ is told free frames closed opens st stands.
+pub returns-clause-cut : goal.returns-clause-cut
+returns-clause-cut g c = λ is told free frames closed opens st stands.
     let d = g.D.Disk in
     let held = c.in-Ok.frames in
     let here = c.in-Ok.ensures in
@@ -175,16 +175,16 @@ returns-in-Err-take_up-clause-cut g c = λ is told free frames closed opens st s
     let back : new ≡ c.into_disk.result = sym c.into_disk.ensures in
     let shows = subst (λ (s : Shape). OpensAs s held.frames held.closed (d.seen held.disk)) here.shape (here.read told here.runs).opens in
     let once = opens_once shape (d.seen c.args.disk) held.frames frames held.closed closed
-    (subst (OpensAs shape held.frames held.closed) here.untouched.content shows) opens in
+    (subst (OpensAs shape held.frames held.closed) here.still.untouched.content shows) opens in
     let calls = opening_is held (is_whole (limits_of held.shape) held.frames empty) (is_whole (limits_of shape) frames empty) shape frames closed
     (ap (λ (s : Shape). is_whole (limits_of s) held.frames empty) here.shape
     ∙ ap (λ (fs : List Frame). is_whole (limits_of shape) fs empty) once.0) here.shape once.0 once.1 in
     let found = found_in held.shape held.frames in
     let run = λ (at : held.closed ≡ true). subst (λ (n : ℕ). StopsOpening d.seen d.certain d.moment n held.disk new
     (IsKeptIn held.shape found (d.seen held.disk)) (IsKeptIn held.shape (booted (found.boot + 1) found) (d.seen held.disk))) calls
-    (c.in-Err-take_up.ensures.cut told (here.plan.stays free) at (ap Err is)) in
+    (c.in-Err-take_up.ensures.cut told (here.still.plan.stays free) at (ap Err is)) in
     subst (λ (last : g.row.D.Denot). StopsOpening d.seen d.certain d.moment (opening_calls (opens_appendable shape frames closed)) c.args.disk
     last (StandsFor shape st) (StandsFor shape (booted (st.boot + 1) st))) back
     (subst (λ (s : Shape). (x : StateOf Version) → StandsFor s x (d.seen c.args.disk) → StopsOpening d.seen d.certain d.moment
     (opening_calls (opens_appendable shape frames closed)) c.args.disk new (StandsFor s x) (StandsFor s (booted (x.boot + 1) x))) here.shape
-    (opening_cut d.seen d.certain d.may_leave d.moment d.left_since _ c.args.disk new held (here.read told here.runs) here.untouched here.certain run) st stands)
+    (opening_cut d.seen d.certain d.may_leave d.moment d.left_since _ c.args.disk new held (here.read told here.runs) here.still.untouched here.certain run) st stands)

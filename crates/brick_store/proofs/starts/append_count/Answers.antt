@@ -3,6 +3,8 @@ use Rattle.std.proofs.Common.{rules, ◌≡◌, ◌++◌, ◌∷◌, [], ℕ, So
 use Rattle.std.proofs.lemmas.Result.{err_from_is_err_and}
 use Rattle.frame_store.specs.declared.faults.FrameFault.{FrameFault}
 use Rattle.frame_store.specs.Listed.{frame_of}
+use Rattle.fab_disk.specs.Changing.{Whole}
+use Rattle.frame_store.specs.Ends.{end_of}
 use Rattle.frame_store.proofs.Words.{run_by, cause_by}
 use Rattle.brick_state.specs.Indexes.{state_of, limits_of}
 use Rattle.brick_store.specs.Images.{record_of}
@@ -10,8 +12,8 @@ use Rattle.brick_store.specs.Images as images
 use Rattle.brick_store.specs.declared.faults.StoreFault.TheVariants.{NoMemory}
 use Rattle.brick_store.specs.Bricks.{fault_of}
 use Rattle.brick_store.specs.Steps.{changed}
-use Rattle.brick_store.proofs.Stepping.{words, call_made, call_refused, call_moments, leads_changed, memory_refused, refused, room_less}
-use Rattle.brick_store.proofs.Cutting.{call_cut}
+use Rattle.brick_store.proofs.Stepping.{call_made, call_refused, leads_changed, memory_refused, refused, room_less}
+use Rattle.brick_store.proofs.StateChanges.{at_fault, state_change}
 use Rattle.brick_store.proofs.starts.append_count.Goals as goal
 
 pub returns-in_err-append-clause-step : goal.returns-in_err-append-clause-step
@@ -24,35 +26,32 @@ returns-in_err-append-clause-step g c =
     let new = c.append.new.self in
     let frame = c.args.frame.now in
     let bytes = c.as_slice.result.now in
-    let f = c.in_err-append.field-0.0 in
     let call = c.in_err-append.ensures in
     let may = c.requires.may in
     let read = subst (λ (b : List ℕ). record_of (frame_of frame.kind b) ≡ Some c.args.item.now) (sym c.as_slice.ensures.value) c.requires.read in
     let leads = leads_changed (limits_of index) (images.limits_of old.shape) old.frames
     (frame_of frame.kind bytes) c.args.item.now st c.requires.limits may.leads read c.requires.can in
-    let words = words d 4 None st (old.frames ++ frame_of frame.kind bytes ∷ []) old new (refused f) may call.answer call.change in
-    let run = call_moments d.tells d.seen d.may_leave d.moment d.left_since None st next
-    (old.frames ++ frame_of frame.kind bytes ∷ []) old new.disk may leads words.any_moment in
     let p = err_from_is_err_and c.from_residual.result c.from_residual.ensures.1 in
-    rw (p.1, p.2) (call_refused d.tells d.seen d.may_leave d.moment d.left_since None st next old new f may call.refused run words.no_memory call.read call.answer)
+    rw (p.1, p.2) (call_refused d st next old new c.in_err-append.field-0.0 may call.refused call.read call.answer)
 
-pub returns-in_err-append-clause-cut : goal.returns-in_err-append-clause-cut
-returns-in_err-append-clause-cut g c =
+pub returns-in_err-append-clause-change : goal.returns-in_err-append-clause-change
+returns-in_err-append-clause-change g c =
     let d = g.D.Disk in
     let index = c.args.index.now in
     let st = state_of index in
+    let next = changed (limits_of index) c.args.item.now st in
     let old = c.args.frames.now in
+    let new = c.append.new.self in
     let frame = c.args.frame.now in
     let bytes = c.as_slice.result.now in
+    let call = c.in_err-append.ensures in
     let may = c.requires.may in
     let read = subst (λ (b : List ℕ). record_of (frame_of frame.kind b) ≡ Some c.args.item.now) (sym c.as_slice.ensures.value) c.requires.read in
     let leads = leads_changed (limits_of index) (images.limits_of old.shape) old.frames
     (frame_of frame.kind bytes) c.args.item.now st c.requires.limits may.leads read c.requires.can in
-    let call = c.in_err-append.ensures in
-    let words = words d 4 None st (old.frames ++ frame_of frame.kind bytes ∷ []) old c.append.new.self (refused c.in_err-append.field-0.0) may call.answer call.change in
+    let f = c.in_err-append.field-0.0 in
     let p = err_from_is_err_and c.from_residual.result c.from_residual.ensures.1 in
-    rw (p.1, p.2) (call_cut d.tells d.seen d.certain d.may_leave d.moment d.left_since 4 None st (changed (limits_of index) c.args.item.now st)
-    (old.frames ++ frame_of frame.kind bytes ∷ []) old c.append.new.self c.in_err-append.field-0.0 may leads words.cut)
+    rw (p.1, p.2) (at_fault d 4 None st next old new.disk f (state_change d 4 None st next (old.frames ++ frame_of frame.kind bytes ∷ []) old new.disk (end_of (refused f)) may leads call.change))
 
 pub returns-in_err-append-clause-no_memory : goal.returns-in_err-append-clause-no_memory
 returns-in_err-append-clause-no_memory g c =
@@ -68,7 +67,6 @@ returns-in_err-append-clause-no_memory g c =
 
 pub returns : goal.returns
 returns g c =
-    let step = (
     let d = g.D.Disk in
     let index = c.args.index.now in
     let st = state_of index in
@@ -82,13 +80,11 @@ returns g c =
     let read = subst (λ (b : List ℕ). record_of (frame_of frame.kind b) ≡ Some c.args.item.now) (sym c.as_slice.ensures.value) c.requires.read in
     let leads = leads_changed (limits_of index) (images.limits_of old.shape) old.frames
     (frame_of frame.kind bytes) c.args.item.now st c.requires.limits may.leads read c.requires.can in
-    let words = words d 4 None st (old.frames ++ frame_of frame.kind bytes ∷ []) old new (Ok tt) may call.answer call.change in
-    call_made d.tells d.seen d.may_leave d.moment d.left_since None st next
-    (old.frames ++ frame_of frame.kind bytes ∷ []) old new may leads call.ok words.after words.durable words.any_moment call.read call.answer.halts
-    ) in
-    let run = run_by g.D.Disk 4 _ _ _ c.args.frames.now.disk c.append.new.self.disk (Ok tt) c.in_ok-append.ensures.change in
-    let cause = cause_by g.D.Disk 4 _ _ _ c.args.frames.now.disk c.append.new.self.disk (Ok tt) c.in_ok-append.ensures.change in
-    search (rules, step, run, cause)
+    let step = call_made d st next (old.frames ++ frame_of frame.kind bytes ∷ []) old new may leads call.ok call.read call.answer.halts in
+    let change = state_change d 4 None st next (old.frames ++ frame_of frame.kind bytes ∷ []) old new.disk Whole may leads call.change in
+    let run = run_by d 4 _ _ _ old.disk new.disk (Ok tt) call.change in
+    let cause = cause_by d 4 _ _ _ old.disk new.disk (Ok tt) call.change in
+    search (rules, step, change, run, cause)
 
 pub returns-in_err-append-clause-run : goal.returns-in_err-append-clause-run
 returns-in_err-append-clause-run g c =

@@ -10,11 +10,13 @@ use Rattle.brick_state.specs.States.{StateOf, booted}
 use Rattle.brick_state.specs.Indexes.{state_of}
 use Rattle.brick_state.specs.Indexes as indexes
 use Rattle.brick_store.specs.Calls.{is_appendable}
-use Rattle.brick_store.specs.Steps.{IsMoment, IsUnchanged, IsChanged, changed}
+use Rattle.brick_store.specs.Steps.{IsUnchanged, IsChanged, changed}
+use Rattle.brick_store.specs.Ends.{end_of}
 use Rattle.brick_store.specs.Openings.{IsKeptIn, StopsOpening}
 use Rattle.brick_store.proofs.Counting.{start_sum}
 use Rattle.brick_store.proofs.CutOpenings.{readying_cut, count_cut}
-use Rattle.brick_store.proofs.Starting.{counted, counted_moments}
+use Rattle.brick_store.proofs.Starting.{Between, counted, counted_moments}
+use Rattle.brick_store.proofs.StateChanges.{stands_before, settled_after, slots_after}
 use Rattle.brick_store.proofs.starts.start.Goals as goal
 
 pub returns-clause-made : goal.returns-clause-made
@@ -34,11 +36,11 @@ returns-clause-moments g c = λ told closed.
     let is : changed (indexes.limits_of c.args.index.now) (forms.Kept (Boot (c.boot.result + 1))) st ≡ booted (c.args.index.now.boot + 1) st =
     counted (indexes.limits_of c.args.index.now) (c.boot.result + 1) st ∙ ap (λ (n : ℕ). booted (n + 1) st) c.boot.ensures in
     let step = subst (λ (s : Shape). LeavesOnly d.moment d.left_since mid.disk new.disk
-    (IsMoment s None st (changed (indexes.limits_of c.args.index.now) (forms.Kept (Boot (c.boot.result + 1))) st) (d.seen mid.disk)))
-    c.make_appendable.ensures.shape (c.append_count.ensures.step.moments told) in
+    (Between s st (changed (indexes.limits_of c.args.index.now) (forms.Kept (Boot (c.boot.result + 1))) st) (d.seen mid.disk)))
+    c.make_appendable.ensures.shape (c.append_count.ensures.change.moments told (stands_before d None st mid c.in_ok-make_appendable.ensures.may told)) in
     counted_moments d.moment d.left_since (d.may_leave old.disk) old.shape st (booted (c.args.index.now.boot + 1) st)
     (d.seen old.disk) old.disk mid.disk new.disk (d.seen mid.disk) (c.in_ok-make_appendable.ensures.slots told) (c.make_appendable.ensures.moments told closed)
-    (subst (λ (s : StateOf Entry). LeavesOnly d.moment d.left_since mid.disk new.disk (IsMoment old.shape None st s (d.seen mid.disk))) is step)
+    (subst (λ (s : StateOf Entry). LeavesOnly d.moment d.left_since mid.disk new.disk (Between old.shape st s (d.seen mid.disk))) is step)
 
 pub returns-in_err-frame : goal.returns-in_err-frame
 returns-in_err-frame g c = search rules
@@ -70,10 +72,23 @@ returns-clause-cut g c = λ told free closed is.
     let calls = sym (start_sum (is_appendable c.args.whole old 4) ∙ ap (λ (n : ℕ). (if is_appendable c.args.whole old n then 1 else 8) + 4) (sym len)) in
     let moved = subst (λ (s : Shape). StopsEarly d.seen d.certain d.moment 4 mid.disk new.disk (IsUnchanged s None st (d.seen mid.disk))
     (IsChanged s None (changed (indexes.limits_of c.args.index.now) (forms.Kept (Boot (c.boot.result + 1))) st) (d.seen mid.disk)))
-    c.make_appendable.ensures.shape (c.append_count.ensures.cut told is) in
+    c.make_appendable.ensures.shape (c.append_count.ensures.change.cut (ap end_of is) told (stands_before d None st mid made.may told)) in
     let stops = subst (λ (s : StateOf Entry). StopsEarly d.seen d.certain d.moment 4 mid.disk new.disk (IsUnchanged old.shape None st (d.seen mid.disk))
     (IsChanged old.shape None s (d.seen mid.disk))) next moved in
     subst (λ (n : ℕ). StopsOpening d.seen d.certain d.moment n old.disk new.disk
     (IsKeptIn old.shape st (d.seen old.disk)) (IsKeptIn old.shape (booted (st.boot + 1) st) (d.seen old.disk))) calls
     (count_cut d.seen d.certain d.may_leave d.moment d.left_since _ old.shape st (booted (st.boot + 1) st) old.disk mid.disk new.disk
     (made.run.counted told refl) (made.slots told) stops)
+
+pub returns-clause-settled : goal.returns-clause-settled
+returns-clause-settled g c =
+    let count = c.append_count.ensures in
+    settled_after g.D.Disk 4 None _ _ c.make_appendable.new.frames c.append_count.new.frames c.append_count.result c.in_ok-make_appendable.ensures.may
+    count.step count.change
+
+pub returns-clause-slots : goal.returns-clause-slots
+returns-clause-slots g c = λ told.
+    let d = g.D.Disk in
+    let old = c.args.frames.now in
+    slots_after d 4 _ _ old.shape (d.seen old.disk) c.make_appendable.new.frames c.append_count.new.frames.disk c.append_count.result
+    c.make_appendable.ensures.shape (c.in_ok-make_appendable.ensures.slots told) c.append_count.ensures.change told

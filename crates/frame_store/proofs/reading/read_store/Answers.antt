@@ -1,67 +1,67 @@
-use Rattle.std.proofs.Common.{◌≡◌, ◌≢◌, ◌↔◌, ◌<◌, ◌≤◌, IsTrue, subst, ℕ, List, not, nat_eq, get_or, take, length, ◌∙◌, ap, rules, arith}
-use Rattle.frame_store.specs.Listed.{size_of, frames_of, spelled}
-use Rattle.frame_store.specs.Layouts.{header_at}
+use Rattle.std.proofs.Common.{◌≡◌, ◌+◌, ◌-◌, ◌≤◌, ℕ, List, not, nat_eq, get_or, min, length, sym, ◌∙◌, ap, subst, rules, arith}
+use Rattle.std.proofs.lemmas.Result.{err_from_is_err_and}
+use Rattle.frame_store.specs.Layouts.{header_at, half_at, half_size}
 use Rattle.frame_store.specs.Laid.{other}
+use Rattle.frame_store.specs.Reading.{IsListOf}
 use Rattle.frame_store.specs.Images.{part, InForce, generation_at, half_bytes}
-use Rattle.frame_store.proofs.Openings.{untouched_both, headers_none, read_laid}
+use Rattle.frame_store.proofs.Openings.{headers_none, read_laid}
+use Rattle.frame_store.proofs.Pieces.{part_within}
+use Rattle.frame_store.proofs.Stills.{still_then, still_none}
 use Rattle.frame_store.proofs.reading.read_store.Goals as goal
 
 pub returns-in_default-clause-none : goal.returns-in_default-clause-none
 returns-in_default-clause-none g c = λ told is.
     let image = g.D.Disk.seen c.args.disk.now in
     let whole : 64 ≤ length image = omega (arith, c.in_ok-size.ensures.length told) in
-    let are = c.in_ok-headers.ensures.bytes told ∙ ap (λ (l : List ℕ). part 0 64 l) c.len.ensures.untouched.content in
+    let are = c.in_ok-headers.ensures.bytes told ∙ ap (λ (l : List ℕ). part 0 64 l) c.len.ensures.still.untouched.content in
     headers_none c.args.shape image c.in_ok-headers.headers whole are c.in_default.ensures.none
 
-pub returns-clause-untouched : goal.returns-clause-untouched
-returns-clause-untouched g c =
+pub returns-in_err-listing-clause-still : goal.returns-in_err-listing-clause-still
+returns-in_err-listing-clause-still g c =
     let d = g.D.Disk in
-    untouched_both d.seen d.may_leave d.moment d.left_since g.met.D.Disk.counts_now c.args.disk.now c.read_headers.new.disk c.read_half.new.disk
-    (untouched_both d.seen d.may_leave d.moment d.left_since g.met.D.Disk.counts_now c.args.disk.now c.len.new.disk c.read_headers.new.disk c.len.ensures.untouched c.read_headers.ensures.untouched)
-    c.read_half.ensures.untouched
+    let counts = g.met.D.Disk.counts_now in
+    let old = c.args.disk.now in
+    let p = err_from_is_err_and c.from_residual-in_err-listing.result c.from_residual-in_err-listing.ensures.1 in
+    let first = still_then d counts old old c.len.new.disk _ ⊥ (λ is. absurd is) (still_none d old) c.in_ok-size.ensures.still in
+    let second = still_then d counts old c.len.new.disk c.read_headers.new.disk _ ⊥ (λ is. absurd is) first c.in_ok-headers.ensures.still in
+    still_then d counts old c.read_headers.new.disk c.read_list.new.disk _ _ (λ is. cc (p.1, p.2, is)) second c.in_err-listing.ensures.still
+
+pub returns-clause-still : goal.returns-clause-still
+returns-clause-still g c =
+    let d = g.D.Disk in
+    let counts = g.met.D.Disk.counts_now in
+    let old = c.args.disk.now in
+    let first = still_then d counts old old c.len.new.disk _ ⊥ (λ is. absurd is) (still_none d old) c.in_ok-size.ensures.still in
+    let second = still_then d counts old c.len.new.disk c.read_headers.new.disk _ ⊥ (λ is. absurd is) first c.in_ok-headers.ensures.still in
+    still_then d counts old c.read_headers.new.disk c.read_list.new.disk _ _ (λ is. absurd cc) second c.in_ok-listing.ensures.still
 
 -- what was read is laid
 pub returns-clause-laid : goal.returns-clause-laid
 returns-clause-laid g c = λ told.
     let image = g.D.Disk.seen c.args.disk.now in
+    let shape = c.args.shape in
     let half = c.in-Some.half in
-    let whole : 64 ≤ length image = omega (arith, c.in_ok-size.ensures.length told) in
+    let size = c.in_ok-size.size in
+    let list = c.in_ok-listing.ensures in
+    let frames = c.in_ok-listing.field-0.listing.frames in
+    let used = c.in_ok-listing.field-0.used in
+    let long : length image ≡ size = sym (c.in_ok-size.ensures.length told) in
+    let whole : 64 ≤ length image = omega (arith, long) in
+    let content = c.read_headers.ensures.still.untouched.content ∙ c.len.ensures.still.untouched.content in
     let are : c.in_ok-headers.headers ≡ part 0 64 image = c.in_ok-headers.ensures.bytes told
-    ∙ ap (λ (l : List ℕ). part 0 64 l) c.len.ensures.untouched.content in
-    let found : InForce c.args.shape half c.in_ok-headers.headers
+    ∙ ap (λ (l : List ℕ). part 0 64 l) c.len.ensures.still.untouched.content in
+    let found : InForce shape half c.in_ok-headers.headers
     × (generation_at half c.in_ok-headers.headers ≡ c.in-Some.generation) = search rules in
-    let bytes : c.in_ok-bytes.bytes.items ≡ half_bytes c.args.shape half image =
-    c.in_ok-bytes.ensures.bytes told ∙ ap (half_bytes c.args.shape half) (c.read_headers.ensures.untouched.content
-    ∙ c.len.ensures.untouched.content) in
-    let listed : c.in_ok-frames.frames.items ≡ frames_of c.in_ok-bytes.bytes.items = search rules in
-    let stands : take (size_of c.in_ok-frames.frames.items) c.in_ok-bytes.bytes.items ≡ spelled c.in_ok-frames.frames.items = search rules in
-    let within : size_of c.in_ok-frames.frames.items ≤ length c.in_ok-bytes.bytes.items = search rules in
-    let used : c.size_of-used.result ≡ size_of c.in_ok-frames.frames.items = search rules in
+    let from : c.min-from.result ≡ min (half_at shape half) size = omega (arith, c.min-from.ensures, c.half_at.ensures) in
+    let count : c.min-from.result + c.min.result - c.min-from.result ≡ min (half_size shape) (size - min (half_at shape half) size)
+    = omega (arith, from, c.min.ensures, c.half_size.ensures) in
+    let bytes : part c.min-from.result (c.min-from.result + c.min.result - c.min-from.result) (g.D.Disk.seen c.read_headers.new.disk)
+    ≡ half_bytes shape half image =
+    ap (λ (n : ℕ). part n (c.min-from.result + c.min.result - c.min-from.result) (g.D.Disk.seen c.read_headers.new.disk)) from
+    ∙ ap (λ (n : ℕ). part (min (half_at shape half) size) n (g.D.Disk.seen c.read_headers.new.disk)) count
+    ∙ ap (part (min (half_at shape half) size) (min (half_size shape) (size - min (half_at shape half) size))) content
+    ∙ part_within (half_at shape half) (half_size shape) size image long in
     let gate : c.header_at.result ≡ header_at (other half) = c.header_at.ensures ∙ ap header_at c.other.ensures in
-    let shut = ap (λ (i : ℕ). not (nat_eq (get_or c.in_ok-headers.headers i 0) 165)) gate in
-    let iff = subst (λ (l : List ℕ). IsTrue c.is_shut.result ↔ ((c.size_of-used.result < length l)
-    × (get_or l c.size_of-used.result 0 ≢ 165))) c.deref-3.ensures.value c.is_shut.ensures in
-    read_laid c.args.shape image c.in_ok-headers.headers whole are half c.in-Some.generation c.in_ok-frames.frames.items c.in_ok-bytes.bytes.items c.size_of-used.result _ c.is_shut.result
-    found.0 found.1 bytes listed stands within used shut iff.0 iff.1
-
-pub returns-in_err-frames : goal.returns-in_err-frames
-returns-in_err-frames g c =
-    let untouched = (
-    let d = g.D.Disk in
-    untouched_both d.seen d.may_leave d.moment d.left_since g.met.D.Disk.counts_now c.args.disk.now c.read_headers.new.disk c.read_half.new.disk
-    (untouched_both d.seen d.may_leave d.moment d.left_since g.met.D.Disk.counts_now c.args.disk.now c.len.new.disk c.read_headers.new.disk c.len.ensures.untouched c.read_headers.ensures.untouched)
-    c.read_half.ensures.untouched
-    ) in
-    search (rules, untouched)
-
-pub returns-in_err-size : goal.returns-in_err-size
-returns-in_err-size g c = search rules
-
-pub returns-then-size-lt64 : goal.returns-then-size-lt64
-returns-then-size-lt64 g c = search rules
-
-pub returns-in_err-headers : goal.returns-in_err-headers
-returns-in_err-headers g c = search rules
-
-pub returns-in_err-bytes : goal.returns-in_err-bytes
-returns-in_err-bytes g c = search rules
+    read_laid shape image c.in_ok-headers.headers whole are half c.in-Some.generation frames used _ c.in_ok-listing.field-0.closed
+    found.0 found.1 (subst (λ (l : List ℕ). IsListOf l frames used c.in_ok-listing.field-0.closed) bytes (list.read told)) list.counted.0
+    (ap (λ (i : ℕ). not (nat_eq (get_or c.in_ok-headers.headers i 0) 165)) gate)

@@ -8,11 +8,5 @@ returns-in_err-reserve g c = search rules
 pub returns-in_err-reserve-2 : goal.returns-in_err-reserve-2
 returns-in_err-reserve-2 g c = search rules
 
-pub returns-in_err-reserve-3 : goal.returns-in_err-reserve-3
-returns-in_err-reserve-3 g c = search rules
-
-pub returns-in_err-reserve-4 : goal.returns-in_err-reserve-4
-returns-in_err-reserve-4 g c = search rules
-
 pub returns : goal.returns
 returns g c = search rules

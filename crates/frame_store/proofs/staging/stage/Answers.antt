@@ -5,9 +5,6 @@ use Rattle.frame_store.proofs.staging.stage.Goals as goal
 pub returns-in_err-reserve : goal.returns-in_err-reserve
 returns-in_err-reserve g c = search rules
 
-pub returns-in_err-reserve-2 : goal.returns-in_err-reserve-2
-returns-in_err-reserve-2 g c = search rules
-
 pub returns-in_err-put_line : goal.returns-in_err-put_line
 returns-in_err-put_line g c = search rules
 

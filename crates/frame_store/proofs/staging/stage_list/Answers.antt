@@ -5,9 +5,6 @@ use Rattle.frame_store.proofs.staging.stage_list.Goals as goal
 pub returns-in_err-reserve : goal.returns-in_err-reserve
 returns-in_err-reserve g c = search rules
 
-pub returns-in_err-reserve-2 : goal.returns-in_err-reserve-2
-returns-in_err-reserve-2 g c = search rules
-
 pub returns-in_err-put_list : goal.returns-in_err-put_list
 returns-in_err-put_list g c = search rules
 

@@ -1,5 +1,6 @@
 -- What is planned is kept by one change of the store.
-use Rattle.std.proofs.Common.{◌≡◌, ℕ, true, false, Option, Some, None, List, map, Result, Ok, refl, sym, ap, subst, ◌∙◌}
+use Rattle.std.proofs.Common.{rules, ◌≡◌, ℕ, true, false, Option, Some, None, List, map, Result, refl, sym, ap, subst, ◌∙◌}
+use Rattle.fab_disk.specs.Changing.{Whole}
 use Rattle.fab_base.specs.declared.stamps.Stamp.{Stamp}
 use Rattle.messages.specs.declared.requests.Version.{Version}
 use Rattle.version_log.specs.Versions.{Version as Kept}
@@ -17,16 +18,16 @@ use Rattle.protocol.specs.Nodes.{full_at}
 use Rattle.protocol.specs.Replicas.{Replica, Reaction, newest_of, promised, stored, unless_full}
 use Rattle.replica.specs.declared.faults.ReplicaFault.{ReplicaFault}
 use Rattle.replica.specs.declared.plans.Plan.{Plan}
-use Rattle.replica.specs.declared.plans.Plan.TheVariants.{Promise, Store, Collect}
+use Rattle.replica.specs.declared.plans.Plan.TheVariants.{Ignore, Tell, Promise, Store, Collect}
 use Rattle.replica.specs.Parts.{as_version}
 use Rattle.replica.specs.Plans.{block_stored, planned, is_shared, IsChange}
 use Rattle.replica.specs.Reactions.{place_of, part_at, IsReacted}
-use Rattle.replica.specs.Handling.{Handles}
-use Rattle.replica.specs.Calls.{stored_calls, part_calls, RunsAs, StopsAs}
-use Rattle.replica.proofs.Answering.{handles_change}
+use Rattle.replica.specs.Handling.{Handles, NextChange, end_of}
+use Rattle.replica.specs.Calls.{stored_calls, part_calls}
+use Rattle.replica.proofs.Answering.{handles_change, change_next, next_none, still_here}
 use Rattle.replica.proofs.Logs.{newest_seen, held_seen}
-use Rattle.replica.proofs.Reacting.{promise_grows, order_made, store_made, none_made, order_moves, store_moves, reacted_collect, collect_moves, unless_room, unless_none}
-use Rattle.replica.proofs.Runs.{runs_told, change_runs, change_cut, calls_kept, calls_ordered, calls_stored, version_stored}
+use Rattle.replica.proofs.Reacting.{reacted_stays, promise_grows, order_made, store_made, none_made, order_moves, store_moves, reacted_collect, collect_moves, unless_room, unless_none}
+use Rattle.replica.proofs.Runs.{calls_kept, calls_ordered, calls_stored, version_stored}
 use Rattle.replica.proofs.Sharing.{has_block, own_long, stored_added, calls_collected}
 use Rattle.replica.proofs.handling.carry_out.Goals as goal
 
@@ -67,16 +68,16 @@ returns-in-Promise-clause-handles g c =
     let Follows = λ (p : Plan). IsReacted block call st (planned full part p) in
     let sorted = c.requires.runs.ordered.sorted in
     let later : stamp_below (stripe_at st (place_of call)).order t ≡ true = changed_as block part c.in-Promise.is c.requires.change in
-    subst (λ (p : Plan). Handles d.tells d.seen d.may_leave d.moment d.left_since d.faults d.sound (Follows p) old new c.answered.result)
+    subst (λ (p : Plan). Handles d (Follows p) old new c.answered.result)
     (sym c.in-Promise.is)
-    (subst (λ (r : Result (Option Reply) ReplicaFault). Handles d.tells d.seen d.may_leave d.moment d.left_since d.faults d.sound
+    (subst (λ (r : Result (Option Reply) ReplicaFault). Handles d
     (Follows (Promise t reply)) old new r) (sym c.answered.ensures)
-    (handles_change d.tells d.seen d.certain d.may_leave d.moment d.left_since d.faults d.sound g.met.D.Disk.only_now (Follows (Promise t reply)) call.group.0 call.view.0 call.stripe.0 old new
+    (handles_change d (Follows (Promise t reply)) call.group.0 call.view.0 call.stripe.0 old new
     (ordered (place_of call) t st)
     (adds_stamp t (stripe_at st (place_of call)).order) (calls_of old 30 4) (Some reply) c.requires.runs
     (order_made block call st sorted old.shape.records t reply later)
     (λ adds. none_made block call st sorted old.shape.records (promised part t reply) (promise_grows block call st sorted t reply ∙ adds))
-    (order_moves block call st sorted t later) c.set_order.result c.set_order.ensures.change))
+    (order_moves block call st sorted t later) c.set_order.result c.set_order.ensures.change c.set_order.ensures.answer))
 
 -- the reaction that is planned, with the block that the store adds
 module _ (full : Option ℕ) (part : Replica) (t : Stamp) (log : List Kept) (log_is : part.log ≡ map as_version log) where
@@ -103,105 +104,50 @@ returns-in-Store-clause-handles g c =
     let Follows = λ (r : Reaction). IsReacted block call st r in
     let reaction = unless_full full part (stored part t bytes) in
     let sorted = c.requires.runs.ordered.sorted in
-    subst (λ (r : Reaction). Handles d.tells d.seen d.may_leave d.moment d.left_since d.faults d.sound (Follows r) old new c.answered-in-Store.result)
+    subst (λ (r : Reaction). Handles d (Follows r) old new c.answered-in-Store.result)
     (sym (store_planned full part t log refl c.args.plan c.in-Store.block c.in-Store.is))
-    (subst (λ (r : Result (Option Reply) ReplicaFault). Handles d.tells d.seen d.may_leave d.moment d.left_since d.faults d.sound
+    (subst (λ (r : Result (Option Reply) ReplicaFault). Handles d
     (Follows reaction) old new r) (sym c.answered-in-Store.ensures)
-    (handles_change d.tells d.seen d.certain d.may_leave d.moment d.left_since d.faults d.sound g.met.D.Disk.only_now (Follows reaction) call.group.0 call.view.0 call.stripe.0 old new
+    (handles_change d (Follows reaction) call.group.0 call.view.0 call.stripe.0 old new
     (added (place_of call) (version t bytes) st)
     true (calls_of old (version_size c.in-Store.block) (version_calls c.in-Store.block)) (Some Stored) c.requires.runs
     (store_made block call st sorted old.shape.records t bytes)
     (none_made block call st sorted old.shape.records (stored part t bytes))
-    (store_moves block call st sorted t bytes) c.add_version-answer.result c.add_version-answer.ensures.change))
+    (store_moves block call st sorted t bytes) c.add_version-answer.result c.add_version-answer.ensures.change c.add_version-answer.ensures.answer))
 
--- ---- how many calls that makes
+-- ---- what becomes of the disk
 
-abbrev told : Option Reply → Result (Option Reply) ReplicaFault
-told answer = Ok answer
-
-abbrev silent : Option Reply
-silent = None
-
-pub returns-in-Ignore-clause-run : goal.returns-in-Ignore-clause-run
-returns-in-Ignore-clause-run g c =
+pub returns-in-Ignore-clause-change : goal.returns-in-Ignore-clause-change
+returns-in-Ignore-clause-change g c =
     let d = g.D.Disk in
     let old = c.args.store.now in
-    let part = part_at old.shape.block old.state c.args.call in
-    let full = full_at old.shape.records (live old.state) in
-    let none : part_calls old.shape old.listed (is_shared c.args.plan) part (planned full part c.args.plan).replica ≡ 0 =
-    ap (λ (p : Plan). part_calls old.shape old.listed (is_shared p) part (planned full part p).replica) c.in-Ignore.is ∙ calls_kept old false part in
-    subst (λ (n : ℕ). RunsAs d.tells d.moment d.plan d.unlisted n old old (told silent)) (sym none)
-    (runs_told d.tells d.moment d.plan d.unlisted old silent)
-
-pub returns-in-Tell-clause-run : goal.returns-in-Tell-clause-run
-returns-in-Tell-clause-run g c =
-    let d = g.D.Disk in
-    let old = c.args.store.now in
-    let part = part_at old.shape.block old.state c.args.call in
-    let full = full_at old.shape.records (live old.state) in
-    let none : part_calls old.shape old.listed (is_shared c.args.plan) part (planned full part c.args.plan).replica ≡ 0 =
-    ap (λ (p : Plan). part_calls old.shape old.listed (is_shared p) part (planned full part p).replica) c.in-Tell.is ∙ calls_kept old false part in
-    subst (λ (n : ℕ). RunsAs d.tells d.moment d.plan d.unlisted n old old (told (Some c.in-Tell.reply))) (sym none)
-    (runs_told d.tells d.moment d.plan d.unlisted old (Some c.in-Tell.reply))
-
-pub returns-in-Promise-clause-run : goal.returns-in-Promise-clause-run
-returns-in-Promise-clause-run g c =
-    let d = g.D.Disk in
-    let old = c.args.store.now in
-    let new = c.set_order.new.self in
-    let st = old.state in
     let block = old.shape.block in
-    let call = c.args.call in
-    let records = old.shape.records in
-    let t = c.in-Promise.stamp in
-    let reply = c.in-Promise.reply in
-    let part = part_at block st call in
-    let full = full_at records (live st) in
-    let sorted = c.requires.runs.ordered.sorted in
-    let calls = λ (r : Reaction). part_calls old.shape old.listed (is_shared c.args.plan) part r.replica in
-    let reaction = promised part t reply in
-    let is : planned full part c.args.plan ≡ unless_full full part reaction = ap (planned full part) c.in-Promise.is in
-    let later : stamp_below part.order t ≡ true = changed_as block part c.in-Promise.is c.requires.change in
-    let grows = promise_grows block call st sorted t reply in
-    subst (λ (r : Result (Option Reply) ReplicaFault). RunsAs d.tells d.moment d.plan d.unlisted (calls (planned full part c.args.plan)) old new r)
-    (sym c.answered.ensures)
-    (change_runs d.tells d.seen d.certain d.may_leave d.moment d.left_since d.faults d.sound d.plan d.unlisted old new c.requires.runs
-    (ordered (place_of call) t st) (adds_stamp t (stripe_at st (place_of call)).order) (calls_of old 30 4)
-    (calls (planned full part c.args.plan)) (Some reply) c.set_order.result c.set_order.ensures.change c.set_order.ensures.run
-    (λ room. ap calls is ∙ ap calls (sym (unless_room block call st sorted records part reaction (λ more. room (sym grows ∙ more))))
-    ∙ calls_ordered old (is_shared c.args.plan) part t later)
-    (λ adds most. ap calls is ∙ ap calls (sym (unless_none block call st sorted records part reaction (grows ∙ adds) most)) ∙ calls_kept old (is_shared c.args.plan) part))
+    let part = part_at block old.state c.args.call in
+    let full = full_at old.shape.records (live old.state) in
+    let Follows = λ (p : Plan). IsReacted block c.args.call old.state (planned full part p) in
+    let follows : Follows Ignore None old.state = search rules in
+    subst (λ (p : Plan). NextChange d (part_calls old.shape old.listed (is_shared p) part (planned full part p).replica) old (Follows p) old.disk Whole)
+    (sym c.in-Ignore.is)
+    (subst (λ (n : ℕ). NextChange d n old (Follows Ignore) old.disk Whole) (sym (calls_kept old false part))
+    (next_none d g.met.D.Disk.only_now (Follows Ignore) old old.disk (still_here d old.disk) c.requires.runs.stands None follows))
 
-pub returns-in-Store-clause-run : goal.returns-in-Store-clause-run
-returns-in-Store-clause-run g c =
+pub returns-in-Tell-clause-change : goal.returns-in-Tell-clause-change
+returns-in-Tell-clause-change g c =
     let d = g.D.Disk in
     let old = c.args.store.now in
-    let new = c.add_version-answer.new.self in
-    let st = old.state in
     let block = old.shape.block in
-    let call = c.args.call in
-    let records = old.shape.records in
-    let t = c.in-Store.stamp in
-    let own = c.in-Store.block in
-    let log = log_at block st (place_of call) in
-    let bytes = block_added own log in
-    let part = part_at block st call in
-    let full = full_at records (live st) in
-    let sorted = c.requires.runs.ordered.sorted in
-    let shared = is_shared c.args.plan in
-    let calls = λ (r : Reaction). part_calls old.shape old.listed shared part r.replica in
-    let is = store_planned full part t log refl c.args.plan own c.in-Store.is in
-    subst (λ (r : Result (Option Reply) ReplicaFault). RunsAs d.tells d.moment d.plan d.unlisted (calls (planned full part c.args.plan)) old new r)
-    (sym c.answered-in-Store.ensures)
-    (change_runs d.tells d.seen d.certain d.may_leave d.moment d.left_since d.faults d.sound d.plan d.unlisted old new c.requires.runs
-    (added (place_of call) (version t bytes) st) true (calls_of old (version_size own) (version_calls own))
-    (calls (planned full part c.args.plan)) (Some Stored) c.add_version-answer.result c.add_version-answer.ensures.change c.add_version-answer.ensures.run
-    (λ room. ap calls is ∙ ap calls (sym (unless_room block call st sorted records part (stored part t bytes) room)) ∙ calls_stored old shared part _
-    ∙ ap (λ (p : Plan). stored_calls old.shape old.listed (is_shared p)) c.in-Store.is ∙ version_stored old own)
-    (λ adds most. ap calls is ∙ ap calls (sym (unless_none block call st sorted records part (stored part t bytes) adds most)) ∙ calls_kept old shared part))
+    let reply = c.in-Tell.reply in
+    let part = part_at block old.state c.args.call in
+    let full = full_at old.shape.records (live old.state) in
+    let Follows = λ (p : Plan). IsReacted block c.args.call old.state (planned full part p) in
+    subst (λ (p : Plan). NextChange d (part_calls old.shape old.listed (is_shared p) part (planned full part p).replica) old (Follows p) old.disk Whole)
+    (sym c.in-Tell.is)
+    (subst (λ (n : ℕ). NextChange d n old (Follows (Tell reply)) old.disk Whole) (sym (calls_kept old false part))
+    (next_none d g.met.D.Disk.only_now (Follows (Tell reply)) old old.disk (still_here d old.disk) c.requires.runs.stands (Some reply)
+    (reacted_stays block c.args.call reply old.state)))
 
-pub returns-in-Promise-clause-cut : goal.returns-in-Promise-clause-cut
-returns-in-Promise-clause-cut g c =
+pub returns-in-Promise-clause-change : goal.returns-in-Promise-clause-change
+returns-in-Promise-clause-change g c =
     let d = g.D.Disk in
     let old = c.args.store.now in
     let new = c.set_order.new.self in
@@ -215,24 +161,25 @@ returns-in-Promise-clause-cut g c =
     let full = full_at records (live st) in
     let sorted = c.requires.runs.ordered.sorted in
     let calls = λ (p : Plan). part_calls old.shape old.listed (is_shared p) part (planned full part p).replica in
+    let made = λ (r : Reaction). part_calls old.shape old.listed false part r.replica in
     let Follows = λ (p : Plan). IsReacted block call st (planned full part p) in
     let reaction = promised part t reply in
     let later : stamp_below part.order t ≡ true = changed_as block part c.in-Promise.is c.requires.change in
     let grows = promise_grows block call st sorted t reply in
-    subst (λ (p : Plan). StopsAs d.tells d.seen d.certain d.moment (calls p) (Follows p) old new c.answered.result)
-    (sym c.in-Promise.is)
-    (subst (λ (r : Result (Option Reply) ReplicaFault). StopsAs d.tells d.seen d.certain d.moment (calls (Promise t reply))
-    (Follows (Promise t reply)) old new r) (sym c.answered.ensures)
-    (change_cut d.tells d.seen d.certain d.may_leave d.moment d.left_since d.faults d.sound d.plan d.unlisted old new c.requires.runs
-    (Follows (Promise t reply)) (ordered (place_of call) t st) (adds_stamp t (stripe_at st (place_of call)).order) (calls_of old 30 4)
-    (calls (Promise t reply)) (Some reply) c.set_order.result c.set_order.ensures.change
+    subst (λ (p : Plan). NextChange d (calls p) old (Follows p) new.disk (end_of c.answered.result)) (sym c.in-Promise.is)
+    (subst (λ (r : Result (Option Reply) ReplicaFault). NextChange d (calls (Promise t reply)) old (Follows (Promise t reply)) new.disk (end_of r))
+    (sym c.answered.ensures)
+    (change_next d (Follows (Promise t reply)) call.group.0 call.view.0 call.stripe.0 old new (ordered (place_of call) t st)
+    (adds_stamp t (stripe_at st (place_of call)).order) (calls_of old 30 4) (Some reply) c.requires.runs
     (order_made block call st sorted records t reply later)
-    (λ room.
-    ap (λ (r : Reaction). part_calls old.shape old.listed false part r.replica)
-    (sym (unless_room block call st sorted records part reaction (λ more. room (sym grows ∙ more)))) ∙ calls_ordered old false part t later)))
+    (λ adds. none_made block call st sorted records reaction (grows ∙ adds))
+    (order_moves block call st sorted t later) g.met.D.Disk.only_now (calls (Promise t reply))
+    (λ room. ap made (sym (unless_room block call st sorted records part reaction (λ more. room (sym grows ∙ more)))) ∙ calls_ordered old false part t later)
+    (λ adds most. ap made (sym (unless_none block call st sorted records part reaction (grows ∙ adds) most)) ∙ calls_kept old false part)
+    c.set_order.result c.set_order.ensures.change c.set_order.ensures.answer))
 
-pub returns-in-Store-clause-cut : goal.returns-in-Store-clause-cut
-returns-in-Store-clause-cut g c =
+pub returns-in-Store-clause-change : goal.returns-in-Store-clause-change
+returns-in-Store-clause-change g c =
     let d = g.D.Disk in
     let old = c.args.store.now in
     let new = c.add_version-answer.new.self in
@@ -251,15 +198,18 @@ returns-in-Store-clause-cut g c =
     let calls = λ (r : Reaction). part_calls old.shape old.listed shared part r.replica in
     let Follows = λ (r : Reaction). IsReacted block call st r in
     let reaction = unless_full full part (stored part t bytes) in
-    subst (λ (r : Reaction). StopsAs d.tells d.seen d.certain d.moment (calls r) (Follows r) old new c.answered-in-Store.result)
+    subst (λ (r : Reaction). NextChange d (calls r) old (Follows r) new.disk (end_of c.answered-in-Store.result))
     (sym (store_planned full part t log refl c.args.plan own c.in-Store.is))
-    (subst (λ (r : Result (Option Reply) ReplicaFault). StopsAs d.tells d.seen d.certain d.moment (calls reaction) (Follows reaction) old new r)
+    (subst (λ (r : Result (Option Reply) ReplicaFault). NextChange d (calls reaction) old (Follows reaction) new.disk (end_of r))
     (sym c.answered-in-Store.ensures)
-    (change_cut d.tells d.seen d.certain d.may_leave d.moment d.left_since d.faults d.sound d.plan d.unlisted old new c.requires.runs
-    (Follows reaction) (added (place_of call) (version t bytes) st) true (calls_of old (version_size own) (version_calls own)) (calls reaction) (Some Stored)
-    c.add_version-answer.result c.add_version-answer.ensures.change (store_made block call st sorted records t bytes)
+    (change_next d (Follows reaction) call.group.0 call.view.0 call.stripe.0 old new (added (place_of call) (version t bytes) st) true
+    (calls_of old (version_size own) (version_calls own)) (Some Stored) c.requires.runs
+    (store_made block call st sorted records t bytes) (none_made block call st sorted records (stored part t bytes))
+    (store_moves block call st sorted t bytes) g.met.D.Disk.only_now (calls reaction)
     (λ room. ap calls (sym (unless_room block call st sorted records part (stored part t bytes) room)) ∙ calls_stored old shared part _
-    ∙ ap (λ (p : Plan). stored_calls old.shape old.listed (is_shared p)) c.in-Store.is ∙ version_stored old own)))
+    ∙ ap (λ (p : Plan). stored_calls old.shape old.listed (is_shared p)) c.in-Store.is ∙ version_stored old own)
+    (λ adds most. ap calls (sym (unless_none block call st sorted records part (stored part t bytes) adds most)) ∙ calls_kept old shared part)
+    c.add_version-answer.result c.add_version-answer.ensures.change c.add_version-answer.ensures.answer))
 
 -- ---- what is dropped
 
@@ -284,39 +234,18 @@ returns-in-Collect-clause-handles g c =
     let Follows = λ (p : Plan). IsReacted block call st (planned full part p) in
     let sorted = c.requires.runs.ordered.sorted in
     let change = changed_as block part c.in-Collect.is c.requires.change in
-    subst (λ (p : Plan). Handles d.tells d.seen d.may_leave d.moment d.left_since d.faults d.sound (Follows p) old new c.answered-in-Collect.result)
+    subst (λ (p : Plan). Handles d (Follows p) old new c.answered-in-Collect.result)
     (sym c.in-Collect.is)
-    (subst (λ (r : Result (Option Reply) ReplicaFault). Handles d.tells d.seen d.may_leave d.moment d.left_since d.faults d.sound
+    (subst (λ (r : Result (Option Reply) ReplicaFault). Handles d
     (Follows (Collect t)) old new r) (sym c.answered-in-Collect.ensures)
-    (handles_change d.tells d.seen d.certain d.may_leave d.moment d.left_since d.faults d.sound g.met.D.Disk.only_now (Follows (Collect t)) call.group.0 call.view.0 call.stripe.0 old new
+    (handles_change d (Follows (Collect t)) call.group.0 call.view.0 call.stripe.0 old new
     (collected version_stamp (place_of call) t st) false (calls_of old 30 4) None c.requires.runs
     (λ room. reacted_collect block call st sorted t change.0)
     (λ adds. absurd cc)
-    (collect_moves block call st sorted t change.1) c.collect.result c.collect.ensures.change))
+    (collect_moves block call st sorted t change.1) c.collect.result c.collect.ensures.change c.collect.ensures.answer))
 
-pub returns-in-Collect-clause-run : goal.returns-in-Collect-clause-run
-returns-in-Collect-clause-run g c =
-    let d = g.D.Disk in
-    let old = c.args.store.now in
-    let new = c.collect.new.self in
-    let st = old.state in
-    let block = old.shape.block in
-    let call = c.args.call in
-    let t = c.in-Collect.stamp in
-    let part = part_at block st call in
-    let full = full_at old.shape.records (live st) in
-    let change = changed_as block part c.in-Collect.is c.requires.change in
-    let calls = λ (p : Plan). part_calls old.shape old.listed (is_shared p) part (planned full part p).replica in
-    subst (λ (r : Result (Option Reply) ReplicaFault). RunsAs d.tells d.moment d.plan d.unlisted (calls c.args.plan) old new r)
-    (sym c.answered-in-Collect.ensures)
-    (change_runs d.tells d.seen d.certain d.may_leave d.moment d.left_since d.faults d.sound d.plan d.unlisted old new c.requires.runs
-    (collected version_stamp (place_of call) t st) false (calls_of old 30 4) (calls c.args.plan) None
-    c.collect.result c.collect.ensures.change c.collect.ensures.run
-    (λ room. ap calls c.in-Collect.is ∙ calls_collected old false part t change.0 change.1)
-    (λ adds. absurd cc))
-
-pub returns-in-Collect-clause-cut : goal.returns-in-Collect-clause-cut
-returns-in-Collect-clause-cut g c =
+pub returns-in-Collect-clause-change : goal.returns-in-Collect-clause-change
+returns-in-Collect-clause-change g c =
     let d = g.D.Disk in
     let old = c.args.store.now in
     let new = c.collect.new.self in
@@ -330,12 +259,11 @@ returns-in-Collect-clause-cut g c =
     let change = changed_as block part c.in-Collect.is c.requires.change in
     let calls = λ (p : Plan). part_calls old.shape old.listed (is_shared p) part (planned full part p).replica in
     let Follows = λ (p : Plan). IsReacted block call st (planned full part p) in
-    subst (λ (p : Plan). StopsAs d.tells d.seen d.certain d.moment (calls p) (Follows p) old new c.answered-in-Collect.result)
-    (sym c.in-Collect.is)
-    (subst (λ (r : Result (Option Reply) ReplicaFault). StopsAs d.tells d.seen d.certain d.moment (calls (Collect t))
-    (Follows (Collect t)) old new r) (sym c.answered-in-Collect.ensures)
-    (change_cut d.tells d.seen d.certain d.may_leave d.moment d.left_since d.faults d.sound d.plan d.unlisted old new c.requires.runs
-    (Follows (Collect t)) (collected version_stamp (place_of call) t st) false (calls_of old 30 4) (calls (Collect t)) None
-    c.collect.result c.collect.ensures.change
-    (λ room. reacted_collect block call st sorted t change.0)
-    (λ room. calls_collected old false part t change.0 change.1)))
+    subst (λ (p : Plan). NextChange d (calls p) old (Follows p) new.disk (end_of c.answered-in-Collect.result)) (sym c.in-Collect.is)
+    (subst (λ (r : Result (Option Reply) ReplicaFault). NextChange d (calls (Collect t)) old (Follows (Collect t)) new.disk (end_of r))
+    (sym c.answered-in-Collect.ensures)
+    (change_next d (Follows (Collect t)) call.group.0 call.view.0 call.stripe.0 old new (collected version_stamp (place_of call) t st) false
+    (calls_of old 30 4) None c.requires.runs (λ room. reacted_collect block call st sorted t change.0) (λ adds. absurd cc)
+    (collect_moves block call st sorted t change.1) g.met.D.Disk.only_now (calls (Collect t))
+    (λ room. calls_collected old false part t change.0 change.1) (λ adds. absurd cc)
+    c.collect.result c.collect.ensures.change c.collect.ensures.answer))

@@ -2,7 +2,7 @@
 use Rattle.std.proofs.Common.{inl, inr, refl, ◌∙◌}
 use Rattle.fab_disk.specs.MemDisk.{is_unlisted}
 use Rattle.world.specs.Faults.{plan_of}
-use Rattle.world.proofs.DownLemmas.{IsArmed, started, cut_short, worn, rests_on, run_there, unlisted_there}
+use Rattle.world.proofs.DownLemmas.{IsArmed, unwritten_by, started, cut_short, worn, rests_on, run_there, unlisted_there}
 use Rattle.world.proofs.bricks.open_over.Goals as goal
 
 pub returns-in-Ok-clause-turns : goal.returns-in-Ok-clause-turns
@@ -48,6 +48,9 @@ returns-in-Err-Worn-default-clause-turns c state after rests =
     in
     inl (worn c.args.layout c.args.me state after c.args.fault c.args.disk c.arm.new.self rests arms c.arm-in-Err-Worn-default.new.self
     (c.in-Err-Worn-default.ensures.worn c.in-Err-Worn-default.field-0-0-is tt)
+    (unwritten_by (plan_of c.args.fault) c.args.disk c.arm.new.self c.in-Err-Worn-default.left c.arm-in-Err-Worn-default.new.self arms
+    (c.in-Err-Worn-default.ensures.unchanged (inl c.in-Err-Worn-default.field-0-0-is)) c.arm-in-Err-Worn-default.ensures.content
+    c.arm-in-Err-Worn-default.ensures.crash)
     (rests_on c.args.layout c.args.me state after c.args.fault c.args.disk c.arm.new.self rests arms c.in-Err-Worn-default.left
     c.arm-in-Err-Worn-default.new.self (c.in-Err-Worn-default.ensures.unchanged (inl c.in-Err-Worn-default.field-0-0-is)).crash
     c.arm-in-Err-Worn-default.ensures.crash (c.arm-in-Err-Worn-default.ensures.again refl unlisted)))

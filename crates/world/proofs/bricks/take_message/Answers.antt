@@ -19,7 +19,8 @@ returns-in-Ok-clause-takes c layout me state runs =
     let on : c.arm.new.self.brick.halted ≡ false = c.arm.ensures.halted ∙ runs.runs in
     took_whole layout me state c.args.time c.args.packet.now c.args.fault c.args.node c.arm.new.self runs c.arm.ensures.same c.arm.ensures.state arms
     c.look.ensures.shape (c.look.ensures.listed on) c.on_message.new.self c.arm-in-Ok.new.self c.in-Ok.outs c.on_message.ensures.same c.arm-in-Ok.ensures.same
-    c.in-Ok.ensures.step c.arm-in-Ok.ensures.state (c.in-Ok.ensures.durable tt) c.arm-in-Ok.ensures.crash _ _ c.in-Ok.ensures.run refl
+    c.in-Ok.ensures.step c.arm-in-Ok.ensures.state (c.in-Ok.ensures.durable tt) c.arm-in-Ok.ensures.content c.arm-in-Ok.ensures.crash (λ none. (c.in-Ok.ensures.still none).1)
+    _ _ c.in-Ok.ensures.run refl
     (c.arm-in-Ok.ensures.halted ∙ c.in-Ok.ensures.halts ∙ on) (λ unlisted. c.arm-in-Ok.ensures.again refl unlisted)
 
 pub returns-in-Err-Disk-clause-takes : goal.returns-in-Err-Disk-clause-takes

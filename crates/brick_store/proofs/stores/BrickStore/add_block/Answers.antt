@@ -10,29 +10,30 @@ use Rattle.brick_state.specs.Indexes.{state_of, limits_of}
 use Rattle.brick_store.specs.declared.faults.StoreFault.{StoreFault}
 use Rattle.brick_store.specs.Blocks.{with_version}
 use Rattle.brick_store.specs.Bricks.{Brick}
-use Rattle.brick_store.specs.Changes.{Changes}
 use Rattle.brick_store.specs.Calls.{calls_of}
 use Rattle.brick_store.proofs.Changed.{can_from}
-use Rattle.brick_store.proofs.Changing.{brick_of, told_refused, told_of}
+use Rattle.brick_store.proofs.Changing.{Told, told_as, brick_of, told_refused, told_of}
 use Rattle.brick_store.proofs.Versions.{above_of, slot_applied, slots_added, with_version_seen, next_seen}
 use Rattle.brick_store.proofs.Adding.{brick_same, standing_same, same_settled, changes_put, standing_put, told_stopped, no_slot_fault, cached_is}
+use Rattle.brick_store.proofs.Stepping.{refused}
 use Rattle.brick_store.proofs.stores.BrickStore.add_block.Goals as goal
 
-pub returns-in_err-ready-clause-change : goal.returns-in_err-ready-clause-change
-returns-in_err-ready-clause-change g c =
+pub returns-in_err-ready : goal.returns-in_err-ready
+returns-in_err-ready g c =
     let d = g.D.Disk in
     let x = c.self.inside in
     let f = c.in_err-ready.field-0.0 in
     let q = err_from_is_err_and c.from_residual.result c.from_residual.ensures.1 in
-    rw (q.1, q.2) (told_refused d.tells d.seen d.certain d.may_leave d.moment d.left_since d.faults d.sound g.met.D.Disk.only_now x.blocks x.zero x.frames x.index c.args.self.now
+    let both = told_as d _ _ _ _ _ c.from_residual.result (refused f) (q.1 ∙ ap refused q.2) (told_refused d g.met.D.Disk.only_now x.blocks x.zero x.frames x.index c.args.self.now
     (with_version c.args.self.now.shape.block (place c.args.group c.args.view c.args.stripe) c.args.stamp (Some c.args.block))
-    (λ s. true) true (calls_of c.args.self.now 35 5) f c.self.view_is refl c.self.invariant c.in_err-ready.ensures.refused)
+    (λ s. true) true (calls_of c.args.self.now 35 5) f c.self.view_is refl c.self.invariant c.in_err-ready.ensures.refused) in
+    record { change = both.0; answer = both.1 }
 
 pub invariant_of-self : goal.invariant_of-self
 invariant_of-self g c =
     let d = g.D.Disk in
     let x = c.self.inside in
-    standing_same d.tells d.seen d.certain d.may_leave d.moment d.left_since d.faults d.sound x.blocks c.hold_new.new.blocks x.zero x.frames x.index c.hold_new.ensures.same c.self.invariant
+    standing_same d x.blocks c.hold_new.new.blocks x.zero x.frames x.index c.hold_new.ensures.same c.self.invariant
 
 pub commit_with-answer-requires-clause-can : goal.commit_with-answer-requires-clause-can
 commit_with-answer-requires-clause-can g c =
@@ -44,19 +45,20 @@ commit_with-answer-requires-clause-can g c =
     can_from _ _ _ _ (slot_applied (limits_of x.index) c.args.group c.args.view c.args.stripe c.args.stamp c.in_ok-slot.slot st c.requires.group
     (c.in_ok-ready.ensures.free refl) c.in_ok-slot.ensures.slot above)
 
-pub returns-in_err-slot-clause-change : goal.returns-in_err-slot-clause-change
-returns-in_err-slot-clause-change g c =
+pub returns-in_err-slot : goal.returns-in_err-slot
+returns-in_err-slot g c =
     let d = g.D.Disk in
     let x = c.self.inside in
     let now = c.hold_new.new.blocks in
     let f = c.in_err-slot.field-0.0 in
-    let standing = standing_same d.tells d.seen d.certain d.may_leave d.moment d.left_since d.faults d.sound x.blocks now x.zero x.frames x.index c.hold_new.ensures.same c.self.invariant in
+    let standing = standing_same d x.blocks now x.zero x.frames x.index c.hold_new.ensures.same c.self.invariant in
     let view = brick_same x.blocks now x.frames (state_of x.index) c.hold_new.ensures.same ∙ c.self.view_is in
     let q = err_from_is_err_and c.from_residual-in_err-slot.result c.from_residual-in_err-slot.ensures.1 in
-    rw (q.1, q.2) (told_stopped d.tells d.seen d.certain d.may_leave d.moment d.left_since d.faults d.sound g.met.D.Disk.only_now now x.zero x.frames x.index c.args.self.now
+    let both = told_as d _ _ _ _ _ c.from_residual-in_err-slot.result (refused f) (q.1 ∙ ap refused q.2) (told_stopped d g.met.D.Disk.only_now now x.zero x.frames x.index c.args.self.now
     (with_version c.args.self.now.shape.block (place c.args.group c.args.view c.args.stripe) c.args.stamp
     (Some c.args.block) c.args.self.now.state) (calls_of c.args.self.now 35 5) f view (no_slot_fault f c.in_err-slot.ensures.memory) standing c.in_ok-ready.ensures.runs
-    (c.in_ok-ready.ensures.free refl))
+    (c.in_ok-ready.ensures.free refl)) in
+    record { change = both.0; answer = both.1 }
 
 pub invariant_of-self-2 : goal.invariant_of-self-2
 invariant_of-self-2 g c =
@@ -69,7 +71,7 @@ invariant_of-self-2 g c =
     let slot = c.in_ok-slot.slot in
     let above = above_of x.frames.shape.block x.blocks (stripe_at st p) t (Some c.args.block)
     (next_seen x.blocks x.frames st p t (Some c.args.block) c.args.self.now c.self.view_is c.requires.above) in
-    let standing = standing_same d.tells d.seen d.certain d.may_leave d.moment d.left_since d.faults d.sound x.blocks now x.zero x.frames x.index c.hold_new.ensures.same c.self.invariant in
+    let standing = standing_same d x.blocks now x.zero x.frames x.index c.hold_new.ensures.same c.self.invariant in
     let small : slot < 4294967295 = omega (
       arith,
       c.in_ok-slot.ensures.slot,
@@ -78,8 +80,8 @@ invariant_of-self-2 g c =
     ) in
     let last = c.forget_refused.new.blocks in
     let settled = same_settled now last slot st (state_of c.commit_with-answer.new.index) c.commit_with-answer.result c.forget_refused.ensures.added c.forget_refused.ensures.others c.commit_with-answer.ensures.not_made c.in_ok-slot.ensures.unnamed in
-    standing_same d.tells d.seen d.certain d.may_leave d.moment d.left_since d.faults d.sound now last x.zero c.commit_with-answer.new.frames c.commit_with-answer.new.index settled
-    (standing_put d.tells d.seen d.certain d.may_leave d.moment d.left_since d.faults d.sound slot c.held_under.result.now now x.zero x.frames c.commit_with-answer.new.frames x.index c.commit_with-answer.new.index
+    standing_same d now last x.zero c.commit_with-answer.new.frames c.commit_with-answer.new.index settled
+    (standing_put d slot c.held_under.result.now now x.zero x.frames c.commit_with-answer.new.frames x.index c.commit_with-answer.new.index
     (forms.Logged (record { group = c.args.group; view = c.args.view; stripe = c.args.stripe; stamp = t; change = Slot false slot }))
     (added p (entry t slot) st) c.commit_with-answer.result standing c.in_ok-ready.ensures.runs
     (slot_applied (limits_of x.index) c.args.group c.args.view c.args.stripe t slot st c.requires.group
@@ -87,10 +89,10 @@ invariant_of-self-2 g c =
     (λ P here all. slots_added P p t slot st here all) small c.held_under.ensures
     (ap length (same_Some _ _ (sym c.held_under.ensures ∙ c.in_ok-slot.ensures.held)) ∙ c.requires.block
     ∙ sym (ap (λ (b : Brick g.row.D.Denot). b.shape.block) c.self.view_is)) c.in_ok-slot.ensures.unnamed
-    c.self.invariant.indexed.members c.commit_with-answer.ensures.limits c.commit_with-answer.ensures.step c.commit_with-answer.ensures.made c.commit_with-answer.ensures.not_made)
+    c.self.invariant.indexed.members c.commit_with-answer.ensures.limits c.commit_with-answer.ensures.step c.commit_with-answer.ensures.made c.commit_with-answer.ensures.not_made c.commit_with-answer.ensures.change)
 
-pub returns-clause-change : goal.returns-clause-change
-returns-clause-change g c =
+pub returns : goal.returns
+returns g c =
     let d = g.D.Disk in
     let x = c.self.inside in
     let st = state_of x.index in
@@ -100,7 +102,7 @@ returns-clause-change g c =
     let slot = c.in_ok-slot.slot in
     let above = above_of x.frames.shape.block x.blocks (stripe_at st p) t (Some c.args.block)
     (next_seen x.blocks x.frames st p t (Some c.args.block) c.args.self.now c.self.view_is c.requires.above) in
-    let standing = standing_same d.tells d.seen d.certain d.may_leave d.moment d.left_since d.faults d.sound x.blocks now x.zero x.frames x.index c.hold_new.ensures.same c.self.invariant in
+    let standing = standing_same d x.blocks now x.zero x.frames x.index c.hold_new.ensures.same c.self.invariant in
     let small : slot < 4294967295 = omega (
       arith,
       c.in_ok-slot.ensures.slot,
@@ -108,7 +110,7 @@ returns-clause-change g c =
       c.self.invariant.limits.few_slots,
     ) in
     let view = brick_same x.blocks now x.frames st c.hold_new.ensures.same ∙ c.self.view_is in
-    let tried = changes_put d.tells d.seen d.certain d.may_leave d.moment d.left_since d.faults d.sound slot c.held_under.result.now now x.zero x.frames c.commit_with-answer.new.frames x.index
+    let tried = changes_put d slot c.held_under.result.now now x.zero x.frames c.commit_with-answer.new.frames x.index
     (forms.Logged (record { group = c.args.group; view = c.args.view; stripe = c.args.stripe; stamp = t; change = Slot false slot }))
     (state_of c.commit_with-answer.new.index) (added p (entry t slot) st) c.commit_with-answer.result standing c.in_ok-ready.ensures.runs
     (c.in_ok-ready.ensures.free refl)
@@ -116,17 +118,18 @@ returns-clause-change g c =
     (c.in_ok-ready.ensures.free refl) c.in_ok-slot.ensures.slot above)
     (λ P here all. slots_added P p t slot st here all) small
     c.held_under.ensures c.in_ok-slot.ensures.unnamed
-    c.commit_with-answer.ensures.step c.commit_with-answer.ensures.made c.commit_with-answer.ensures.not_made c.commit_with-answer.ensures.cause c.commit_with-answer.ensures.cut in
+    c.commit_with-answer.ensures.step c.commit_with-answer.ensures.made c.commit_with-answer.ensures.not_made c.commit_with-answer.ensures.change in
     let last = c.forget_refused.new.blocks in
     let B = Brick g.row.D.Denot in
     let settled = same_settled now last slot st (state_of c.commit_with-answer.new.index) c.commit_with-answer.result c.forget_refused.ensures.added c.forget_refused.ensures.others c.commit_with-answer.ensures.not_made c.in_ok-slot.ensures.unnamed in
     let after = with_version c.args.self.now.shape.block p t (Some c.args.block) c.args.self.now.state in
-    subst (λ (r : Result (Unit {0}) StoreFault). Changes d.tells d.seen d.certain d.may_leave d.moment d.left_since d.faults d.sound c.args.self.now
+    let both = subst (λ (r : Result (Unit {0}) StoreFault). Told d c.args.self.now
     (brick_of last c.commit_with-answer.new.frames (state_of c.commit_with-answer.new.index)) after true (calls_of c.args.self.now 35 5) r)
     (sym c.forget_refused.ensures.answer)
-    (subst (λ (b : B). Changes d.tells d.seen d.certain d.may_leave d.moment d.left_since d.faults d.sound c.args.self.now b after true (calls_of c.args.self.now 35 5) c.commit_with-answer.result) (sym (brick_same now last c.commit_with-answer.new.frames (state_of c.commit_with-answer.new.index) settled))
-    (told_of d.tells d.seen d.certain d.may_leave d.moment d.left_since d.faults d.sound now x.frames c.commit_with-answer.new.frames st
+    (subst (λ (b : B). Told d c.args.self.now b after true (calls_of c.args.self.now 35 5) c.commit_with-answer.result) (sym (brick_same now last c.commit_with-answer.new.frames (state_of c.commit_with-answer.new.index) settled))
+    (told_of d now x.frames c.commit_with-answer.new.frames st
     (state_of c.commit_with-answer.new.index) (added p (entry t slot) st) c.args.self.now
     (with_version c.args.self.now.shape.block p t (Some c.args.block)) (λ s. true) (λ b. calls_of b 35 5) true _ c.commit_with-answer.result view
     (with_version_seen now x.frames st p t (Some c.args.block) slot c.args.self.now view
-    (cached_is x.frames.shape.block now slot c.args.block small c.in_ok-slot.ensures.held)) refl refl tried))
+    (cached_is x.frames.shape.block now slot c.args.block small c.in_ok-slot.ensures.held)) refl refl tried)) in
+    record { change = both.0; answer = both.1 }

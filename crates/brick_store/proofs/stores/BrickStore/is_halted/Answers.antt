@@ -1,19 +1,20 @@
 -- What the frames and the index say is what a clause sees.
 use Rattle.std.proofs.Common.{◌≡◌, Bool, false, refl, subst}
+use Rattle.fab_disk.specs.Changing.{Stands}
 use Rattle.frame_store.specs.Images.{OpensAs}
 use Rattle.brick_state.specs.Indexes.{state_of}
 use Rattle.brick_store.specs.Blocks.{cached}
 use Rattle.brick_store.specs.Bricks.{Brick, IsOrdered}
-use Rattle.brick_store.specs.Images.{LeavesState, IsListed, limits_of}
-use Rattle.brick_store.proofs.KeptLogs.{kept_ordered, standing_leaves}
+use Rattle.brick_store.specs.Images.{StandsFor, IsListed, limits_of}
+use Rattle.brick_store.proofs.KeptLogs.{kept_ordered, standing_stands}
 use Rattle.brick_store.proofs.stores.BrickStore.is_halted.Goals as goal
 
-pub returns-clause-durable : goal.returns-clause-durable
-returns-clause-durable g c =
+pub returns-clause-stands : goal.returns-clause-stands
+returns-clause-stands g c =
     let d = g.D.Disk in
     let x = c.self.inside in
-    subst (λ (b : Brick g.row.D.Denot). d.tells → b.halted ≡ false → LeavesState b.shape b.state (d.may_leave b.disk)) c.self.view_is
-    (standing_leaves d.tells d.seen d.may_leave x.blocks x.zero x.frames x.index c.self.invariant)
+    subst (λ (b : Brick g.row.D.Denot). d.tells → b.halted ≡ false → Stands d (StandsFor b.shape b.state) b.disk) c.self.view_is
+    (standing_stands d x.blocks x.zero x.frames x.index c.self.invariant)
 
 pub returns-clause-ordered : goal.returns-clause-ordered
 returns-clause-ordered g c =

@@ -1,20 +1,18 @@
 -- The record of an order stamp.
-use Rattle.std.proofs.Common.{◌≡◌, Bool, true, Err, sym, ap, subst, ◌∙◌}
+use Rattle.std.proofs.Common.{◌≡◌, true, refl, sym, ap, ◌∙◌}
 use Rattle.std.proofs.lemmas.Result.{err_from_is_err_and}
 use Rattle.stamp_store.specs.declared.kept_records.Kept.TheVariants.{Order}
-use Rattle.frame_store.specs.Listed.{size_of}
 use Rattle.version_log.specs.Versions.{Version}
 use Rattle.brick_state.specs.declared.records.Record.TheVariants as forms
-use Rattle.brick_state.specs.States.{StateOf, StripeOf, ordered, stripe_at}
+use Rattle.brick_state.specs.States.{StripeOf, ordered, stripe_at}
 use Rattle.brick_state.specs.Folds.{place, adds_order}
 use Rattle.brick_state.specs.Indexes.{state_of, limits_of}
 use Rattle.brick_store.specs.Blocks.{resolved, cached, adds_stamp}
-use Rattle.brick_store.specs.Bricks.{Brick}
-use Rattle.brick_store.specs.Changes.{Changes}
-use Rattle.brick_store.specs.Calls.{calls_of, calls_with}
+use Rattle.brick_store.specs.Calls.{calls_of}
 use Rattle.brick_store.proofs.Changed.{order_applied, can_from, slots_ordered}
-use Rattle.brick_store.proofs.Changing.{changes_refused, changes_plain, standing_plain}
+use Rattle.brick_store.proofs.Changing.{told_as, told_of, told_refused, changes_plain, standing_plain}
 use Rattle.brick_store.proofs.Resolving.{ordered-resolved, stripe_at-resolved}
+use Rattle.brick_store.proofs.Stepping.{refused}
 use Rattle.brick_store.proofs.stores.BrickStore.set_order.Goals as goal
 
 pub commit-requires-clause-can : goal.commit-requires-clause-can
@@ -32,14 +30,14 @@ invariant_of-self g c =
     let p = place c.args.group c.args.view c.args.stripe in
     let free = λ (add : adds_order c.args.stamp (stripe_at st p) ≡ true). c.in_ok-ready.ensures.free
     (c.adds_stamp-adds.ensures ∙ ap (adds_stamp c.args.stamp) c.order.ensures ∙ add) in
-    standing_plain d.tells d.seen d.certain d.may_leave d.moment d.left_since d.faults d.sound x.blocks x.zero x.frames c.commit.new.frames x.index c.commit.new.index
+    standing_plain d x.blocks x.zero x.frames c.commit.new.frames x.index c.commit.new.index
     (forms.Kept (Order c.args.group c.args.view c.args.stripe c.args.stamp))
     (ordered p c.args.stamp st) c.commit.result c.self.invariant c.in_ok-ready.ensures.runs
     (order_applied (limits_of x.index) c.args.group c.args.view c.args.stripe c.args.stamp st c.requires.group free)
-    (λ P zero all. slots_ordered P p c.args.stamp st all) c.self.invariant.indexed.members c.commit.ensures.limits c.commit.ensures.step c.commit.ensures.made c.commit.ensures.not_made
+    (λ P zero all. slots_ordered P p c.args.stamp st all) c.self.invariant.indexed.members c.commit.ensures.limits c.commit.ensures.step c.commit.ensures.made c.commit.ensures.not_made c.commit.ensures.change
 
-pub returns-clause-change : goal.returns-clause-change
-returns-clause-change g c =
+pub returns : goal.returns
+returns g c =
     let d = g.D.Disk in
     let x = c.self.inside in
     let st = state_of x.index in
@@ -50,33 +48,20 @@ returns-clause-change g c =
     let adds = c.adds_stamp-adds.result in
     let free = λ (add : adds_order t (stripe_at st p) ≡ true). c.in_ok-ready.ensures.free
     (c.adds_stamp-adds.ensures ∙ ap (adds_stamp t) c.order.ensures ∙ add) in
-    let tried = changes_plain d.tells d.seen d.certain d.may_leave d.moment d.left_since d.faults d.sound x.blocks x.zero x.frames c.commit.new.frames x.index
+    let tried = changes_plain d x.blocks x.zero x.frames c.commit.new.frames x.index
     (forms.Kept (Order c.args.group c.args.view c.args.stripe t)) now
     (ordered p t st) adds c.commit.result c.self.invariant c.in_ok-ready.ensures.runs c.in_ok-ready.ensures.free
     (order_applied (limits_of x.index) c.args.group c.args.view c.args.stripe t st c.requires.group free)
-    (λ P zero all. slots_ordered P p t st all) c.commit.ensures.step c.commit.ensures.made c.commit.ensures.not_made c.commit.ensures.cause c.commit.ensures.cut in
+    (λ P zero all. slots_ordered P p t st all) c.commit.ensures.step c.commit.ensures.made c.commit.ensures.not_made c.commit.ensures.change in
     let after : resolved block (ordered p t st) ≡ ordered p t (resolved block st) = ordered-resolved block p t st in
     let add : adds ≡ adds_stamp t (stripe_at (resolved block st) p).order = c.adds_stamp-adds.ensures
     ∙ ap (adds_stamp t) (c.order.ensures ∙ sym (ap (λ (s : StripeOf Version). s.order) (stripe_at-resolved block st p))) in
-    let B = Brick g.row.D.Denot in
-    let new : B = record {
-      disk = c.commit.new.frames.disk;
-      shape = c.commit.new.frames.shape;
-      state = resolved
-          (cached c.commit.new.frames.shape.block x.blocks) now;
-      listed = size_of c.commit.new.frames.frames;
-      halted = c.commit.new.frames.halted;
-    } in
-    let old : B = record { disk = x.frames.disk; shape = x.frames.shape; state = resolved block st; listed = size_of x.frames.frames; halted = x.frames.halted } in
-    subst (λ (b : B). Changes d.tells d.seen d.certain d.may_leave d.moment d.left_since d.faults d.sound b new (ordered p t b.state)
-    (adds_stamp t (stripe_at b.state p).order) (calls_of b 30 4) c.commit.result) c.self.view_is
-    (subst (λ (a : StateOf Version). Changes d.tells d.seen d.certain d.may_leave d.moment d.left_since d.faults d.sound old new a
-    (adds_stamp t (stripe_at (resolved block st) p).order) (calls_of old 30 4) c.commit.result) after
-    (subst (λ (b : Bool). Changes d.tells d.seen d.certain d.may_leave d.moment d.left_since d.faults d.sound old new
-    (resolved block (ordered p t st)) b (calls_of old 30 4) c.commit.result) add tried))
+    let both = told_of d x.blocks x.frames c.commit.new.frames st now (ordered p t st) c.args.self.now (ordered p t)
+    (λ s. adds_stamp t (stripe_at s p).order) (λ b. calls_of b 30 4) adds _ c.commit.result c.self.view_is after add refl tried in
+    record { change = both.0; answer = both.1 }
 
-pub returns-in_err-ready-clause-change : goal.returns-in_err-ready-clause-change
-returns-in_err-ready-clause-change g c =
+pub returns-in_err-ready : goal.returns-in_err-ready
+returns-in_err-ready g c =
     let d = g.D.Disk in
     let x = c.self.inside in
     let st = state_of x.index in
@@ -87,12 +72,7 @@ returns-in_err-ready-clause-change g c =
     let f = c.in_err-ready.field-0.0 in
     let add : adds ≡ adds_stamp t (stripe_at (resolved block st) p).order = c.adds_stamp-adds.ensures
     ∙ ap (adds_stamp t) (c.order.ensures ∙ sym (ap (λ (s : StripeOf Version). s.order) (stripe_at-resolved block st p))) in
-    let not_tried = changes_refused d.tells d.seen d.certain d.may_leave d.moment d.left_since d.faults d.sound g.met.D.Disk.only_now x.blocks x.zero x.frames x.index (ordered p t (resolved block st)) adds
-    (calls_with x.frames.shape (size_of x.frames.frames) 30 4) f c.self.invariant c.in_err-ready.ensures.refused in
-    let B = Brick g.row.D.Denot in
-    let old : B = record { disk = x.frames.disk; shape = x.frames.shape; state = resolved block st; listed = size_of x.frames.frames; halted = x.frames.halted } in
     let q = err_from_is_err_and c.from_residual.result c.from_residual.ensures.1 in
-    rw (q.1, q.2) (subst (λ (b : B). Changes d.tells d.seen d.certain d.may_leave d.moment d.left_since d.faults d.sound b b (ordered p t b.state)
-    (adds_stamp t (stripe_at b.state p).order) (calls_of b 30 4) (Err f)) c.self.view_is
-    (subst (λ (b : Bool). Changes d.tells d.seen d.certain d.may_leave d.moment d.left_since d.faults d.sound old old (ordered p t (resolved block st)) b (calls_of old 30 4)
-    (Err f)) add not_tried))
+    let both = told_as d _ _ _ _ _ c.from_residual.result (refused f) (q.1 ∙ ap refused q.2) (told_refused d g.met.D.Disk.only_now x.blocks x.zero x.frames x.index c.args.self.now
+    (ordered p t) (λ s. adds_stamp t (stripe_at s p).order) adds (calls_of c.args.self.now 30 4) f c.self.view_is add c.self.invariant c.in_err-ready.ensures.refused) in
+    record { change = both.0; answer = both.1 }

@@ -4,7 +4,7 @@ use Rattle.fab_disk.specs.Changing.{Whole, Still}
 use Rattle.frame_store.specs.declared.frames.Frame.{Frame}
 use Rattle.frame_store.specs.Ends.{ListChange}
 use Rattle.frame_store.specs.Layouts.{half_at, slot_at}
-use Rattle.frame_store.specs.Listed.{line_of}
+use Rattle.frame_store.specs.Listed.{frame_of, line_of}
 use Rattle.frame_store.specs.Laid.{Laid, IsCounted}
 use Rattle.frame_store.specs.Stores.{Held}
 use Rattle.frame_store.proofs.Changes.{laid_opens}
@@ -20,7 +20,8 @@ returns-in-Ok-clause-change g c =
     let p = c.half_at.result + x.used in
     let place : p ≡ half_at s.shape x.half + x.used =
     ap (λ (n : ℕ). n + x.used) (c.half_at.ensures ∙ ap (λ (s : Held g.row.D.Denot). half_at s.shape x.half) c.self.view_is) in
-    let line_is : c.deref.result.now ≡ line_of c.args.frame = c.deref.ensures.value ∙ c.in_ok-stage.ensures.line in
+    let line_is : c.deref.result.now ≡ line_of c.args.frame = c.deref.ensures.value ∙ c.in_ok-stage.ensures.line
+    ∙ ap (λ (body : List ℕ). line_of (frame_of c.args.frame.kind body)) c.as_slice-body.ensures.value in
     let ready = subst (Ready d x.half x.generation x.other_shut x.used c.stage.new.disk) c.self.view_is
     (record { counted = c.self.invariant.0; invariant = c.self.invariant.1; runs = c.if-self.false; rest = c.stage.ensures.still }) in
     let at_is : c.slot_at-at.result ≡ slot_at s.shape c.args.slot = c.slot_at-at.ensures
@@ -37,13 +38,15 @@ invariant_of-self-in-Ok g c =
     let p = c.half_at.result + x.used in
     let place : p ≡ half_at s.shape x.half + x.used =
     ap (λ (n : ℕ). n + x.used) (c.half_at.ensures ∙ ap (λ (s : Held g.row.D.Denot). half_at s.shape x.half) c.self.view_is) in
-    let line_is : c.deref.result.now ≡ line_of c.args.frame = c.deref.ensures.value ∙ c.in_ok-stage.ensures.line in
+    let line_is : c.deref.result.now ≡ line_of c.args.frame = c.deref.ensures.value ∙ c.in_ok-stage.ensures.line
+    ∙ ap (λ (body : List ℕ). line_of (frame_of c.args.frame.kind body)) c.as_slice-body.ensures.value in
     let ready = subst (Ready d x.half x.generation x.other_shut x.used c.stage.new.disk) c.self.view_is
     (record { counted = c.self.invariant.0; invariant = c.self.invariant.1; runs = c.if-self.false; rest = c.stage.ensures.still }) in
     let at_is : c.slot_at-at.result ≡ slot_at s.shape c.args.slot = c.slot_at-at.ensures
     ∙ ap (λ (s : Held g.row.D.Denot). slot_at s.shape c.args.slot) c.self.view_is in
     let bytes : c.len-bytes.result ≡ length c.deref.result.now = omega arith in
-    let items : c.push.new.self.items ≡ x.frames.items ++ c.args.frame ∷ [] = search rules in
+    let items : c.with-self-inside.result.frames ≡ x.list.frames ++ c.args.frame ∷ [] = c.with-self-inside.ensures
+    ∙ ap (λ (body : List ℕ). x.list.frames ++ frame_of c.args.frame.kind body ∷ []) c.as_slice-body.ensures.value in
     let size : c.max-self-inside.result ≡ max x.size (p + 1 + length c.deref.result.now) = omega (arith, bytes, c.max-self-inside.ensures) in
     let laid = subst (λ (s : Held g.row.D.Denot). d.tells → Laid s.shape x.half x.generation x.other_shut (s.frames ++ c.args.frame ∷ []) true
     (d.seen c.write_both_gated.new.disk)
@@ -54,7 +57,7 @@ invariant_of-self-in-Ok g c =
     (sym c.self.view_is)
     (append_counted d s x.half x.generation x.other_shut x.used c.stage.new.disk c.write_both_gated.new.disk ready p c.args.frame c.deref.result.now place c.requires.fits line_is) in
     let used : x.used + length c.deref.result.now ≡ x.used + c.len-bytes.result = omega (arith, bytes) in (
-      subst (λ (n : ℕ). IsCounted x.shape c.push.new.self.items n) used
+      subst (λ (n : ℕ). IsCounted x.shape c.with-self-inside.result.frames n) used
           (subst (λ (fs : List Frame). IsCounted x.shape fs (x.used + length c.deref.result.now)) (sym items) counted),
       λ told runs. (
         subst (λ (fs : List Frame). Laid x.shape x.half x.generation x.other_shut fs true (d.seen c.write_both_gated.new.disk)) (sym items) (laid told).0,
@@ -67,7 +70,7 @@ returns-in-Ok-clause-read g c = λ told runs.
     let x = c.self.inside in
     let now = (invariant_of-self-in-Ok g c).1 told runs in
     record {
-      opens = laid_opens x.shape x.half x.generation x.other_shut c.push.new.self.items true
+      opens = laid_opens x.shape x.half x.generation x.other_shut c.with-self-inside.result.frames true
           (g.D.Disk.seen c.write_both_gated.new.disk) now.0;
       size = now.1;
     }
@@ -81,15 +84,16 @@ returns-in_err-stage-clause-change g c =
     (still_change d g.met.D.Disk.only_now 5 s after (Some (c.args.slot, c.args.block.now)) c.stage.new.disk
     (subst (λ (s : Held g.row.D.Denot). Still d s.disk c.stage.new.disk ⊥) c.self.view_is c.stage.ensures.still))
 
-pub returns-in-Err-clause-change : goal.returns-in-Err-clause-change
-returns-in-Err-clause-change g c =
+pub returns-clause-change : goal.returns-clause-change
+returns-clause-change g c =
     let x = c.self.inside in
     let d = g.D.Disk in
     let s = c.args.self.now in
     let p = c.half_at.result + x.used in
     let place : p ≡ half_at s.shape x.half + x.used =
     ap (λ (n : ℕ). n + x.used) (c.half_at.ensures ∙ ap (λ (s : Held g.row.D.Denot). half_at s.shape x.half) c.self.view_is) in
-    let line_is : c.deref.result.now ≡ line_of c.args.frame = c.deref.ensures.value ∙ c.in_ok-stage.ensures.line in
+    let line_is : c.deref.result.now ≡ line_of c.args.frame = c.deref.ensures.value ∙ c.in_ok-stage.ensures.line
+    ∙ ap (λ (body : List ℕ). line_of (frame_of c.args.frame.kind body)) c.as_slice-body.ensures.value in
     let ready = subst (Ready d x.half x.generation x.other_shut x.used c.stage.new.disk) c.self.view_is
     (record { counted = c.self.invariant.0; invariant = c.self.invariant.1; runs = c.if-self.false; rest = c.stage.ensures.still }) in
     let at_is : c.slot_at-at.result ≡ slot_at s.shape c.args.slot = c.slot_at-at.ensures

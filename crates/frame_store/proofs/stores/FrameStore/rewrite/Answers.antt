@@ -70,13 +70,13 @@ invariant_of-self-in-Ok g c =
     (rewrite_counted d s x.half x.generation x.other_shut x.used mid new ready fs gate at c.closing-shut.result.now
     c.header_rest-rest.result line c.requires.fits small gate_is at_is c.closing-shut.ensures rest_is line_is) in
     let bytes : c.len-bytes.result ≡ length line = omega arith in
-    let items : c.replace.new.listed.items ≡ fs = c.replace.ensures.items in
+    let items : c.listing_of-self-inside.result.frames ≡ fs = c.listing_of-self-inside.ensures ∙ c.deref-in-Ok.ensures.value in
     let size : c.max-self-inside.result ≡ max x.size (at + length line) = omega (arith, bytes, c.max-self-inside.ensures) in
     let used : length line - 1 ≡ c.len-bytes.result - 1 = omega (arith, bytes) in (
-      subst (λ (n : ℕ). IsCounted x.shape c.replace.new.listed.items n) used (subst (λ (l : List Frame). IsCounted x.shape l (length line - 1))
+      subst (λ (n : ℕ). IsCounted x.shape c.listing_of-self-inside.result.frames n) used (subst (λ (l : List Frame). IsCounted x.shape l (length line - 1))
           (sym items) counts),
       λ told runs_now. (
-        subst (λ (h : Half). Laid x.shape h (next_of x.generation) false c.replace.new.listed.items true (d.seen new)) (sym c.other-other.ensures)
+        subst (λ (h : Half). Laid x.shape h (next_of x.generation) false c.listing_of-self-inside.result.frames true (d.seen new)) (sym c.other-other.ensures)
             (subst (λ (l : List Frame). Laid x.shape (other x.half) (next_of x.generation) false l true (d.seen new)) (sym items) (laid told).0),
         (laid told).1 ∙ sym size,
       ),
@@ -87,7 +87,7 @@ returns-in-Ok-clause-read g c = λ told runs.
     let x = c.self.inside in
     let now = (invariant_of-self-in-Ok g c).1 told runs in
     record {
-      opens = laid_opens x.shape c.other-other.result (next_of x.generation) false c.replace.new.listed.items true
+      opens = laid_opens x.shape c.other-other.result (next_of x.generation) false c.listing_of-self-inside.result.frames true
           (g.D.Disk.seen c.rewrite_gated.new.disk) now.0;
       size = now.1;
     }
@@ -184,8 +184,6 @@ returns-in-Ok-clause-left g c = λ calls bytes written listed body had.
       disk = c.in-Ok.ensures.left calls bytes (store_end x.shape)
           (omega (arith, c.half_at-at.ensures, half_within x.shape c.other-other.result, fits, ap length line_is, length-closed_list fs)) less;
       line = omega (arith, before.line, c.stage_list.ensures.wide);
-      listed = omega (arith, before.listed, c.stage_list.ensures.capacity, c.replace.ensures.capacity);
-      spare = before.spare;
     }
 
 pub returns-in_err-stage_list-clause-change : goal.returns-in_err-stage_list-clause-change
@@ -196,8 +194,8 @@ returns-in_err-stage_list-clause-change g c =
     (still_change d g.met.D.Disk.only_now 7 s c.args.frames.items None c.stage_list.new.disk
     (subst (λ (s : Held g.row.D.Denot). Still d s.disk c.stage_list.new.disk ⊥) c.self.view_is c.stage_list.ensures.still))
 
-pub returns-in-Err-clause-change : goal.returns-in-Err-clause-change
-returns-in-Err-clause-change g c =
+pub returns-clause-change : goal.returns-clause-change
+returns-clause-change g c =
     let x = c.self.inside in
     let d = g.D.Disk in
     let s = c.args.self.now in

@@ -5,7 +5,6 @@ use Rattle.node.specs.declared.faults.NodeFault.{NodeFault}
 use Rattle.node.specs.declared.faults.NodeFault.TheVariants.{Disk, NoMemory}
 use Rattle.fab_disk.specs.Disk.{IsUntouched}
 use Rattle.brick_store.specs.Bricks.{Brick}
-use Rattle.replica.specs.Handling.{KeepsParts}
 use Rattle.node.specs.Running.{state_of, LeavesBrick, KeepsUnseen}
 use Rattle.node.proofs.Moments.{untouched_same}
 use Rattle.node.proofs.States.{on_ok}
@@ -31,12 +30,12 @@ returns-in-Reply-clause-unseen g c =
     (record { groups = refl; views = λ group view stripe other. refl })
 
 pub returns-in-Reply-clause-still : goal.returns-in-Reply-clause-still
-returns-in-Reply-clause-still g c =
+returns-in-Reply-clause-still g c = λ none.
     let d = g.D.Disk in
-    let old = c.args.self.now in
-    subst (λ (b : Brick g.row.D.Denot). OnOk c.on_reply.result (KeepsParts old.layout.block old.brick.state b.state
-    → (b.state ≡ old.brick.state) × IsUntouched d.seen d.may_leave d.moment d.left_since old.brick.disk b.disk)) (sym c.on_reply.ensures.brick)
-    (on_ok c.on_reply.result (λ same. (refl, untouched_same d.moment d.left_since d.seen d.may_leave old.brick.disk)))
+    let old = c.args.self.now.brick in
+    subst (λ (b : Brick g.row.D.Denot). OnOk c.on_reply.result ((b.state ≡ old.state) × IsUntouched d.seen d.may_leave d.moment d.left_since old.disk b.disk))
+    (sym c.on_reply.ensures.brick)
+    (on_ok c.on_reply.result (refl, untouched_same d.moment d.left_since d.seen d.may_leave old.disk))
 
 pub returns-then-is_halted : goal.returns-then-is_halted
 unfolding received requested absorbed

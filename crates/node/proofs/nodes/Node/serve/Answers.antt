@@ -1,5 +1,5 @@
 -- What follows of the store is what the machine's brick does.
-use Rattle.std.proofs.Common.{◌≡◌, false, inl, Err, refl, sym, ◌∙◌, ap, subst, rules}
+use Rattle.std.proofs.Common.{◌≡◌, ◌⊎◌, ℕ, List, Option, false, inl, Result, Ok, Err, refl, sym, ◌∙◌, ap, subst, rules}
 use Rattle.std.proofs.lemmas.Result.{err_from_is_err_and}
 use Rattle.fab_base.specs.declared.identities.BrickId.{BrickId}
 use Rattle.fab_disk.specs.Disk.{IsUntouched, LeavesOnly}
@@ -8,18 +8,29 @@ use Rattle.frame_store.specs.declared.shapes.Shape.{Shape}
 use Rattle.coord_phase.specs.Messages.{packets_from}
 use Rattle.replica.proofs.Runs.{run_refused as not_begun}
 use Rattle.replica.specs.Reactions.{IsStep, member_step}
-use Rattle.replica.specs.Handling.{OpensAsEither, KeepsParts}
+use Rattle.replica.specs.Handling.{StandsForNext, KeepsParts}
+use Rattle.replica.specs.Calls.{message_calls}
+use Rattle.replica.specs.Parts.{IsPartsOf}
+use Rattle.replica.specs.declared.faults.ReplicaFault.{ReplicaFault}
+use Rattle.replica.proofs.Words.{words_of}
+use Rattle.brick_store.specs.Images.{StandsFor}
+use Rattle.brick_store.proofs.Words.{leaves}
+use Rattle.messages.specs.declared.packets.Message.{Message}
+use Rattle.protocol.specs.Nodes.{Node}
 use Rattle.node.specs.declared.faults.NodeFault.{NodeFault}
 use Rattle.node.specs.Outcomes.{Outcome}
 use Rattle.node.specs.States.{StepsAs}
-use Rattle.node.specs.Running.{Running, running, state_of, ShowsEither, LeavesBrick, KeepsUnseen}
+use Rattle.node.specs.Running.{Running, running, state_of, shape_at, ShowsEither, LeavesBrick, KeepsUnseen}
 use Rattle.node.proofs.Views.{kept_so, leaves_so, same_kept}
 use Rattle.node.proofs.Moments.{leaves_more, leaves_still, untouched_same, kept_same}
 use Rattle.node.proofs.States.{on_err}
 use Rattle.node.proofs.Sent.{answered_is}
-use Rattle.node.proofs.Requests.{is_me, first_view_after, follows_state, follows_boot, follows_packets, follows_told, follows_shown}
-use Rattle.node.proofs.Runs.{run_refused, run_shown, cut_shown}
+use Rattle.node.proofs.Requests.{is_me, first_view_after, follows_state, follows_boot, follows_packets, follows_told, follows_shown, follows_still}
+use Rattle.node.proofs.Runs.{refused, run_refused, run_shown, cut_shown}
 use Rattle.node.proofs.nodes.Node.serve.Goals as goal
+
+abbrev answered_so : Option Message → Result (Option Message) ReplicaFault
+answered_so answer = Ok answer
 
 -- without room nothing is done
 pub returns-in_default : goal.returns-in_default
@@ -32,7 +43,7 @@ returns-in_default g c =
       err = refl;
       same = record { layout = refl; me = refl };
       unseen = record { groups = refl; views = λ group view stripe other. refl };
-      still = tt;
+      still = λ none. tt;
       durable = λ told. tt;
       moments = λ told. leaves_still d.moment d.left_since d.may_leave g.met.D.Disk.only_now disk _ (λ image left. inl (c.requires.durable told image left));
       cut = λ told is. absurd cc;
@@ -61,9 +72,11 @@ returns-in_err-answer-clause-moments g c = λ told.
     let message = c.args.message.now in
     let shape = c.self.invariant.shape_is in
     let runs : old.halted ≡ false = ap (λ (n : Running g.row.D.Denot). n.brick.halted) c.self.view_is ∙ c.requires.runs in
+    let words = words_of d _ old _ new.disk (refused (Option Message) c.in_err-answer.field-0.0) c.in_err-answer.ensures.handles.stood (c.in_err-answer.ensures.change (state_of (running x.layout x.calls old))
+    (kept_so x.layout x.calls old c.self.invariant).parts) in
     let moved = subst (λ (me : BrickId). LeavesOnly d.moment d.left_since old.disk new.disk
-    (OpensAsEither old.shape old.state (IsStep x.layout me from message old.state)))
-    (is_me x.layout x.calls old from message shape) (c.in_err-answer.ensures.handles.any_moment told runs) in
+    (λ (image : List ℕ). StandsFor old.shape old.state image ⊎ StandsForNext old.shape (IsStep x.layout me from message old.state) image))
+    (is_me x.layout x.calls old from message shape) (words.any_moment told runs) in
     subst
     (λ (n : Running g.row.D.Denot). LeavesOnly d.moment d.left_since n.brick.disk new.disk
     (ShowsEither n.layout n.me (state_of n) (member_step n.layout n.me from (state_of n) message).node))
@@ -114,7 +127,7 @@ returns-clause-durable g c = λ told.
     let new = c.handle.new.store in
     subst (λ (n : Running g.row.D.Denot). LeavesBrick n.layout n.me (state_of (running x.layout x.calls new)) (d.may_leave new.disk)) c.self.view_is
     (leaves_so x.layout x.calls.me (state_of (running x.layout x.calls new)) new (d.may_leave new.disk) (h.shape ∙ c.self.invariant.shape_is)
-    (kept_so x.layout x.calls new (invariant_of-self-2 g c)) (h.durable told))
+    (kept_so x.layout x.calls new (invariant_of-self-2 g c)) (leaves d (StandsFor new.shape new.state) new.disk (h.stands told)))
 
 pub returns-clause-moments : goal.returns-clause-moments
 returns-clause-moments g c = λ told.
@@ -126,9 +139,11 @@ returns-clause-moments g c = λ told.
     let message = c.args.message.now in
     let shape = c.self.invariant.shape_is in
     let runs : old.halted ≡ false = ap (λ (n : Running g.row.D.Denot). n.brick.halted) c.self.view_is ∙ c.requires.runs in
+    let words = words_of d _ old _ new.disk (answered_so c.in_ok-answer.answer) c.in_ok-answer.ensures.handles.stood (c.in_ok-answer.ensures.change (state_of (running x.layout x.calls old))
+    (kept_so x.layout x.calls old c.self.invariant).parts) in
     let moved = subst (λ (me : BrickId). LeavesOnly d.moment d.left_since old.disk new.disk
-    (OpensAsEither old.shape old.state (IsStep x.layout me from message old.state)))
-    (is_me x.layout x.calls old from message shape) (c.in_ok-answer.ensures.handles.any_moment told runs) in
+    (λ (image : List ℕ). StandsFor old.shape old.state image ⊎ StandsForNext old.shape (IsStep x.layout me from message old.state) image))
+    (is_me x.layout x.calls old from message shape) (words.any_moment told runs) in
     subst
     (λ (n : Running g.row.D.Denot). LeavesOnly d.moment d.left_since n.brick.disk new.disk
     (ShowsEither n.layout n.me (state_of n) (member_step n.layout n.me from (state_of n) message).node))
@@ -145,11 +160,20 @@ pub returns-clause-still : goal.returns-clause-still
 returns-clause-still g c =
     let d = g.D.Disk in
     let x = c.self.inside in
+    let from = c.args.from in
+    let message = c.args.message.now in
+    let answer = c.in_ok-answer.answer in
     let new = c.handle.new.store in
-    subst (λ (n : Running g.row.D.Denot). KeepsParts n.layout.block n.brick.state new.state → (new.state ≡ n.brick.state)
-    × IsUntouched d.seen d.may_leave d.moment d.left_since n.brick.disk new.disk) c.self.view_is
-    (λ same. c.in_ok-answer.ensures.handles.still
-    (subst (λ (s : Shape). KeepsParts s.block x.store.state new.state) (sym c.self.invariant.shape_is) same))
+    let shape = c.self.invariant.shape_is in
+    let is = subst (λ (me : BrickId). IsStep x.layout me from message x.store.state answer new.state)
+    (is_me x.layout x.calls x.store from message shape) c.in_ok-answer.ensures.handles.ok in
+    subst (λ (n : Running g.row.D.Denot). message_calls n.layout n.me from (shape_at n.layout n.me) n.brick.listed (state_of n) message ≡ 0
+    → (new.state ≡ n.brick.state) × IsUntouched d.seen d.may_leave d.moment d.left_since n.brick.disk new.disk) c.self.view_is
+    (λ none. c.in_ok-answer.ensures.handles.still
+    (subst (λ (s : Shape). KeepsParts s.block x.store.state new.state) (sym shape)
+    (follows_still x.layout x.calls x.store from message new answer is
+    (subst (λ (s : Shape). message_calls x.layout x.calls.me from s x.store.listed (state_of (running x.layout x.calls x.store)) message ≡ 0)
+    (sym shape) none))))
 
 pub returns-in_err-answer-clause-run : goal.returns-in_err-answer-clause-run
 returns-in_err-answer-clause-run g c =
@@ -159,7 +183,9 @@ returns-in_err-answer-clause-run g c =
     run_refused d.tells d.moment d.plan d.unlisted _ _ _ c.args.self.now.brick.disk c.handle.new.store.disk c.in_err-answer.field-0.0 _
     (fault.1 ∙ ap (λ (e : NodeFault). Err e) fault.2)
     (run_shown d.tells d.moment d.plan d.unlisted x.layout x.calls c.args.from c.args.message.now x.store c.handle.new.store c.args.self.now _ _
-    c.self.view_is c.self.invariant c.in_err-answer.ensures.run)
+    c.self.view_is c.self.invariant (λ (machine : Node) (parts : IsPartsOf x.layout x.store.state machine).
+    (words_of d _ x.store _ c.handle.new.store.disk (refused (Option Message) c.in_err-answer.field-0.0) c.in_err-answer.ensures.handles.stood
+    (c.in_err-answer.ensures.change machine parts)).run))
 
 pub returns-clause-run : goal.returns-clause-run
 returns-clause-run g c =
@@ -167,14 +193,21 @@ returns-clause-run g c =
     let x = c.self.inside in
     run_whole d.tells d.moment d.plan d.unlisted _ c.args.self.now.brick.disk c.handle.new.store.disk _ _ _ _ refl refl (λ h. absurd cc)
     (run_shown d.tells d.moment d.plan d.unlisted x.layout x.calls c.args.from c.args.message.now x.store c.handle.new.store c.args.self.now _ _
-    c.self.view_is c.self.invariant c.in_ok-answer.ensures.run)
+    c.self.view_is c.self.invariant (λ (machine : Node) (parts : IsPartsOf x.layout x.store.state machine).
+    (words_of d _ x.store _ c.handle.new.store.disk (answered_so c.in_ok-answer.answer) c.in_ok-answer.ensures.handles.stood
+    (c.in_ok-answer.ensures.change machine parts)).run))
 
 pub returns-in_err-answer-clause-cut : goal.returns-in_err-answer-clause-cut
 returns-in_err-answer-clause-cut g c =
+    let d = g.D.Disk in
     let x = c.self.inside in
+    let runs : x.store.halted ≡ false = ap (λ (n : Running g.row.D.Denot). n.brick.halted) c.self.view_is ∙ c.requires.runs in
     let fault = err_from_is_err_and c.from_residual.result c.from_residual.ensures.1 in
     cut_shown x.layout x.calls c.args.from c.args.message.now x.store c.handle.new.store c.args.self.now c.in_err-answer.field-0.0 _
-    c.self.view_is c.self.invariant (fault.1 ∙ ap (λ (e : NodeFault). Err e) fault.2) c.in_err-answer.ensures.cut
+    c.self.view_is c.self.invariant (fault.1 ∙ ap (λ (e : NodeFault). Err e) fault.2)
+    (λ (machine : Node) (parts : IsPartsOf x.layout x.store.state machine) told is.
+    (words_of d _ x.store _ c.handle.new.store.disk (refused (Option Message) c.in_err-answer.field-0.0) c.in_err-answer.ensures.handles.stood
+    (c.in_err-answer.ensures.change machine parts)).cut told runs is)
 
 pub returns-in_err-answer-clause-step : goal.returns-in_err-answer-clause-step
 returns-in_err-answer-clause-step g c = search rules
@@ -204,10 +237,26 @@ pub returns-in_err-answer-clause-not_refused : goal.returns-in_err-answer-clause
 returns-in_err-answer-clause-not_refused g c = search rules
 
 pub returns-in_err-answer-clause-no_call : goal.returns-in_err-answer-clause-no_call
-returns-in_err-answer-clause-no_call g c = search rules
+returns-in_err-answer-clause-no_call g c =
+    let d = g.D.Disk in
+    let x = c.self.inside in
+    let old = x.store in
+    let new = c.handle.new.store in
+    let words = words_of d _ old _ new.disk (refused (Option Message) c.in_err-answer.field-0.0) c.in_err-answer.ensures.handles.stood (c.in_err-answer.ensures.change (state_of (running x.layout x.calls old))
+    (kept_so x.layout x.calls old c.self.invariant).parts) in
+    let no_call = words.no_call in
+    search (rules, no_call)
 
 pub returns-in_err-answer-clause-cause : goal.returns-in_err-answer-clause-cause
-returns-in_err-answer-clause-cause g c = search rules
+returns-in_err-answer-clause-cause g c =
+    let d = g.D.Disk in
+    let x = c.self.inside in
+    let old = x.store in
+    let new = c.handle.new.store in
+    let words = words_of d _ old _ new.disk (refused (Option Message) c.in_err-answer.field-0.0) c.in_err-answer.ensures.handles.stood (c.in_err-answer.ensures.change (state_of (running x.layout x.calls old))
+    (kept_so x.layout x.calls old c.self.invariant).parts) in
+    let cause = words.cause in
+    search (rules, cause)
 
 pub returns-clause-few : goal.returns-clause-few
 returns-clause-few g c = search rules
@@ -234,4 +283,12 @@ pub returns-clause-no_call : goal.returns-clause-no_call
 returns-clause-no_call g c = search rules
 
 pub returns-clause-cause : goal.returns-clause-cause
-returns-clause-cause g c = search rules
+returns-clause-cause g c =
+    let d = g.D.Disk in
+    let x = c.self.inside in
+    let old = x.store in
+    let new = c.handle.new.store in
+    let words = words_of d _ old _ new.disk (answered_so c.in_ok-answer.answer) c.in_ok-answer.ensures.handles.stood (c.in_ok-answer.ensures.change (state_of (running x.layout x.calls old))
+    (kept_so x.layout x.calls old c.self.invariant).parts) in
+    let cause = words.cause in
+    search (rules, cause)

@@ -12,20 +12,20 @@ use Rattle.world.proofs.simulations.Simulation.start.Goals as goal
 
 pub returns-then-brick-from-clause-comes : goal.returns-then-brick-from-clause-comes
 returns-then-brick-from-clause-comes c w reached shows notes =
-    start_comes c.args.layout.now w c.args.self.now c.args.self.now (brick_of c.args.brick) c.args.fault false (λ i other. refl) refl refl reached shows notes
+    start_comes c.args.layout.now w c.args.self.now c.args.self.now (brick_of c.args.brick) c.args.fault false refl refl reached shows notes
     (starts_nowhere c.args.layout.now c.args.self.now.bricks.items (brick_of c.args.brick) c.args.fault w (omega arith) shows.bricks)
 
 pub returns-then-branch-clause-comes : goal.returns-then-branch-clause-comes
 returns-then-branch-clause-comes c w reached shows notes =
     start_comes c.args.layout.now w c.args.self.now (record { bricks = c.start_brick.new.bricks; history = c.args.self.now.history; ledger = c.args.self.now.ledger })
-    (brick_of c.args.brick) c.args.fault true c.start_brick.ensures.others refl refl reached shows notes
+    (brick_of c.args.brick) c.args.fault true refl refl reached shows notes
     (subst (λ (b : Bool). (events : List Event) × StartsAs c.args.layout.now w (brick_of c.args.brick) c.args.fault c.args.self.now.bricks.items
     c.start_brick.new.bricks.items b events) c.if-branch.true (c.in_ok-start_brick.ensures.started w shows.bricks))
 
 pub returns-else-branch-clause-comes : goal.returns-else-branch-clause-comes
 returns-else-branch-clause-comes c w reached shows notes =
     start_comes c.args.layout.now w c.args.self.now (record { bricks = c.start_brick.new.bricks; history = c.args.self.now.history; ledger = c.args.self.now.ledger })
-    (brick_of c.args.brick) c.args.fault false c.start_brick.ensures.others refl refl reached shows notes
+    (brick_of c.args.brick) c.args.fault false refl refl reached shows notes
     (subst (λ (b : Bool). (events : List Event) × StartsAs c.args.layout.now w (brick_of c.args.brick) c.args.fault c.args.self.now.bricks.items
     c.start_brick.new.bricks.items b events) c.if-branch.false (c.in_ok-start_brick.ensures.started w shows.bricks))
 

@@ -1,0 +1,25 @@
+-- What a reading of a list tells of the bytes that it went through.
+use Rattle.std.specs.Prelude.{◌≡◌, ◌≢◌, ℕ, ◌<◌, ◌≤◌, Bool, true, List, length, get_or, drop, take, None}
+use Rattle.frame_store.specs.declared.frames.Frame.{Frame}
+use Rattle.frame_store.specs.Layouts.{open_gate}
+use Rattle.frame_store.specs.Listed.{spelled, size_of, frame_at, frames_of}
+
+-- these frames stand at the front of the bytes, and no whole frame behind them
+pub record IsFront (bytes : List ℕ) (frames : List Frame) (used : ℕ) : Type 0 where
+  pub size : used ≡ size_of frames
+  pub within : used ≤ length bytes
+  pub stands : take used bytes ≡ spelled frames
+  pub ended : frame_at (drop used bytes) ≡ None
+
+-- a gate that is not open stands at this place
+pub record IsShutAt (bytes : List ℕ) (at : ℕ) : Type 0 where
+  pub within : at < length bytes
+  pub shut : get_or bytes at 0 ≢ open_gate
+
+-- The list of these bytes has these frames, which are so many bytes; closed says whether a gate that is not open stands behind them.
+pub record IsListOf (bytes : List ℕ) (frames : List Frame) (used : ℕ) (closed : Bool) : Type 0 where
+  pub listed : frames_of bytes ≡ frames
+  pub stands : take used bytes ≡ spelled frames
+  pub within : used ≤ length bytes
+  pub ended : closed ≡ true → IsShutAt bytes used
+  pub not_ended : IsShutAt bytes used → closed ≡ true
