@@ -244,7 +244,7 @@ module _ (layout : Layout) (is : IsLayout layout) where
         are_told bytes (data_bytes k p n bytes at) long.0 long.1
     answer_reads k p n Done at = tt
     answer_reads k p n (Aborted cause) at =
-        let shows = laws.aborts k p n cause at in cause_reads n shows.0 cause shows.2
+        let shows = laws.aborts k p n cause at in cause_reads shows.0 shows.1 cause shows.4
 
     -- where there are so few marks and operations, each mark reads back
     pub mark_reads : (length w.marks ≤ 10000000) → ((n : ℕ) → (life : Life)

@@ -13,7 +13,7 @@ use Rattle.protocol.specs.declared.tellings.Answered.{Answered}
 use Rattle.protocol.specs.declared.tellings.Told.{Told}
 use Rattle.protocol.specs.declared.tellings.Told.TheVariants as told
 use Rattle.protocol.specs.Nodes.{NodeStep, put, refusal_of, invoked, received}
-use Rattle.protocol.specs.Worlds.{World, Event, first_world, Found, Invokes, Delivers, Sets, Ticks, Stops, Starts, Before, After, number_of, is_brick, is_up, may_start, world_began, world_told, world_tells, world_answered, world_answers, world_stepped, world_ticked, world_stopped, world_found, world_started, replies_with, delivered, packet_of, happens, run}
+use Rattle.protocol.specs.Worlds.{World, Event, first_world, Found, Invokes, Delivers, Sets, Ticks, Stops, Starts, Before, After, number_of, mark_of, is_brick, is_up, may_start, world_began, world_told, world_tells, world_answered, world_answers, world_stepped, world_ticked, world_stopped, world_found, world_started, replies_with, delivered, packet_of, happens, run}
 use Rattle.lines.specs.declared.forms.Line.{Line}
 use Rattle.lines.specs.declared.forms.Line.TheVariants.{Nothing, Invoke, Deliver, SetClock, Tick, Crash, Start, Calm}
 use Rattle.fab_base.specs.Layouts.{Layout}
@@ -187,7 +187,7 @@ answer_marks : (w : World) (brick : BrickId) (answers : List Answered)
     → (more : List Mark) × ((world_answers w brick answers).marks ≡ w.marks ++ more) × (others (map OfMark more) ≡ 0)
 answer_marks w brick [] = ([], sym (append-nil w.marks), refl)
 answer_marks w brick (one ∷ answers) =
-    let here : Mark = mark.End (length w.marks) (number_of w brick.0 one.seq) one.answer in
+    let here : Mark = mark.End (length w.marks) (mark_of w (number_of w brick.0 one.seq)) one.answer in
     let rest = answer_marks (world_answered w brick one) brick answers in
     (here ∷ rest.0, rest.1 ∙ append_assoc w.marks (here ∷ []) rest.0, (let none = rest.2 in omega (arith, none)))
 
@@ -244,7 +244,7 @@ event_printed setting w (Invokes brick ask) =
     let step : NodeStep = invoked setting brick (w.clocks brick.0) (w.nodes brick.0) ask in
     invoked_printed w (world_began w brick ask step) (is_up setting.layout w brick)
     (refusal_of setting.layout (w.nodes brick.0) ask) (printed_more w (world_began w brick ask step)
-    (mark.Begin (length w.marks) (w.begun + 1) brick ask ∷ []) 1 refl (omega arith))
+    (mark.Begin (length w.marks) (w.marked + 1) brick ask ∷ []) 1 refl (omega arith))
 event_printed setting w (Delivers number) = delivered_printed setting w number (packet_of w.packets number)
 event_printed setting w (Sets brick time) =
     done_or_not w (record w { clocks = put w.clocks brick.0 time }) (is_brick setting.layout brick)

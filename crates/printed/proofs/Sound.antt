@@ -101,7 +101,7 @@ module _ (layout : Layout) (is : IsLayout layout) (schedule : List (List ℕ)) (
 
   -- how many begin, and how many end
   begun_is : length (begun_numbers w.marks) ≡ w.begun
-  begun_is = (always_numbered (coding layout) events).count
+  begun_is = (always_numbered (coding layout) events).count ∙ (books (coding layout) events).own.count
 
   -- no more begin than there are steps
   begins_few : count_by is_begin w.marks ≤ length steps

@@ -39,7 +39,7 @@ stand_cases : (setting : Setting) (w : World) → MarksStand setting w → Event
 stand_cases setting w all = record {
   begins = λ brick ask may.
       (let up = (and_parts (is_up setting.layout w brick) (not (is_some (refusal_of setting.layout (w.nodes brick.0) ask))) may).0 in
-      one_more setting w.marks (Begin (length w.marks) (w.begun + 1) brick ask) all
+      one_more setting w.marks (Begin (length w.marks) (w.marked + 1) brick ask) all
       (up_brick setting.layout w brick up, begin_fits setting w brick ask may));
   handles = λ number packet at up.
       stepped_each (MarksStand setting) setting packet.to (step_on setting w packet) (λ x seq t base holds. holds) (λ x seq v holds. holds)

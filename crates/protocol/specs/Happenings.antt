@@ -2,7 +2,7 @@
 -- read answered it at once, or where it is the base of an effective version. Effective versions are walked by
 -- rising stamp: the maker, where it is a write, or a read that was answered; then the reads that answered it
 -- at once, by number; each at the greatest begin so far.
-use Rattle.std.specs.Prelude.{ℕ, zero, suc, Bool, true, false, not, nat_eq, ◌&&◌, ◌||◌, if◌then◌else◌, List, [], ◌∷◌, ◌++◌, Option, Some, None, option_to_list}
+use Rattle.std.specs.Prelude.{ℕ, zero, suc, Bool, true, false, not, nat_eq, nat_lt, ◌&&◌, ◌||◌, if◌then◌else◌, List, [], ◌∷◌, ◌++◌, Option, Some, None, map, option_to_list}
 use Rattle.std.specs.List.{list_any}
 use Rattle.fab_base.specs.declared.asks.Op.{Op}
 use Rattle.fab_base.specs.declared.asks.Op.TheVariants.{ReadBlock, WriteBlock, ReadStripe, WriteStripe}
@@ -12,7 +12,7 @@ use Rattle.reg_model.specs.declared.marks.Happening.{Happening}
 use Rattle.reg_model.specs.declared.entries.Entry.{Entry}
 use Rattle.reg_model.specs.Marks.{stripe_marks}
 use Rattle.reg_model.specs.Walk.{entry_below, positioned}
-use Rattle.protocol.specs.Worlds.{World, Operation}
+use Rattle.protocol.specs.Worlds.{World, Operation, own_mark}
 
 -- an operation of this stripe
 abbrev pub is_of : ℕ → ℕ → Operation → Bool
@@ -33,9 +33,14 @@ abbrev pub entries_to : (ℕ → Option Operation) → ℕ → ℕ → ℕ → L
 entries_to operations g s zero = []
 entries_to operations g s (suc n) = entries_to operations g s n ++ entry_at g s (suc n) (operations (suc n))
 
+-- an operation that has marks: numbers are from 1
+abbrev pub is_marked : Operation → Bool
+is_marked o = nat_lt 0 o.mark
+
+-- an operation that has marks was answered
 abbrev pub was_answered : Option Operation → Bool
 was_answered None = false
-was_answered (Some o) = o.answered
+was_answered (Some o) = is_marked o && o.answered
 
 -- an operation that writes
 abbrev pub writes : Op → Bool
@@ -44,10 +49,10 @@ writes (WriteBlock j bytes) = true
 writes ReadStripe = false
 writes (WriteStripe bytes) = true
 
--- an entry's operation, where it was answered or effective, is told: a write, or an answered read
+-- an entry's operation, where it was answered or effective, is told: a write, or an answered read, that has marks
 abbrev pub is_told : Option Operation → Bool
 is_told None = false
-is_told (Some o) = o.answered || writes o.ask.op
+is_told (Some o) = is_marked o && (o.answered || writes o.ask.op)
 
 -- the version that an operation's was made on
 abbrev pub base_of : Option Operation → Option Stamp
@@ -99,9 +104,13 @@ effect_of operations (e ∷ entries) = with_entry (operations e.operation) e (ef
 abbrev pub effect_in : World → ℕ → ℕ → Effect
 effect_in w g s = effect_of w.operations (ascending (entries_to w.operations g s w.begun))
 
--- the walk along a stripe's effective versions
+-- an entry by the number of its operation's marks
+abbrev pub by_mark : (ℕ → Option Operation) → Entry → Entry
+by_mark operations e = record e { operation = own_mark e.operation (operations e.operation) }
+
+-- the walk along a stripe's effective versions, by the numbers of marks
 unfoldable pub walk_of : World → ℕ → ℕ → List Entry
-walk_of w g s = (effect_in w g s).told
+walk_of w g s = map (by_mark w.operations) (effect_in w g s).told
 
 -- the happenings of a stripe
 unfoldable pub happenings_of : World → ℕ → ℕ → List Happening

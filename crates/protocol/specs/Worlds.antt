@@ -42,8 +42,8 @@ pub data Event : Type 0 where
 
 -- What is known of an operation, by number: its coordinator, how often the store of that had been opened, its
 -- call number, where it begins, what it asks, the version that it made or read, whether it made it, and on
--- which base, whether it was answered; and, for the proof alone, the view of its group that it runs in, and how far
--- each brick's part of the stripe had come when it began.
+-- which base, whether it was answered, and the number of its marks; and, for the proof alone, the view of its group that
+-- it runs in, and how far each brick's part of the stripe had come when it began.
 pub record Operation : Type 0 where
   pub brick : BrickId
   pub boot : ℕ
@@ -54,11 +54,12 @@ pub record Operation : Type 0 where
   pub made : Bool
   pub base : Option Stamp
   pub answered : Bool
+  pub mark : ℕ
   pub view : ℕ
   pub floor : ℕ → Stamp
 
 -- The whole disk: its bricks, which of them are up, and what their clocks read; every message that was ever
--- sent, in order; the marks; how many operations have begun, and each by its number; the number of the
+-- sent, in order; the marks, and how many Begins are among them; how many operations have begun, and each by its number; the number of the
 -- operation of each call (by brick, boot and call number); and, for the proof alone, the time that a brick
 -- knew last in each earlier boot, the content of each version (by group, stripe and stamp), which stamps each
 -- brick ever had in its log of a stripe (by brick, group and stripe), the replies that counted in each
@@ -71,6 +72,7 @@ pub record World : Type 0 where
   pub clocks : ℕ → ℕ
   pub packets : List Packet
   pub marks : List Mark
+  pub marked : ℕ
   pub begun : ℕ
   pub operations : ℕ → Option Operation
   pub numbers : ℕ → ℕ → ℕ → ℕ
@@ -95,6 +97,7 @@ first_world layout =
       clocks = λ i. 0;
       packets = [];
       marks = [];
+      marked = 0;
       begun = 0;
       operations = λ n. None;
       numbers = λ i b k. 0;
@@ -128,7 +131,8 @@ world_began w brick ask step =
     record w {
       nodes = put w.nodes brick.0 step.node;
       packets = w.packets ++ step.packets;
-      marks = w.marks ++ (Begin (length w.marks) (w.begun + 1) brick ask ∷ []);
+      marks = w.marks ++ (Begin (length w.marks) (w.marked + 1) brick ask ∷ []);
+      marked = w.marked + 1;
       begun = w.begun + 1;
       operations = put w.operations (w.begun + 1) (Some (record {
         brick = brick;
@@ -140,6 +144,7 @@ world_began w brick ask step =
         made = false;
         base = None;
         answered = false;
+        mark = w.marked + 1;
         view = view_at (w.nodes brick.0) ask.group.0;
         floor = λ i. top_at (w.nodes i) ask.group.0 ask.stripe.0;
       }));
@@ -206,11 +211,20 @@ abbrev pub world_tells : Setting → World → BrickId → List Told → World
 world_tells setting w brick [] = w
 world_tells setting w brick (told ∷ more) = world_tells setting (world_told setting w brick told) brick more
 
+-- the number of the marks of operation n
+abbrev pub own_mark : ℕ → Option Operation → ℕ
+own_mark n None = n
+own_mark n (Some o) = o.mark
+
+-- the same, in a world
+abbrev pub mark_of : World → ℕ → ℕ
+mark_of w n = own_mark n (w.operations n)
+
 -- the world once a brick answered an operation
 abbrev pub world_answered : World → BrickId → Answered → World
 world_answered w brick answered =
     record w {
-      marks = w.marks ++ (End (length w.marks) (number_of w brick.0 answered.seq) answered.answer ∷ []);
+      marks = w.marks ++ (End (length w.marks) (mark_of w (number_of w brick.0 answered.seq)) answered.answer ∷ []);
       operations = put w.operations (number_of w brick.0 answered.seq)
           (with_answer answered.answer (w.operations (number_of w brick.0 answered.seq)));
     }

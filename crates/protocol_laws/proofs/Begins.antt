@@ -92,6 +92,7 @@ module _ (setting : Setting) (views : Views) (w : World) (stamps : Stamping) (me
         made = false;
         base = None;
         answered = false;
+        mark = w.marked + 1;
         view = view_at (w.nodes me.0) ask.group.0;
         floor = λ i. top_at (w.nodes i) ask.group.0 ask.stripe.0;
       }
@@ -146,7 +147,7 @@ module _ (setting : Setting) (views : Views) (w : World) (stamps : Stamping) (me
   placed k mark at = let place = books.places k mark at in omega (arith, place)
 
   lasts : (a : ℕ) → last_of (life_of w.marks a) ≤ last_of (life_of next.marks a)
-  lasts a = last_grows w.marks (Begin (length w.marks) (w.begun + 1) me ask) a placed refl
+  lasts a = last_grows w.marks (Begin (length w.marks) (w.marked + 1) me ask) a placed refl
 
   grows : Grows w next stamps later
   grows = record {
@@ -158,7 +159,7 @@ module _ (setting : Setting) (views : Views) (w : World) (stamps : Stamping) (me
     grow = stamps_grow stamps me.0 c.call.boot c.call.seq c.call.phase first none from;
     numbered = numbered;
     marks = (let longer : length next.marks ≡ length w.marks + 1 = length-append w.marks
-        (Begin (length w.marks) (w.begun + 1) me ask ∷ []) in omega arith);
+        (Begin (length w.marks) (w.marked + 1) me ask ∷ []) in omega arith);
   }
 
   called : IsCalled next me.0 c.call new
@@ -352,11 +353,11 @@ module _ (setting : Setting) (views : Views) (w : World) (stamps : Stamping) (me
           (λ j other. stamps_other stamps me.0 c.call.boot c.call.seq c.call.phase first j (w.nodes j).boot k (λ brick same. other brick)) i;
       ends = λ k q a answer at. ⊎_elim
           (λ (there : slice_get w.marks k ≡ Some (End q a answer)). inl there)
-          (λ (added : (j : ℕ) × (slice_get (Begin (length w.marks) (w.begun + 1) me ask ∷ []) j ≡ Some (End q a answer))).
-          let bad : Begin (length w.marks) (w.begun + 1) me ask ≡ End q a answer
-          = get_one (Begin (length w.marks) (w.begun + 1) me ask) (End q a answer) added.0 added.1 in
+          (λ (added : (j : ℕ) × (slice_get (Begin (length w.marks) (w.marked + 1) me ask ∷ []) j ≡ Some (End q a answer))).
+          let bad : Begin (length w.marks) (w.marked + 1) me ask ≡ End q a answer
+          = get_one (Begin (length w.marks) (w.marked + 1) me ask) (End q a answer) added.0 added.1 in
           absurd (let no : ⊥ = cc in no))
-          (get_grown w.marks (Begin (length w.marks) (w.begun + 1) me ask ∷ []) k (End q a answer) at);
+          (get_grown w.marks (Begin (length w.marks) (w.marked + 1) me ask ∷ []) k (End q a answer) at);
       order = in_order;
     }),
   )

@@ -5,6 +5,7 @@ use Rattle.fab_base.specs.declared.stamps.Stamp.{Stamp}
 use Rattle.reg_model.specs.declared.marks.Mark.{Mark}
 use Rattle.reg_model.specs.Marks.{Life, life_of, IsOpen, IsWellFormed, position_of}
 use Rattle.reg_model.specs.Strict.{IsAnswered}
+use Rattle.protocol_laws.specs.Marked.{OwnMarks}
 use Rattle.fab_base.specs.Layouts.{Group, group_of}
 use Rattle.protocol.specs.Settings.{Setting}
 use Rattle.protocol.specs.declared.phases.Counted.{Counted}
@@ -114,6 +115,7 @@ pub record Books (setting : Setting) (w : World) : Type 0 where
   pub well_formed : IsWellFormed w.marks
   pub places : (k : ℕ) (mark : Mark) → slice_get w.marks k ≡ Some mark → position_of mark ≡ k
   pub boots : (i : ℕ) → 1 ≤ (w.nodes i).boot
+  pub own : OwnMarks w
   pub all_begun : (n : ℕ) → 1 ≤ n → n ≤ w.begun → (o : Operation) × IsOperation w n o
   pub operations : (n : ℕ) (o : Operation) → IsOperation w n o → OperationBooks setting w n o
   pub calls : (i k : ℕ) (c : Coordinator) → IsCall w i k c → CallBooks setting w i k c

@@ -1,6 +1,6 @@
 -- The books of a world where an operation began.
 use Rattle.protocol.specs.Views.{kept_by}
-use Rattle.std.proofs.Common.{◌≡◌, ◌≢◌, ℕ, ◌+◌, ◌<◌, ◌≤◌, ⊎_elim, true, false, Option, Some, None, refl, sym, ap, ◌∙◌, subst, arith, length}
+use Rattle.std.proofs.Common.{◌≡◌, ◌≢◌, ℕ, ◌+◌, ◌<◌, ◌≤◌, ⊎_elim, true, false, Option, Some, None, refl, sym, ap, ◌∙◌, subst, arith, List, [], ◌∷◌, ◌++◌, length}
 use Rattle.std.proofs.lemmas.Option.{same_Some}
 use Rattle.std.proofs.lemmas.Bool.{cases_eq}
 use Rattle.fab_base.specs.declared.identities.BrickId.{BrickId}
@@ -15,6 +15,7 @@ use Rattle.protocol.specs.Coordinators.{Coordinator}
 use Rattle.protocol.specs.Nodes.{Node, put, has_length, first_phase, new_coordinator, opened, began_in, top_at, has_block, view_at}
 use Rattle.protocol.specs.Worlds.{World, Operation, number_of, world_began}
 use Rattle.protocol_laws.proofs.Books.{Books, OperationBooks, CallBooks, IsOperation, IsCall, IsUnmade, MadeInPhase, InRound}
+use Rattle.protocol_laws.proofs.MarkNumbers.{own_more}
 use Rattle.protocol_laws.proofs.BooksKept.{operation_kept, call_kept, cases_call}
 use Rattle.reg_model.proofs.GrowingLives.{Stays, Stays-push, Stays-before, life_of-begin}
 use Rattle.reg_model.proofs.AddedMarks.{Places-push, well_formed_begin, numbers_below}
@@ -69,6 +70,7 @@ module _ (setting : Setting) (w : World) (brick : BrickId) (now : ℕ) (ask : As
     made = false;
     base = None;
     answered = false;
+    mark = w.marked + 1;
     view = view_at (w.nodes i) ask.group.0;
     floor = λ j. top_at (w.nodes j) ask.group.0 ask.stripe.0;
   }
@@ -77,16 +79,22 @@ module _ (setting : Setting) (w : World) (brick : BrickId) (now : ℕ) (ask : As
   abbrev later : World
   later = world_began w brick ask (began_in setting brick node c)
 
-  -- the new number is new
+  -- the new number is that of its marks, and new
+  mark_is : w.marked + 1 ≡ n
+  mark_is = ap (λ (m : ℕ). m + 1) books.own.count
+
   unbegun : life_of w.marks n ≡ None
   unbegun = none_lives (life_of w.marks n) (λ l is. (let bounds : (1 ≤ n) × (n ≤ w.begun) = books.lives n l is in omega (arith, bounds.1)))
 
   life_began : life_of later.marks n ≡ Some (record { begin = length w.marks; brick = brick.0; ask = ask; ending = Unended (length w.marks + 1) })
-  life_began = life_of-begin w.marks (length w.marks) n brick ask unbegun
+  life_began =
+      subst (λ (m : ℕ). life_of (w.marks ++ (Begin (length w.marks) m brick ask ∷ [])) n
+      ≡ Some (record { begin = length w.marks; brick = brick.0; ask = ask; ending = Unended (length w.marks + 1) })) (sym mark_is)
+      (life_of-begin w.marks (length w.marks) n brick ask unbegun)
 
   -- another operation's life stays
   other_life : (m : ℕ) → m ≢ n → Stays (life_of w.marks m) (life_of later.marks m)
-  other_life m other = Stays-push w.marks (Begin (length w.marks) n brick ask) m (λ same. other (sym same))
+  other_life m other = Stays-push w.marks (Begin (length w.marks) (w.marked + 1) brick ask) m (λ same. other (sym same ∙ mark_is))
 
   pub call_is : (later.nodes i).calls k ≡ Some c
   call_is = ap (λ (x : Node). x.calls k) (put_same w.nodes i (opened node c)) ∙ put_same node.calls k (Some c)
@@ -192,11 +200,12 @@ module _ (setting : Setting) (w : World) (brick : BrickId) (now : ℕ) (ask : As
   -- a begin keeps the books
   pub books_began : Books setting later
   books_began =
-      let places = Places-push w.marks (Begin (length w.marks) n brick ask) books.places refl in
+      let places = Places-push w.marks (Begin (length w.marks) (w.marked + 1) brick ask) books.places refl in
       record {
-        well_formed = well_formed_begin w.marks (length w.marks) n brick ask books.well_formed places
-            (numbers_below w.marks w.begun (λ m life is. (books.lives m life is).1));
+        well_formed = well_formed_begin w.marks (length w.marks) (w.marked + 1) brick ask books.well_formed places
+            (numbers_below w.marks w.marked (λ m life is. (let high = (books.lives m life is).1 in omega (arith, books.own.count))));
         places = places;
+        own = own_more w.marked w.begun w.operations books.own o refl;
         boots = λ j. (let e : (later.nodes j).boot ≡ (w.nodes j).boot = same_boots j in omega (arith, books.boots j));
         all_begun = λ m low high. ⊎_elim
             (λ (mine : m ≡ n). (o, subst (λ (x : ℕ). IsOperation later x o) (sym mine) operation_is))

@@ -16,8 +16,9 @@ use Rattle.protocol.specs.Settings.{Setting}
 use Rattle.protocol.specs.declared.phases.Counted.{Counted}
 use Rattle.protocol.specs.Coordinators.{Coordinator}
 use Rattle.protocol.specs.Nodes.{Node, has_length, no_calls, stopped, has_block}
-use Rattle.protocol.specs.Worlds.{World, Operation, is_answer, number_of, world_stopped}
+use Rattle.protocol.specs.Worlds.{World, Operation, own_mark, is_answer, number_of, world_stopped}
 use Rattle.protocol_laws.proofs.Books.{Books, OperationBooks, CallBooks, IsOperation, IsCall}
+use Rattle.protocol_laws.proofs.MarkNumbers.{own_by}
 use Rattle.protocol_laws.proofs.BooksKept.{KeepsNumbers, operation_stays, operation_kept, call_kept, number_at, calls_apart, cases_call, keeps_all}
 use Rattle.reg_model.proofs.GrowingLives.{Stays, Stays-push, Stays-before, Stays-crash, lived_before_crash, cases_open, unended_not_answered, with_ending, life_of-end, life_of-crash}
 use Rattle.reg_model.proofs.AddedMarks.{Places-push, well_formed_end, well_formed_crash}
@@ -45,6 +46,7 @@ pub record Ended (w : World) (i k : ℕ) (c : Coordinator) (before o : Operation
   pub seq : o.seq ≡ before.seq
   pub begin : o.begin ≡ before.begin
   pub ask : o.ask ≡ before.ask
+  pub mark : o.mark ≡ before.mark
   pub answered : o.answered ≡ is_answer answer
   pub answered_version : o.answered ≡ true → (v : _) × (o.version ≡ Some v)
   pub keeps : (j : ℕ) → KeepsNumbers (w.nodes j) (nodes j)
@@ -63,6 +65,7 @@ ended_world w nodes held packets operations replies n answer =
       clocks = w.clocks;
       packets = packets;
       marks = w.marks ++ (End (length w.marks) n answer ∷ []);
+      marked = w.marked;
       begun = w.begun;
       operations = operations;
       numbers = w.numbers;
@@ -149,6 +152,9 @@ module _ (setting : Setting) (w : World) (i k : ℕ) (c : Coordinator) (before o
       record {
         well_formed = well_formed_end w.marks (length w.marks) (number_of w i k) answer books.well_formed places was_open;
         places = places;
+        own = own_by w.marked w.begun w.operations books.own (number_of w i k) operations
+            (ap (own_mark (number_of w i k)) ended.operation_is ∙ ended.mark ∙ books.own.each (number_of w i k) before ended.operation_was)
+            ended.other_operations;
         boots = λ j. (let e : (nodes j).boot ≡ (w.nodes j).boot = (ended.keeps j).boot in omega (arith, books.boots j));
         all_begun = λ n low high. ⊎_elim
             (λ (mine : n ≡ number_of w i k). (o, subst (λ (m : ℕ). IsOperation later m o) (sym mine) ended.operation_is))
@@ -317,6 +323,7 @@ module _ (setting : Setting) (w : World) (brick : BrickId) (during : Option ℕ)
       record {
         well_formed = well_formed_crash w.marks (length w.marks) brick books.well_formed places;
         places = places;
+        own = books.own;
         boots = λ j. (let e : (shut.nodes j).boot ≡ (w.nodes j).boot = (stopped_keeps j).boot in omega (arith, books.boots j));
         all_begun = books.all_begun;
         operations = λ n o is. ⊎_elim

@@ -29,6 +29,7 @@ use Rattle.protocol_laws.specs.Laws.{WasSent}
 use Rattle.protocol.proofs.Served.{request_each}
 use Rattle.protocol_laws.proofs.Left.{IsLeft, Leaves, always_leaves, found_down}
 use Rattle.protocol_laws.proofs.Books.{Replies, version_after, Books, CallBooks, IsCall, IsUnmade, MadeInPhase, InRound, IsMade}
+use Rattle.protocol_laws.proofs.MarkNumbers.{own_number, own_seen}
 use Rattle.protocol_laws.proofs.BooksKept.{KeepsNumbers, keeps_all, keeps_known, keeps_with_call, keeps_replica}
 use Rattle.protocol_laws.proofs.BooksQuiet.{books_quiet, books_started}
 use Rattle.protocol_laws.proofs.BooksTurns.{IsBookedStamp, books_turned}
@@ -348,17 +349,20 @@ module _ (setting : Setting) (w : World) (replies : Replies) (me : BrickId) (now
     made = mine.operation.made;
     base = mine.operation.base;
     answered = is_answer answer;
+    mark = mine.operation.mark;
     view = mine.operation.view;
     floor = mine.operation.floor;
   }
 
   -- an operation ends
-  books_ends : (answer : Answer) (seen stored : Option Stamp) → EndFits c.phase answer seen → (operations : ℕ → Option Operation)
+  books_ends : (answer : Answer) (seen stored : Option Stamp) → EndFits c.phase answer seen → (mark : ℕ) → mark ≡ n → (operations : ℕ → Option Operation)
       → operations n ≡ Some (ended answer seen) → ((m : ℕ) → m ≢ n → operations m ≡ w.operations m)
       → Books setting (ended_world w (put w.nodes i (with_call node known (node.busy - 1) k None))
-      (with_held w.held i (with_call node known (node.busy - 1) k None)) (w.packets ++ collect_packets me c stored) operations replies n answer)
-  books_ends answer seen stored fits operations is_ended others =
-      books_ended setting w i k c mine.operation (ended answer seen) answer (put w.nodes i (with_call node known (node.busy - 1) k None))
+      (with_held w.held i (with_call node known (node.busy - 1) k None)) (w.packets ++ collect_packets me c stored) operations replies mark answer)
+  books_ends answer seen stored fits mark own operations is_ended others =
+      subst (λ (m : ℕ). Books setting (ended_world w (put w.nodes i (with_call node known (node.busy - 1) k None))
+      (with_held w.held i (with_call node known (node.busy - 1) k None)) (w.packets ++ collect_packets me c stored) operations replies m answer)) (sym own)
+      (books_ended setting w i k c mine.operation (ended answer seen) answer (put w.nodes i (with_call node known (node.busy - 1) k None))
       (with_held w.held i (with_call node known (node.busy - 1) k None)) (w.packets ++ collect_packets me c stored) operations replies books
       (record {
         was = is_call;
@@ -368,6 +372,7 @@ module _ (setting : Setting) (w : World) (replies : Replies) (me : BrickId) (now
         seq = refl;
         begin = refl;
         ask = refl;
+        mark = refl;
         answered = refl;
         answered_version = λ is. ends_version c mine.operation c.phase answer seen mine.made fits is;
         keeps = keeps_call known (node.busy - 1) None grows;
@@ -375,7 +380,7 @@ module _ (setting : Setting) (w : World) (replies : Replies) (me : BrickId) (now
         other_calls = other_put known (node.busy - 1) None;
         operation_is = is_ended;
         other_operations = others;
-      })
+      }))
 
   -- what a brick does with what its coordinator decided
   books_carried_out : (next : Next) → NextFits fresh then' next
@@ -391,7 +396,7 @@ module _ (setting : Setting) (w : World) (replies : Replies) (me : BrickId) (now
         stamp = stamp_stays known (Some d) d.stamp fits.stamp grows;
         rounds = subst (λ (x : ℕ). (1 ≤ x) × (x ≤ most_rounds)) (sym fits.round) mine.rounds;
         in_round = round_same c d c.phase d.phase (ap (λ (x : Call). x.phase) fits.call) fits.round fits.phase mine.in_round;
-        same_ask = record { brick = refl; boot = refl; seq = refl; begin = refl; ask = refl; view = refl; answered = refl };
+        same_ask = record { brick = refl; boot = refl; seq = refl; begin = refl; ask = refl; mark = refl; view = refl; answered = refl };
         made = made_same c d mine.operation c.phase d.phase fits.stamp fits.base fits.phase mine.made;
         keeps = keeps_call known node.busy (Some d) grows;
         call_is = call_put known node.busy (Some d);
@@ -410,7 +415,7 @@ module _ (setting : Setting) (w : World) (replies : Replies) (me : BrickId) (now
         stamp = stamp_sends d fits.how;
         rounds = rounds_sends d fits.how;
         in_round = round_next fresh then' d fits (round_same c then' c.phase c.phase refl refl refl mine.in_round);
-        same_ask = record { brick = refl; boot = refl; seq = refl; begin = refl; ask = refl; view = refl; answered = refl };
+        same_ask = record { brick = refl; boot = refl; seq = refl; begin = refl; ask = refl; mark = refl; view = refl; answered = refl };
         made = made_sends d fits.how;
         keeps = keeps_call time node.busy (Some d) (omega arith);
         call_is = call_put time node.busy (Some d);
@@ -429,6 +434,7 @@ module _ (setting : Setting) (w : World) (replies : Replies) (me : BrickId) (now
         made = true;
         base = d.base;
         answered = mine.operation.answered;
+        mark = mine.operation.mark;
         view = mine.operation.view;
         floor = mine.operation.floor;
       } in
@@ -442,7 +448,7 @@ module _ (setting : Setting) (w : World) (replies : Replies) (me : BrickId) (now
         stamp = stamp_stays known (Some d) d.stamp fits.stamp grows;
         rounds = subst (λ (x : ℕ). (1 ≤ x) × (x ≤ most_rounds)) (sym fits.round) mine.rounds;
         in_round = round_made d fits.phase;
-        same_ask = record { brick = refl; boot = refl; seq = refl; begin = refl; ask = refl; view = refl; answered = refl };
+        same_ask = record { brick = refl; boot = refl; seq = refl; begin = refl; ask = refl; mark = refl; view = refl; answered = refl };
         made = made_now d o fits.phase (refl, refl, refl);
         keeps = keeps_call known node.busy (Some d) grows;
         call_is = call_put known node.busy (Some d);
@@ -452,12 +458,12 @@ module _ (setting : Setting) (w : World) (replies : Replies) (me : BrickId) (now
         other_operations = λ m other. put_other w.operations n (with_made d.stamp d.base (w.operations n)) m other;
       })
   books_carried_out (Ends answer None stored) fits =
-      books_ends answer None stored fits.0 (put w.operations n (with_answer answer (w.operations n)))
+      books_ends answer None stored fits.0 _ (own_number w.marked w.begun w.operations books.own n) (put w.operations n (with_answer answer (w.operations n)))
       (put_same w.operations n (with_answer answer (w.operations n)) ∙ ap (λ (x : Option Operation). with_answer answer x) mine.operation_is)
       (λ m other. put_other w.operations n (with_answer answer (w.operations n)) m other)
   books_carried_out (Ends answer (Some v) stored) fits =
       let seen : ℕ → Option Operation = put w.operations n (with_seen v (w.operations n)) in
-      books_ends answer (Some v) stored fits.0 (put seen n (with_answer answer (seen n)))
+      books_ends answer (Some v) stored fits.0 _ (own_seen w.marked w.begun w.operations books.own n v) (put seen n (with_answer answer (seen n)))
       (put_same seen n (with_answer answer (seen n))
       ∙ ap (λ (x : Option Operation). with_answer answer x)
       (put_same w.operations n (with_seen v (w.operations n)) ∙ ap (λ (x : Option Operation). with_seen v x) mine.operation_is))
@@ -668,6 +674,7 @@ books_first setting = record {
   };
   places = λ k mark is. absurd (let never : None ≡ Some mark = is in cc);
   boots = λ i. omega arith;
+  own = record { count = refl; each = λ n o is. absurd (let never : None ≡ Some o = is in cc) };
   all_begun = λ n low high. absurd (omega arith);
   operations = λ n o is. absurd (let never : None ≡ Some o = is in cc);
   calls = λ i k c is. absurd (let never : None ≡ Some c = is in cc);

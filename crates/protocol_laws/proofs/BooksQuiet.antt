@@ -29,6 +29,7 @@ quiet_world w nodes held clocks packets replies reached =
       clocks = clocks;
       packets = packets;
       marks = w.marks;
+      marked = w.marked;
       begun = w.begun;
       operations = w.operations;
       numbers = w.numbers;
@@ -49,6 +50,7 @@ books_quiet setting w nodes held clocks packets replies reached books keeps call
     record {
       well_formed = books.well_formed;
       places = books.places;
+      own = books.own;
       boots = λ i. (let e : (nodes i).boot ≡ (w.nodes i).boot = (keeps i).boot in omega (arith, books.boots i));
       all_begun = books.all_begun;
       operations = λ n o is. (let mine : OperationBooks setting w n o = books.operations n o is in
@@ -175,6 +177,7 @@ module _ (setting : Setting) (w : World) (brick : BrickId) (openings : ℕ) (boo
   books_started = record {
     well_formed = books.well_formed;
     places = books.places;
+    own = books.own;
     boots = λ j. ⊎_elim
         (λ (mine : j ≡ i). let boot : (later.nodes j).boot ≡ (w.nodes i).boot + openings = ap (λ (x : ℕ). (later.nodes x).boot) mine
         ∙ own_boot in omega arith)

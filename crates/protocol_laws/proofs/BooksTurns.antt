@@ -10,8 +10,9 @@ use Rattle.protocol.specs.Settings.{Setting}
 use Rattle.protocol.specs.declared.phases.Counted.{Counted}
 use Rattle.protocol.specs.Coordinators.{Coordinator, most_rounds}
 use Rattle.protocol.specs.Nodes.{Node}
-use Rattle.protocol.specs.Worlds.{World, Operation, number_of}
+use Rattle.protocol.specs.Worlds.{World, Operation, own_mark, number_of}
 use Rattle.protocol_laws.proofs.Books.{Books, OperationBooks, CallBooks, IsOperation, IsCall, MadeInPhase, InRound}
+use Rattle.protocol_laws.proofs.MarkNumbers.{own_by}
 use Rattle.protocol_laws.proofs.BooksKept.{KeepsNumbers, operation_kept, call_kept, number_at, calls_apart, cases_call}
 use Rattle.protocol_laws.proofs.Outcomes.{SameOperation}
 use Rattle.reg_model.proofs.GrowingLives.{Stays-refl}
@@ -23,6 +24,7 @@ pub record SameAsk (o later : Operation) : Type 0 where
   pub seq : later.seq ≡ o.seq
   pub begin : later.begin ≡ o.begin
   pub ask : later.ask ≡ o.ask
+  pub mark : later.mark ≡ o.mark
   pub view : later.view ≡ o.view
   pub answered : later.answered ≡ o.answered
 
@@ -60,6 +62,7 @@ turned_world w nodes held packets operations contents replies =
       clocks = w.clocks;
       packets = packets;
       marks = w.marks;
+      marked = w.marked;
       begun = w.begun;
       operations = operations;
       numbers = w.numbers;
@@ -176,6 +179,9 @@ module _ (setting : Setting) (w : World) (i k : ℕ) (c d : Coordinator) (before
   books_turned = record {
     well_formed = books.well_formed;
     places = books.places;
+    own = own_by w.marked w.begun w.operations books.own (number_of w i k) operations
+        (ap (own_mark (number_of w i k)) turned.operation_is ∙ turned.same_ask.mark ∙ books.own.each (number_of w i k) before turned.operation_was)
+        turned.other_operations;
     boots = λ j. (let e : (nodes j).boot ≡ (w.nodes j).boot = (turned.keeps j).boot in omega (arith, books.boots j));
     all_begun = λ n low high. ⊎_elim
         (λ (mine : n ≡ number_of w i k). (o, subst (λ (m : ℕ). IsOperation later m o) (sym mine) turned.operation_is))

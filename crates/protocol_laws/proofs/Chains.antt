@@ -21,6 +21,7 @@ use Rattle.protocol.specs.Settings.{Setting}
 use Rattle.protocol.specs.Worlds.{World, Operation}
 use Rattle.protocol.specs.Happenings.{is_of, entries_to, ascending, was_answered, base_of, Effect, effect_of}
 use Rattle.protocol_laws.specs.Laws.{WasMadeOn, NeighboursFollow, LowestFollows}
+use Rattle.protocol_laws.proofs.MarkNumbers.{own_marked}
 use Rattle.protocol_laws.proofs.Books.{Books, OperationBooks, IsOperation}
 use Rattle.protocol_laws.proofs.Effects.{has_front, has_behind, IsSwept, IsAboveBase, answered_swept, needed_swept, version_swept, versions_all, versions_order, all_effective}
 use Rattle.protocol_laws.proofs.Entries.{IsEntryOf, entry_of, entries_of, entries_have}
@@ -237,7 +238,7 @@ module _ (setting : Setting) (views : Views) (w : World) (g s : ℕ) (books : Bo
         is = mine.is;
         of = mine.of;
         version = mine.version;
-        answered = sym (ap (λ (o : Option Operation). was_answered o) mine.is) ∙ answered;
+        answered = (and_parts _ _ (sym (ap (λ (o : Option Operation). was_answered o) mine.is) ∙ answered)).1;
       })
       entries entries_ours)
       (All-weaker (Contains entries) (λ (e : Entry). e.reader ≡ false → base e.stamp ≡ base_of (w.operations e.operation))
@@ -311,7 +312,8 @@ module _ (setting : Setting) (views : Views) (w : World) (g s : ℕ) (books : Bo
       → stamp_below first_stamp t ≡ true → Contains (effect_of w.operations (ascending (entries_to w.operations g s w.begun))).versions t
   complete t (Standing _ v) above =
       (answered_swept w.operations entries (entry_of v.number v.operation t) (has_entry v.number v.operation t v.is v.of v.version)
-      (ap (λ (o : Option Operation). was_answered o) v.is ∙ v.answered)).version
+      (ap (λ (o : Option Operation). was_answered o) v.is ∙ and_from _ _
+      (own_marked w.marked w.begun w.operations books.own v.number v.operation v.is (books.operations v.number v.operation v.is).from_one) v.answered)).version
   complete t (BaseOf p _ effective on) above =
       base_found p t (complete p effective (above_first t p (base_facts.below p t on))) on above
 

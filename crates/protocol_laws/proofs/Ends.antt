@@ -19,6 +19,7 @@ use Rattle.protocol.specs.Settings.{Setting}
 use Rattle.protocol.specs.Coordinators.{Coordinator}
 use Rattle.protocol.specs.Nodes.{Node, NodeStep, put, with_call, seen_told, collect_packets}
 use Rattle.protocol.specs.Worlds.{World, Operation, number_of, world_stepped, with_seen, with_answer, is_answer, with_held}
+use Rattle.protocol_laws.proofs.MarkNumbers.{own_number, own_seen}
 use Rattle.protocol_laws.proofs.Books.{version_after, Books, CallBooks, IsCall, IsOperation}
 use Rattle.protocol_laws.proofs.Said.{Stamping, Said, Stands, WritesWhole, ReadsBack, PacketSays, HasVersion, OperationSays, CallSays, EndShows, IsCalled}
 use Rattle.protocol.proofs.Tables.{put_each, put_same, put_twice, get_grown, get_one, sent_to_member}
@@ -62,6 +63,7 @@ module _ (setting : Setting) (views : Views) (w : World) (stamps : Stamping) (me
         made = o.made;
         base = o.base;
         answered = is_answer answer;
+        mark = o.mark;
         view = o.view;
         floor = o.floor;
       }
@@ -88,16 +90,17 @@ module _ (setting : Setting) (views : Views) (w : World) (stamps : Stamping) (me
         answers = record { seq = c.call.seq; answer = answer } ∷ [];
       }
 
-  -- the world with these operations
-  abbrev next_with : (ℕ → Option Operation) → World
-  next_with operations =
+  -- the world with these operations, and an End of this number
+  abbrev next_with : ℕ → (ℕ → Option Operation) → World
+  next_with mark operations =
       record {
         nodes = put w.nodes me.0 node;
         after = w.after;
         up = w.up;
         clocks = w.clocks;
         packets = w.packets ++ collect_packets me c stored;
-        marks = marks;
+        marks = w.marks ++ (End (length w.marks) mark answer ∷ []);
+        marked = w.marked;
         begun = w.begun;
         operations = operations;
         numbers = w.numbers;
@@ -110,10 +113,13 @@ module _ (setting : Setting) (views : Views) (w : World) (stamps : Stamping) (me
 
   next_is : (saw : Option Stamp)
       → world_stepped setting w me (step_by saw) ≡ operated w me node (collect_packets me c stored) marks n (ended_by saw) w.contents
-  next_is None = ap (λ (x : Option Operation). next_with (put w.operations n (with_answer answer x))) its.operation_is
+  next_is None =
+      ap (λ (m : ℕ). next_with m (put w.operations n (with_answer answer (w.operations n)))) (own_number w.marked w.begun w.operations books.own n)
+      ∙ ap (λ (x : Option Operation). next_with n (put w.operations n (with_answer answer x))) its.operation_is
   next_is (Some v) =
       let saw : ℕ → Option Operation = put w.operations n (with_seen v (w.operations n)) in
-      ap next_with
+      ap (λ (m : ℕ). next_with m (put saw n (with_answer answer (saw n)))) (own_seen w.marked w.begun w.operations books.own n v)
+      ∙ ap (next_with n)
       (put_twice w.operations n (with_seen v (w.operations n)) (with_answer answer (saw n))
       ∙ ap (λ (x : Option Operation). put w.operations n (with_answer answer x))
       (put_same w.operations n (with_seen v (w.operations n)) ∙ ap (λ (x : Option Operation). with_seen v x) its.operation_is))

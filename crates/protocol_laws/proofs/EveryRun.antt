@@ -38,7 +38,7 @@ laws setting views w stamps booked said follows guards facts history numbered tr
   lowest = λ g s. lowest_follows setting views w g s booked facts;
   real_time = facts.real_time;
   counted = history.counted;
-  aborts = history.aborts;
+  aborts = λ k p n cause at. (let shown = history.aborts k p n cause at in (n, shown.0, shown.1, booked.own.each n shown.0 shown.1, shown.2));
   refusals = truths;
   full = facts.full;
   well_formed = booked.well_formed;

@@ -26,6 +26,7 @@ use Rattle.protocol.proofs.Packets.{OfEach, each_none, each_member, each_collect
 use Rattle.protocol.proofs.Served.{request_each}
 use Rattle.protocol.proofs.Tables.{put_each}
 use Rattle.protocol_laws.specs.Laws.{top_in, stamp_stored, IsGuarded, RunFollows, WritesWereGuarded}
+use Rattle.protocol_laws.proofs.MarkNumbers.{own_number}
 use Rattle.protocol_laws.proofs.Books.{Books, CallBooks, IsCall}
 use Rattle.protocol_laws.proofs.BooksEvents.{books}
 use Rattle.protocol_laws.proofs.Outcomes.{NextFits, once_full_fits}
@@ -220,7 +221,9 @@ writes_were_guarded setting views events sound follows k call from to request t 
           (subst (λ (x : World). IsGuarded x call.group.0 call.stripe.0 group t) next_is
           (guarded_there upto sent.sending.later (sent.events_are ∙ sym (rejoined sent.sending.earlier sent.sending.event sent.sending.later))
           (ap (λ (x : World). slice_get x.packets k) next_is ∙ sent.there))),
-      here.1,
+      subst (λ (n : ℕ). IsOpen (life_of moment.marks n))
+          (sym (own_number moment.marked moment.begun moment.operations (books_then sent.sending.earlier moment sent.sending.moment_is).own
+          (moment.numbers from.0 call.boot call.seq))) here.1,
     )
   where
     adds : (earlier : List Event) (event : Event)
@@ -229,6 +232,9 @@ writes_were_guarded setting views events sound follows k call from to request t 
         let w : World = run setting earlier (first_world setting.layout) in
         happens_each (λ (next : World). Adds (StoresOpen w next) w next) setting w (stores_cases setting w (books setting earlier))
         (adds_none (StoresOpen w w) w w refl) event
+
+    books_then : (earlier : List Event) (x : World) → x ≡ run setting earlier (first_world setting.layout) → Books setting x
+    books_then earlier x is = subst (λ (y : World). Books setting y) (sym is) (books setting earlier)
 
     rejoined : (earlier : List Event) (event : Event) (later : List Event) → (earlier ++ (event ∷ [])) ++ later ≡ earlier ++ (event ∷ later)
     rejoined [] event later = refl

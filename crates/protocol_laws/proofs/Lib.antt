@@ -22,6 +22,7 @@ pub mod Growth
 pub mod Guards
 pub mod Left
 pub mod Logs
+pub mod MarkNumbers
 pub mod Moments
 pub mod Numbers
 pub mod Operated

@@ -10,14 +10,14 @@ use Rattle.protocol.specs.Worlds.{World, Event, run, first_world}
 use Rattle.reg_model.proofs.AddedMarks.{begun_numbers-append, slice_get_push}
 use Rattle.protocol.proofs.Events.{EventCases, step_on, world_counting, stepped_each, started_each, always}
 
--- the numbers that have begun are 1, 2, 3 and so on, as many as there are operations
+-- the numbers that have begun are 1, 2, 3 and so on, so many
 pub record AreNumbered (marks : List Mark) (begun : ℕ) : Type 0 where
   pub count : length (begun_numbers marks) ≡ begun
   pub each : (k n : ℕ) → slice_get (begun_numbers marks) k ≡ Some n → n ≡ k + 1
 
--- the numbers of a world's operations
+-- the numbers of a world's marks
 abbrev pub IsNumbered : World → Type 0
-IsNumbered w = AreNumbered w.marks w.begun
+IsNumbered w = AreNumbered w.marks w.marked
 
 -- a mark that is no Begin
 numbered_on : (marks : List Mark) (mark : Mark) (begun : ℕ) → begun_numbers (mark ∷ []) ≡ [] → AreNumbered marks begun
@@ -47,14 +47,14 @@ numbered_more marks mark begun one numbered =
 -- what a step tells marks nothing, and each answer marks an end
 numbered_cases : (setting : Setting) (w : World) → IsNumbered w → EventCases setting w IsNumbered
 numbered_cases setting w numbered = record {
-  begins = λ brick ask may. numbered_more w.marks (Begin (length w.marks) (w.begun + 1) brick ask) w.begun refl numbered;
+  begins = λ brick ask may. numbered_more w.marks (Begin (length w.marks) (w.marked + 1) brick ask) w.marked refl numbered;
   handles = λ number packet at up.
       stepped_each IsNumbered setting packet.to (step_on setting w packet) (λ x seq t base holds. holds) (λ x seq v holds. holds)
-      (λ x one holds. numbered_on x.marks (End (length x.marks) _ one.answer) x.begun refl holds) (λ x nodes held packets holds. holds)
+      (λ x one holds. numbered_on x.marks (End (length x.marks) _ one.answer) x.marked refl holds) (λ x nodes held packets holds. holds)
       (world_counting setting w number packet) numbered;
   sets = λ brick time is. numbered;
   ticks = λ brick up. numbered;
-  stops = λ brick during up. numbered_on w.marks (Crash (length w.marks) brick) w.begun refl numbered;
+  stops = λ brick during up. numbered_on w.marks (Crash (length w.marks) brick) w.marked refl numbered;
   starts = λ brick openings found may. started_each IsNumbered w brick openings numbered numbered found;
 }
 

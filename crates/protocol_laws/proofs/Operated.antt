@@ -35,6 +35,7 @@ operated w me node more marks n p contents =
       clocks = w.clocks;
       packets = w.packets ++ more;
       marks = marks;
+      marked = w.marked;
       begun = w.begun;
       operations = put w.operations n (Some p);
       numbers = w.numbers;

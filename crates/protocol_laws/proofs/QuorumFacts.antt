@@ -148,7 +148,8 @@ module _ (setting : Setting) (views : Views) (sound : IsSound setting) (w : Worl
       let a_at = and_parts (nat_eq earlier.ask.group.0 g) (nat_eq earlier.ask.stripe.0 s) a_of in
       let b_at = and_parts (nat_eq later.ask.group.0 g) (nat_eq later.ask.stripe.0 s) b_of in
       ⊎_elim (in_order b later u v b_is b_version)
-      (λ (before : later.begin ≤ last_of (life_of w.marks a)). absurd (omega (arith, before, ended)))
+      (λ (before : later.begin ≤ last_of (life_of w.marks a)). absurd
+      (let same = ap (λ (m : ℕ). last_of (life_of w.marks m)) (books.own.each a earlier a_is) in omega (arith, before, ended)))
       (said.order a b earlier later u a_is b_is
       (eqb-true earlier.ask.group.0 g a_at.0 ∙ sym (eqb-true later.ask.group.0 g b_at.0))
       (eqb-true earlier.ask.stripe.0 s a_at.1 ∙ sym (eqb-true later.ask.stripe.0 s b_at.1)) a_version)

@@ -121,6 +121,7 @@ module _ (setting : Setting) (views : Views) (sound : IsSound setting) (w : Worl
         made = true;
         base = base;
         answered = o.answered;
+        mark = o.mark;
         view = o.view;
         floor = o.floor;
       }
@@ -174,6 +175,7 @@ module _ (setting : Setting) (views : Views) (sound : IsSound setting) (w : Worl
         clocks = w.clocks;
         packets = w.packets ++ more;
         marks = w.marks;
+        marked = w.marked;
         begun = w.begun;
         operations = put w.operations n (with_made c.stamp base x);
         numbers = w.numbers;
@@ -192,6 +194,7 @@ module _ (setting : Setting) (views : Views) (sound : IsSound setting) (w : Worl
         clocks = w.clocks;
         packets = w.packets ++ more;
         marks = w.marks;
+        marked = w.marked;
         begun = w.begun;
         operations = put w.operations n (Some made);
         numbers = w.numbers;

@@ -2,7 +2,10 @@
 use Rattle.std.proofs.Common.{◌≡◌, ℕ, ◌<◌, ◌≤◌, ◌⊎◌, true, List, [], ◌++◌, Some, None, is_some}
 use Rattle.fab_base.specs.declared.identities.BrickId.{BrickId}
 use Rattle.fab_base.specs.declared.stamps.Stamp.{Stamp}
+use Rattle.std.specs.Prelude.{slice_get}
 use Rattle.fab_base.specs.declared.answers.Cause.{Cause}
+use Rattle.fab_base.specs.declared.answers.Answer.TheVariants.{Aborted}
+use Rattle.reg_model.specs.declared.marks.Mark.TheVariants.{End}
 use Rattle.fab_base.specs.Stamps.{stamp_below}
 use Rattle.messages.specs.declared.calls.Call.{Call}
 use Rattle.messages.specs.declared.packets.Message.TheVariants as Message
@@ -13,7 +16,7 @@ use Rattle.reg_model.specs.Marks.{life_of, IsOpen}
 use Rattle.protocol.specs.declared.phases.Counted.{Counted}
 use Rattle.protocol.specs.Coordinators.{Coordinator, greatest_refuser, lowest_full}
 use Rattle.protocol.specs.Worlds.{World, Operation, number_of, known_in}
-use Rattle.protocol_laws.specs.Laws.{WasSent, RequestSent, AskedAt, stamp_asked, order_of, Evidence, IsCallOf, CountedWereSent, AbortsShow}
+use Rattle.protocol_laws.specs.Laws.{WasSent, RequestSent, AskedAt, stamp_asked, order_of, Evidence, IsCallOf, CountedWereSent}
 use Rattle.protocol_laws.proofs.Books.{Replies, IsOperation, IsCall}
 use Rattle.protocol_laws.proofs.Outcomes.{IsRound, first_round}
 use Rattle.protocol_laws.proofs.Said.{EachCounted}
@@ -41,12 +44,16 @@ CountedSent w n phase x =
 abbrev pub AbortShown : World → ℕ → Cause → Type 0
 AbortShown w n cause = (o : Operation) × IsOperation w n o × Evidence w n o cause
 
+-- each abort shows its evidence, by the operation's number
+abbrev pub AbortsAreShown : World → Type 0
+AbortsAreShown w = (k p n : ℕ) (cause : Cause) → slice_get w.marks k ≡ Some (End p n (Aborted cause)) → AbortShown w n cause
+
 -- the history of a world
 pub record Tallied (w : World) : Type 0 where
   pub calls : (i k : ℕ) (c : Coordinator) → IsCall w i k c → CallTallied w.replies (number_of w i k) c
   pub unbegun : (n p : ℕ) → w.begun < n → w.replies n p ≡ []
   pub counted : CountedWereSent w
-  pub aborts : AbortsShow w
+  pub aborts : AbortsAreShown w
 
 -- What the messages of a world show: a later stamp answers what was asked at a lower one; an operation that orders under a call asks nothing else under
 -- it, and it does so in a round of ordering; and the replies that a coordinator has were sent to it.

@@ -29,6 +29,7 @@ use Rattle.protocol.specs.Coordinators.{Coordinator, Next, Ignores, Waits, Sends
 use Rattle.protocol.specs.Nodes.{Node, put, has_later_time, new_stamp, fresh_stamp, with_call, phase_packets, collect_packets, carried_out}
 use Rattle.protocol.specs.Worlds.{World, Operation, number_of, known_in, with_made, with_seen, with_answer, with_counted, with_held, world_stepped}
 use Rattle.protocol_laws.specs.Laws.{WasSent, RequestSent, AskedAt, IsCallOf, IsLastRound, order_of}
+use Rattle.protocol_laws.proofs.MarkNumbers.{own_number, own_seen}
 use Rattle.protocol_laws.proofs.Books.{Replies, Books, OperationBooks, CallBooks, IsOperation, IsCall, InRound}
 use Rattle.protocol_laws.proofs.BooksKept.{KeepsNumbers, calls_apart, keeps_with_call}
 use Rattle.protocol_laws.proofs.BooksEvents.{keeps_put, brick_of, look_first}
@@ -345,16 +346,17 @@ module _ (setting : Setting) (w : World) (me : BrickId) (now known : ℕ) (c : C
       }) me
       (carried_out setting me (w.nodes me.0) known c next)
 
-  -- the world after an end, with these operations
-  abbrev after_end : (ℕ → Option Operation) → Answer → Option Stamp → World
-  after_end operations answer stored =
+  -- the world after an end, with these operations, and an End of this number
+  abbrev marked_end : ℕ → (ℕ → Option Operation) → Answer → Option Stamp → World
+  marked_end mark operations answer stored =
       record {
         nodes = put w.nodes me.0 (with_call (w.nodes me.0) known ((w.nodes me.0).busy - 1) c.call.seq None);
         after = w.after;
         up = w.up;
         clocks = w.clocks;
         packets = w.packets ++ collect_packets me c stored;
-        marks = w.marks ++ (End (length w.marks) (number_of w me.0 c.call.seq) answer ∷ []);
+        marks = w.marks ++ (End (length w.marks) mark answer ∷ []);
+        marked = w.marked;
         begun = w.begun;
         operations = operations;
         numbers = w.numbers;
@@ -365,6 +367,10 @@ module _ (setting : Setting) (w : World) (me : BrickId) (now known : ℕ) (c : C
             (record { seat = seat; brick = from; reply = reply });
         reached = w.reached;
       }
+
+  -- the same, by the number of the operation
+  abbrev after_end : (ℕ → Option Operation) → Answer → Option Stamp → World
+  after_end = marked_end (number_of w me.0 c.call.seq)
 
   same_operations : (m : ℕ) (e : Operation) → IsOperation w m e → (p : Operation) × IsOperation w m p × GoesOn e p
   same_operations m e at = (e, at, record { brick = refl; boot = refl; seq = refl; ask = refl })
@@ -519,6 +525,13 @@ module _ (setting : Setting) (w : World) (me : BrickId) (now known : ℕ) (c : C
       (abort_shown operations answer stored cause abort later on)))
       (get_grown w.marks (End (length w.marks) n answer ∷ []) a (End p m (Aborted cause)) at))
 
+  -- the End is of the operation's number
+  by_number : (operations : ℕ → Option Operation) (answer : Answer) (stored : Option Stamp) (mark : ℕ) → mark ≡ n
+      → (MessagesShow (after_end operations answer stored) → Tallied (after_end operations answer stored))
+      → MessagesShow (marked_end mark operations answer stored) → Tallied (marked_end mark operations answer stored)
+  by_number operations answer stored mark own =
+      subst (λ (m : ℕ). MessagesShow (marked_end m operations answer stored) → Tallied (marked_end m operations answer stored)) (sym own)
+
   -- the history of replies after what the coordinator decides
   pub tallied_counted : (next : Next) → NextFits fresh (with_reply c seat from reply) next → MessagesShow (after next) → Tallied (after next)
   tallied_counted Ignores fits later = absurd fits
@@ -559,11 +572,13 @@ module _ (setting : Setting) (w : World) (me : BrickId) (now known : ℕ) (c : C
       }))
       unbegun (counted_next (after (Makes d)) on) (λ a p m cause at. inl at)
   tallied_counted (Ends answer None stored) fits later =
-      tallied_ends (put w.operations n (with_answer answer (w.operations n))) answer stored fits.1
-      (changed w.operations (with_answer answer) (λ e. (_, refl, record { brick = refl; boot = refl; seq = refl; ask = refl }))) later
+      by_number (put w.operations n (with_answer answer (w.operations n))) answer stored _ (own_number w.marked w.begun w.operations books.own n)
+      (tallied_ends (put w.operations n (with_answer answer (w.operations n))) answer stored fits.1
+      (changed w.operations (with_answer answer) (λ e. (_, refl, record { brick = refl; boot = refl; seq = refl; ask = refl })))) later
   tallied_counted (Ends answer (Some v) stored) fits later =
       let seen : ℕ → Option Operation = put w.operations n (with_seen v (w.operations n)) in
-      tallied_ends (put seen n (with_answer answer (seen n))) answer stored fits.1
+      by_number (put seen n (with_answer answer (seen n))) answer stored _ (own_seen w.marked w.begun w.operations books.own n v)
+      (tallied_ends (put seen n (with_answer answer (seen n))) answer stored fits.1
       (λ m e at.
       let first = changed w.operations (with_seen v) (λ x. (_, refl, record { brick = refl; boot = refl; seq = refl; ask = refl })) m e at in
       let second = changed seen (with_answer answer) (λ x. (_, refl, record { brick = refl; boot = refl; seq = refl; ask = refl })) m first.0 first.1 in (
@@ -575,4 +590,4 @@ module _ (setting : Setting) (w : World) (me : BrickId) (now known : ℕ) (c : C
           seq = second.2.seq ∙ first.2.seq;
           ask = second.2.ask ∙ first.2.ask;
         },
-      )) later
+      ))) later

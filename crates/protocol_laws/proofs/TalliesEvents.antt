@@ -217,10 +217,10 @@ module _ (setting : Setting) (w : World) where
       (λ m phase a x is. inl is)
       (λ a p m cause is. ⊎_elim
       (λ (old : slice_get w.marks a ≡ Some (End p m (Aborted cause))). inl old)
-      (λ (new : (q : ℕ) × (slice_get (Begin (length w.marks) n brick ask ∷ []) q ≡ Some (End p m (Aborted cause)))).
-      absurd (let never : Begin (length w.marks) n brick ask ≡ End p m (Aborted cause)
-      = get_one (Begin (length w.marks) n brick ask) (End p m (Aborted cause)) new.0 new.1 in cc))
-      (get_grown w.marks (Begin (length w.marks) n brick ask ∷ []) a (End p m (Aborted cause)) is))
+      (λ (new : (q : ℕ) × (slice_get (Begin (length w.marks) (w.marked + 1) brick ask ∷ []) q ≡ Some (End p m (Aborted cause)))).
+      absurd (let never : Begin (length w.marks) (w.marked + 1) brick ask ≡ End p m (Aborted cause)
+      = get_one (Begin (length w.marks) (w.marked + 1) brick ask) (End p m (Aborted cause)) new.0 new.1 in cc))
+      (get_grown w.marks (Begin (length w.marks) (w.marked + 1) brick ask ∷ []) a (End p m (Aborted cause)) is))
 
   tallied_invoked : (brick : BrickId) (now : ℕ) (ask : Ask) → Books setting w → Tallied w
       → may_begin setting w brick ask ≡ true

@@ -1,7 +1,7 @@
 -- The walk along a stripe's effective versions, and why its happenings are strict.
 use Rattle.std.proofs.Common.{◌≡◌, ◌≢◌, ℕ, ◌<◌, ◌≤◌, ◌⊎◌, inl, inr, ⊎_elim, Bool, true, false, not, ◌&&◌, ◌||◌, nat_eq, List, length, get_or, map, Option, Some, None, refl, sym, ap, ◌∙◌, subst, arith}
 use Rattle.std.specs.List.{All, AllPairs, Contains}
-use Rattle.std.proofs.lemmas.Bool.{cases_Bool, cases_eq, cases_lt, both_ways, or_parts, or_left, or_right, or_from, and_cases, ltb-false}
+use Rattle.std.proofs.lemmas.Bool.{cases_Bool, cases_eq, cases_lt, both_ways, or_parts, or_left, or_right, or_from, and_from, and_parts, and_cases, ltb-false}
 use Rattle.std.proofs.lemmas.Option.{none-some, same_Some}
 use Rattle.std.proofs.lemmas.List.Elements.{All-weaker, All-contains, All-contains_itself}
 use Rattle.std.proofs.lemmas.List.Sorted.{sorted_far}
@@ -18,7 +18,7 @@ use Rattle.reg_model.specs.Marks.{Ending, Answered, Interrupted, Unended, Life, 
 use Rattle.reg_model.specs.Strict.{IsAnswered, WasAnswered, IsRead, data_of, after_life, IsStrict}
 use Rattle.reg_model.specs.Registers.{after_op, read_of}
 use Rattle.reg_model.proofs.Bases.{EachNext, IsMadeOn, IsEffective, AreEffective, versions_of}
-use Rattle.reg_model.specs.Walk.{turn_below, entry_below, begin_of, last_of}
+use Rattle.reg_model.specs.Walk.{turn_below, entry_below, begin_of, last_of, positioned}
 use Rattle.reg_model.proofs.WalkFacts.{OnlyReads, HasTurn, IsMade, IsOfVersion, Follows, WalkFacts}
 use Rattle.reg_model.proofs.Chains.{each_next_from_made}
 use Rattle.reg_model.proofs.EntryOrder.{entry_order}
@@ -27,7 +27,8 @@ use Rattle.fab_base.specs.Layouts.{Group, group_of}
 use Rattle.protocol.specs.Views.{Views}
 use Rattle.protocol.specs.Settings.{Setting}
 use Rattle.protocol.specs.Worlds.{World, Operation}
-use Rattle.protocol.specs.Happenings.{is_of, entries_to, was_answered, writes, is_told, base_of, ascending, Effect, effect_of, walk_of, happenings_of}
+use Rattle.protocol.specs.Happenings.{is_of, entries_to, is_marked, was_answered, writes, is_told, base_of, ascending, Effect, effect_of, walk_of, happenings_of}
+use Rattle.protocol_laws.proofs.MarkNumbers.{own_marked, own_walk}
 use Rattle.protocol_laws.proofs.Books.{Books, OperationBooks, IsOperation}
 use Rattle.protocol_laws.proofs.Chains.{above_first, base_in, base_is, entries_ours, has_entry, stripe_of, maker_facts, one_maker, IsAnsweredVersion, base_facts, maker_swept, versions_effective, MadeVersion, maker_entry, maker_reads, complete, are_effective, version_made}
 use Rattle.protocol_laws.proofs.Effects.{IsSwept, answered_swept, told_all, told_pairs, told_told, told_versions}
@@ -129,6 +130,10 @@ module _ (setting : Setting) (views : Views) (w : World) (g s : ℕ) (books : Bo
 
   numbers : NumbersRise 0 marks
   numbers = NumbersRise-filter (concerns g s w.marks) w.marks 0 all_numbers
+
+  -- each operation has marks
+  has_marks : (n : ℕ) (o : Operation) → IsOperation w n o → is_marked o ≡ true
+  has_marks n o is = own_marked w.marked w.begun w.operations books.own n o is (books.operations n o is).from_one
 
   -- the life of an operation of the stripe, in all marks and in the stripe's
   record StripeLife (n : ℕ) (o : Operation) : Type 0 where
@@ -264,6 +269,9 @@ module _ (setting : Setting) (views : Views) (w : World) (g s : ℕ) (books : Bo
       content_of : (t : Stamp) → w.contents mine.operation.ask.group.0 mine.operation.ask.stripe.0 t ≡ w.contents g s t
       content_of t = ap (λ (x : ℕ). w.contents x mine.operation.ask.stripe.0 t) at.0 ∙ ap (λ (y : ℕ). w.contents g y t) at.1
 
+      marked : is_marked mine.operation ≡ true
+      marked = has_marks r.operation mine.operation mine.is
+
       -- the maker stands in the walk, and changes the content so
       made_from : is_told (Some mine.operation) ≡ true → w.contents g s r.stamp ≡ after_op setting.layout.block its.life.ask.op (w.contents g s u)
           → Follows setting.layout.block marks (w.contents g s) walk u r.stamp
@@ -299,12 +307,12 @@ module _ (setting : Setting) (views : Views) (w : World) (g s : ℕ) (books : Bo
           = All-contains (λ (x : Entry). is_told (w.operations x.operation) ≡ true) walk e (told_told w.operations entries) (k, lt, is) in
           let same : is_told (Some mine.operation) ≡ true
           = sym (ap (λ (o : Option Operation). is_told o) (ap w.operations one ∙ mine.is)) ∙ told in
-          both_ways (mine.operation.answered || writes mine.operation.ask.op) (or_from _ _ unanswered reads) same
+          both_ways (mine.operation.answered || writes mine.operation.ask.op) (or_from _ _ unanswered reads) (and_parts _ _ same).1
 
       by : WritesWhole w mine.operation r.stamp ⊎ BaseSays setting views w mine.operation r.stamp → Follows setting.layout.block marks
           (w.contents g s) walk u r.stamp
       by (inl whole) =
-          made_from (or_right mine.operation.answered _ (ap (λ (x : Op). writes x) whole.1))
+          made_from (and_from _ _ marked (or_right mine.operation.answered _ (ap (λ (x : Op). writes x) whole.1)))
           (sym (ap (λ (x : Op). after_op setting.layout.block x (w.contents g s u)) (life_op r.operation mine.operation its ∙ whole.1)
           ∙ content_of r.stamp))
       by (inr says) =
@@ -317,7 +325,8 @@ module _ (setting : Setting) (views : Views) (w : World) (g s : ℕ) (books : Bo
           made_from told
           (changes ∙ sym (ap (λ (x : Op). after_op setting.layout.block x (w.contents g s u)) (life_op r.operation mine.operation its))))
           (λ (untold : is_told (Some mine.operation) ≡ false).
-          let parts = or_parts mine.operation.answered (writes op) untold in
+          let parts = or_parts mine.operation.answered (writes op)
+          (sym (ap (λ (b : Bool). b && (mine.operation.answered || writes op)) marked) ∙ untold) in
           inr (unmade parts.0 parts.1, changes ∙ reads_leave setting.layout.block op (w.contents g s u) parts.1))
           (cases_Bool (is_told (Some mine.operation)))
 
@@ -354,8 +363,9 @@ module _ (setting : Setting) (views : Views) (w : World) (g s : ℕ) (books : Bo
           let e : Entry = entry_of n o.0 version.0 in
           let swept : IsSwept w.operations effect e = answered_swept w.operations entries e
           (has_entry setting views w g s books facts n o.0 version.0 o.1 o.2 version.1)
-          (ap (λ (x : Option Operation). was_answered x) o.1 ∙ was) in
-          Contains-number walk e (swept.told (ap (λ (x : Option Operation). is_told x) o.1 ∙ or_left o.0.answered _ was))
+          (ap (λ (x : Option Operation). was_answered x) o.1 ∙ and_from _ _ (has_marks n o.0 o.1) was) in
+          Contains-number walk e
+          (swept.told (ap (λ (x : Option Operation). is_told x) o.1 ∙ and_from _ _ (has_marks n o.0 o.1) (or_left o.0.answered _ was)))
 
   -- an operation that ended did not end before one that stands no later in the walk began
   in_time_ended : (a b : Entry) (first : IsOurs a) (second : IsOurs b) (one : StripeLife a.operation first.operation)
@@ -363,7 +373,8 @@ module _ (setting : Setting) (views : Views) (w : World) (g s : ℕ) (books : Bo
       → entry_below b a ≡ false → end_of other.life.ending ≡ end_of other.full.ending → one.life.begin ≤ end_of other.life.ending
   in_time_ended a b first second one other order ends = ⊎_elim
       (λ (late : end_of other.life.ending < one.life.begin).
-      let last : last_of (life_of w.marks b.operation) ≡ end_of other.life.ending = ap last_of other.full_is ∙ sym ends in
+      let last : last_of (life_of w.marks second.operation.mark) ≡ end_of other.life.ending =
+      ap (λ (n : ℕ). last_of (life_of w.marks n)) (books.own.each b.operation second.operation second.is) ∙ ap last_of other.full_is ∙ sym ends in
       let begin : one.life.begin ≡ first.operation.begin = one.stays.begin ∙ one.begin in
       let parts = not_before a b order in
       ⊎_elim
@@ -420,8 +431,7 @@ module _ (setting : Setting) (views : Views) (w : World) (g s : ℕ) (books : Bo
 
   -- what is known of the walk
   walk_facts : (group : Group) → group_of setting.layout g ≡ Some group
-      → WalkFacts group.m setting.layout.block marks (w.contents g s) versions (walk_of w g s)
-  unfolding walk_of
+      → WalkFacts group.m setting.layout.block marks (w.contents g s) versions walk
   walk_facts group is = record {
     ascending = IsSortedBy-from_order walk walk_order;
     once = numbers_distinct walk walk_apart;
@@ -440,5 +450,7 @@ module _ (setting : Setting) (views : Views) (w : World) (g s : ℕ) (books : Bo
   -- the stripe's happenings are strict
   pub happenings_strict : (group : Group) → group_of setting.layout g ≡ Some group
       → IsStrict group.m setting.layout.block marks (happenings_of w g s)
-  unfolding happenings_of
-  happenings_strict group is = walk_is_strict group.m setting.layout.block marks (w.contents g s) versions (walk_of w g s) (walk_facts group is)
+  unfolding happenings_of walk_of
+  happenings_strict group is =
+      subst (λ (l : List Entry). IsStrict group.m setting.layout.block marks (positioned marks 0 l)) (sym (own_walk w.marked w.begun w.operations books.own walk))
+      (walk_is_strict group.m setting.layout.block marks (w.contents g s) versions walk (walk_facts group is))

@@ -31,7 +31,7 @@ use Rattle.protocol.specs.declared.phases.Counted.{Counted}
 use Rattle.protocol.specs.declared.phases.Phase.TheVariants.{Bases}
 use Rattle.protocol.specs.Coordinators.{Coordinator, most_rounds, greatest_refuser, lowest_full, told_in, counts_at, with_reply, pieces_at, delta_at}
 use Rattle.protocol.specs.Nodes.{view_at, top_at, has_later_time}
-use Rattle.protocol.specs.Worlds.{World, Event, Operation, content_on, first_world, known_in, happens, run}
+use Rattle.protocol.specs.Worlds.{World, Event, Operation, content_on, first_world, mark_of, known_in, happens, run}
 use Rattle.protocol.specs.Happenings.{is_of, effect_in, happenings_of}
 use Rattle.protocol_laws.specs.Marked.{WordsFit, AreWithoutGaps}
 
@@ -216,7 +216,7 @@ abbrev pub FollowsRealTime : World → ℕ → ℕ → Type 0
 FollowsRealTime w g s =
     (a b : ℕ) (earlier later : Operation) (u v : Stamp) → w.operations a ≡ Some earlier → w.operations b ≡ Some later
     → is_of g s earlier ≡ true → is_of g s later ≡ true → earlier.version ≡ Some u → later.version ≡ Some v
-    → last_of (life_of w.marks a) < later.begin
+    → last_of (life_of w.marks earlier.mark) < later.begin
     → (stamp_below u v ≡ true) ⊎ ((u ≡ v) × (later.made ≡ false))
 
 -- how an operation orders its stamp: the write of a stripe by the order alone, that of a block by one that tells the newest version below, with the
@@ -312,7 +312,7 @@ WritesWereGuarded setting views w =
     → slice_get w.packets k ≡ Some (record { from = from; to = to; message = Message.Request call request }) → stamp_stored request ≡ Some t
     → group_in setting.layout views call.group.0 (view_of t) ≡ Some group
     → (sending : Sending setting w k) × IsGuarded sending.moment call.group.0 call.stripe.0 group t
-    × IsOpen (life_of sending.moment.marks (sending.moment.numbers from.0 call.boot call.seq))
+    × IsOpen (life_of sending.moment.marks (mark_of sending.moment (sending.moment.numbers from.0 call.boot call.seq)))
 
 -- each refusal was true of the member that told it when it was sent
 abbrev pub RefusalsWereTrue : Setting → World → Type 0
@@ -320,11 +320,11 @@ RefusalsWereTrue setting w =
     (k : ℕ) (packet : Packet) → slice_get w.packets k ≡ Some packet
     → (sending : Sending setting w k) × RefusalIsTrue sending.moment packet.from packet.message
 
--- every abort shows its evidence
+-- every abort shows its evidence: that of the operation whose marks have its number
 abbrev pub AbortsShow : World → Type 0
 AbortsShow w =
     (k p n : ℕ) (cause : Cause) → slice_get w.marks k ≡ Some (End p n (Aborted cause))
-    → (o : Operation) × (w.operations n ≡ Some o) × Evidence w n o cause
+    → (a : ℕ) × (o : Operation) × (w.operations a ≡ Some o) × (o.mark ≡ n) × Evidence w a o cause
 
 -- a member says that its store is full only with as many live records as a brick may keep
 abbrev pub FullIsFull : Setting → World → Type 0

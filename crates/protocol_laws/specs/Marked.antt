@@ -1,5 +1,5 @@
 -- What the marks of a run show beside being well formed: words that fit, and no gaps.
-use Rattle.std.specs.Prelude.{◌≡◌, ℕ, ◌+◌, ◌*◌, List, length, Some, slice_get}
+use Rattle.std.specs.Prelude.{◌≡◌, ℕ, ◌+◌, ◌*◌, List, length, Option, Some, slice_get}
 use Rattle.fab_base.specs.declared.asks.Op.{Op}
 use Rattle.fab_base.specs.declared.asks.Op.TheVariants.{ReadBlock, WriteBlock, ReadStripe, WriteStripe}
 use Rattle.fab_base.specs.declared.answers.Answer.{Answer}
@@ -7,6 +7,7 @@ use Rattle.fab_base.specs.declared.answers.Answer.TheVariants.{Data, Done, Abort
 use Rattle.fab_base.specs.Layouts.{Layout, Group, group_of}
 use Rattle.reg_model.specs.declared.marks.Mark.{Mark}
 use Rattle.reg_model.specs.declared.marks.Mark.TheVariants.{End}
+use Rattle.protocol.specs.Worlds.{World, Operation}
 use Rattle.reg_model.specs.Marks.{Life, life_of, position_of, begun_numbers}
 
 -- An answer has the word of its operation: a read is answered the data of one block, or of m blocks, and a write that it is done. Either may
@@ -30,3 +31,12 @@ WordsFit layout marks =
 pub record AreWithoutGaps (marks : List Mark) : Type 0 where
   pub placed : (k : ℕ) (mark : Mark) → slice_get marks k ≡ Some mark → position_of mark ≡ k
   pub numbered : (k n : ℕ) → slice_get (begun_numbers marks) k ≡ Some n → n ≡ k + 1
+
+-- the marks of each operation have its own number, and as many were marked as there are operations
+pub record AreOwnMarks (marked begun : ℕ) (operations : ℕ → Option Operation) : Type 0 where
+  pub count : marked ≡ begun
+  pub each : (n : ℕ) (o : Operation) → operations n ≡ Some o → o.mark ≡ n
+
+-- so in a world
+abbrev pub OwnMarks : World → Type 0
+OwnMarks w = AreOwnMarks w.marked w.begun w.operations

@@ -19,7 +19,7 @@ use Rattle.protocol.specs.declared.tellings.Answered.{Answered}
 use Rattle.protocol.specs.declared.tellings.Told.{Told}
 use Rattle.protocol.specs.declared.tellings.Told.TheVariants.{Made, Seen}
 use Rattle.protocol.specs.Nodes.{NodeStep, put, received}
-use Rattle.protocol.specs.Worlds.{World, Operation, Event, Delivers, is_brick, is_up, number_of, packet_of, replies_with, world_told, world_tells, world_answered, world_answers, first_world, happens, run}
+use Rattle.protocol.specs.Worlds.{World, Operation, Event, Delivers, is_brick, is_up, number_of, mark_of, packet_of, replies_with, world_told, world_tells, world_answered, world_answers, first_world, happens, run}
 use Rattle.reg_model.specs.declared.marks.Mark.{Mark}
 use Rattle.reg_model.specs.declared.marks.Mark.TheVariants.{End}
 use Rattle.protocol.specs.Calms.{IsCalm, open_at, open_call, operation_of, is_one_of, goes_among, is_left, next_delivery}
@@ -64,7 +64,7 @@ answers_marks : (w : World) (brick : BrickId) (answers : List Answered) → (mad
 answers_marks w brick [] = ([], sym (append-nil w.marks))
 answers_marks w brick (one ∷ more) =
     let (made, are) = answers_marks (world_answered w brick one) brick more in
-    let mark : Mark = End (length w.marks) (number_of w brick.0 one.seq) one.answer in
+    let mark : Mark = End (length w.marks) (mark_of w (number_of w brick.0 one.seq)) one.answer in
     (mark ∷ made, are ∙ append_assoc w.marks (mark ∷ []) made)
 
 -- the text of marks, and of events, one list behind another

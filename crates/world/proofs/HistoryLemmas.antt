@@ -19,6 +19,7 @@ use Rattle.protocol.specs.declared.tellings.Told.TheVariants.{Made, Seen}
 use Rattle.protocol.specs.Settings.{Setting}
 use Rattle.protocol.specs.Worlds.{World, Operation, Found, Before, After, number_of, with_number, world_began, world_stepped, world_stopped, world_found, world_started, world_told, world_tells, world_answered, world_answers, with_made, with_seen, with_answer, is_answer}
 use Rattle.protocol.specs.Happenings.{writes}
+use Rattle.protocol_laws.proofs.MarkNumbers.{KeepsMark, made_mark, seen_mark, answer_mark, own_number, own_changed, own_more}
 use Rattle.world.specs.declared.histories.History.{History}
 use Rattle.world.specs.declared.histories.KeptOperation.{KeptOperation}
 use Rattle.world.specs.Shown.{TellsOperations, ChangesAt, TellsOperation, Tells, pair_cmp, made_kept, seen_kept, ended_kept}
@@ -31,6 +32,7 @@ tells_same old new w sent marks operations numbers tells = record {
   packets = sent ∙ tells.packets;
   marks = marks ∙ tells.marks;
   begun = ap length operations ∙ tells.begun;
+  own = tells.own;
   operations = subst (λ (kept : List KeptOperation). TellsOperations kept w.operations) (sym operations) tells.operations;
   numbers = λ i k low high. subst (λ (map : BTreeMap (ℕ × ℕ) ℕ). get pair_cmp map (i, k) ≡ Some (number_of w i k)) (sym numbers)
       (tells.numbers i k low high);
@@ -44,6 +46,7 @@ tells_numbered old map w b s above others tells = record {
   packets = tells.packets;
   marks = tells.marks;
   begun = tells.begun;
+  own = tells.own;
   operations = tells.operations;
   numbers = λ i k low high. others (i, k) (call_apart b s i k (λ here this. apart i k here this high)) ∙ tells.numbers i k low high;
 }
@@ -67,12 +70,17 @@ calls_same w v boots seqs numbers = record {
 }
 
 -- a world that differs in what no history tells
-pub tells_other : (history : History) (w v : World) → v.packets ≡ w.packets → v.marks ≡ w.marks → v.begun ≡ w.begun → v.operations ≡ w.operations
+pub tells_other : (history : History) (w v : World) → v.packets ≡ w.packets → v.marks ≡ w.marks → v.marked ≡ w.marked → v.begun ≡ w.begun
+    → v.operations ≡ w.operations
     → KeepsCalls w v → Tells history w → Tells history v
-tells_other history w v packets marks begun operations calls tells = record {
+tells_other history w v packets marks marked begun operations calls tells = record {
   packets = tells.packets ∙ sym packets;
   marks = tells.marks ∙ sym marks;
   begun = tells.begun ∙ sym begun;
+  own = record {
+    count = marked ∙ tells.own.count ∙ sym begun;
+    each = subst (λ (f : ℕ → Option Operation). (n : ℕ) (o : Operation) → f n ≡ Some o → o.mark ≡ n) (sym operations) tells.own.each;
+  };
   operations = subst (λ (o : ℕ → Option Operation). TellsOperations history.operations.items o) (sym operations) tells.operations;
   numbers = λ i k low high. (let kept = calls.each i k low high in tells.numbers i k low kept.0 ∙ ap (λ n. Some n) (sym kept.1));
 }
@@ -183,15 +191,16 @@ restarted_seq openings node = refl
 -- one operation changed, and some marks came
 tells_changed : (old new : History) (w : World) (number : ℕ) (kept after : List KeptOperation) (change : KeptOperation → KeptOperation)
     (next : Option Operation → Option Operation)
-    → Tells old w → kept ≡ old.operations.items → new.operations.items ≡ after
+    → KeepsMark next → Tells old w → kept ≡ old.operations.items → new.operations.items ≡ after
     → ((known : KeptOperation) (o : Operation) → TellsOperation known o → (p : Operation) × (next (Some o) ≡ Some p) × TellsOperation (change known) p)
     → ChangesAt kept after number change → length after ≡ length kept
     → new.sent.items ≡ old.sent.items → new.numbers ≡ old.numbers → (marks : List Mark) → new.marks.items ≡ marks
     → Tells new (record w { marks = marks; operations = put w.operations number (next (w.operations number)) })
-tells_changed old new w number kept after change next tells are become alike changed count sent numbers marks marked = record {
+tells_changed old new w number kept after change next keeps tells are become alike changed count sent numbers marks marked = record {
   packets = sent ∙ tells.packets;
   marks = marked;
   begun = ap length become ∙ count ∙ ap length are ∙ tells.begun;
+  own = own_changed w.marked w.begun w.operations tells.own number next keeps;
   operations = subst (λ (x : List KeptOperation). TellsOperations x (put w.operations number (next (w.operations number)))) (sym become)
       (known_changed kept after w.operations number change next alike changed
       (subst (λ (x : List KeptOperation). TellsOperations x w.operations) (sym are) tells.operations));
@@ -264,8 +273,9 @@ pub tells_began : (old new : History) (w : World) (brick : BrickId) (ask : Ask) 
 tells_began old new w brick ask step tells sent marks operations numbers boot next number = record {
   packets = sent ∙ ap (λ xs. xs ++ step.packets) tells.packets;
   marks = marks ∙ ap (λ (xs : List Mark). xs ++ Begin (length xs) (length old.operations.items + 1) brick ask ∷ []) tells.marks
-      ∙ ap (λ n. w.marks ++ Begin (length w.marks) (n + 1) brick ask ∷ []) tells.begun;
+      ∙ ap (λ n. w.marks ++ Begin (length w.marks) (n + 1) brick ask ∷ []) (tells.begun ∙ sym tells.own.count);
   begun = ap length operations ∙ length-append old.operations.items _ ∙ ap (λ n. n + 1) tells.begun;
+  own = own_more w.marked w.begun w.operations tells.own _ refl;
   operations = subst (λ (kept : List KeptOperation). TellsOperations kept (world_began w brick ask step).operations) (sym operations)
       (known_begun old.operations.items w.operations w.begun _ _ tells.begun
       (record {
@@ -337,7 +347,7 @@ pub tells_made : (old new : History) (w : World) (b seq number : ℕ) (stamp : S
     → ChangesAt kept after number (made_kept stamp base) → length after ≡ length kept → new.numbers ≡ old.numbers
     → Tells new (record w { operations = put w.operations (number_of w b seq) (with_made stamp base (w.operations (number_of w b seq))) })
 tells_made old new w b seq number stamp base kept after tells is are become sent marks changed count numbers =
-    tells_changed old new w (number_of w b seq) kept after (made_kept stamp base) (with_made stamp base) tells are become (made_alike stamp base)
+    tells_changed old new w (number_of w b seq) kept after (made_kept stamp base) (with_made stamp base) (made_mark stamp base) tells are become (made_alike stamp base)
     (subst (λ n. ChangesAt kept after n (made_kept stamp base)) is changed) count sent numbers w.marks (marks ∙ tells.marks)
 
 -- an operation read a version at once
@@ -347,7 +357,7 @@ pub tells_seen : (old new : History) (w : World) (b seq number : ℕ) (stamp : S
     → ChangesAt kept after number (seen_kept stamp) → length after ≡ length kept → new.numbers ≡ old.numbers
     → Tells new (record w { operations = put w.operations (number_of w b seq) (with_seen stamp (w.operations (number_of w b seq))) })
 tells_seen old new w b seq number stamp kept after tells is are become sent marks changed count numbers =
-    tells_changed old new w (number_of w b seq) kept after (seen_kept stamp) (with_seen stamp) tells are become (seen_alike stamp)
+    tells_changed old new w (number_of w b seq) kept after (seen_kept stamp) (with_seen stamp) (seen_mark stamp) tells are become (seen_alike stamp)
     (subst (λ n. ChangesAt kept after n (seen_kept stamp)) is changed) count sent numbers w.marks (marks ∙ tells.marks)
 
 -- an operation ended
@@ -360,11 +370,12 @@ pub tells_ended : (old new : History) (w : World) (brick : BrickId) (seq number 
 tells_ended old new w brick seq number answer answered kept after tells is are become right sent marks changed count numbers =
     let at : ChangesAt kept after (number_of w brick.0 seq) (ended_kept answered) =
     subst (λ n. ChangesAt kept after n (ended_kept answered)) is changed in
-    tells_changed old new w (number_of w brick.0 seq) kept after (ended_kept (is_answer answer)) (with_answer answer) tells are become
+    tells_changed old new w (number_of w brick.0 seq) kept after (ended_kept (is_answer answer)) (with_answer answer) (answer_mark answer) tells are become
     (ended_alike answer)
     (subst (λ (x : Bool). ChangesAt kept after (number_of w brick.0 seq) (ended_kept x)) right at) count sent numbers _
     (marks ∙ ap (λ n. old.marks.items ++ End (length old.marks.items) n answer ∷ []) is
-    ∙ ap (λ (xs : List Mark). xs ++ End (length xs) (number_of w brick.0 seq) answer ∷ []) tells.marks)
+    ∙ ap (λ (xs : List Mark). xs ++ End (length xs) (number_of w brick.0 seq) answer ∷ []) tells.marks
+    ∙ ap (λ n. w.marks ++ End (length w.marks) n answer ∷ []) (sym (own_number w.marked w.begun w.operations tells.own (number_of w brick.0 seq))))
 
 -- so the one answer of a step is told
 pub tells_one : (new : History) (w : World) (brick : BrickId) (answer : Option Answered) (one : Answered) → answer ≡ Some one
@@ -377,7 +388,7 @@ pub tells_contents : (history : History) (w : World) (contents : ℕ → ℕ →
     → Tells history (record w { contents = contents })
 tells_contents history w contents tells =
     let v : World = record w { contents = contents } in
-    tells_other history w v refl refl refl refl (calls_same w v (λ i. refl) (λ i. refl) refl) tells
+    tells_other history w v refl refl refl refl refl (calls_same w v (λ i. refl) (λ i. refl) refl) tells
 
 -- What is told and answered changes operations, contents and marks alone.
 pub record KeepsRest (w v : World) : Type 0 where
@@ -430,7 +441,7 @@ tells_stepped setting history w brick step packets sent boot next tells =
     let heard : World = world_heard setting w brick step in
     let keeps = heard_keeps setting w brick step in
     tells_other history (record heard { packets = heard.packets ++ packets }) (world_stepped setting w brick step)
-    (ap (λ (xs : List Packet). xs ++ step.packets) (sym keeps.packets) ∙ ap (λ (xs : List Packet). heard.packets ++ xs) (sym sent)) refl refl refl
+    (ap (λ (xs : List Packet). xs ++ step.packets) (sym keeps.packets) ∙ ap (λ (xs : List Packet). heard.packets ++ xs) (sym sent)) refl refl refl refl
     (calls_same (record heard { packets = heard.packets ++ packets }) (world_stepped setting w brick step)
     (λ i. boots_stay w brick step.node boot i ∙ ap (λ (f : ℕ → Node). (f i).boot) (sym keeps.nodes))
     (λ i. seqs_stay w brick step.node next i ∙ ap (λ (f : ℕ → Node). (f i).seq) (sym keeps.nodes)) refl) tells
@@ -442,7 +453,7 @@ pub tells_crashed : (setting : Setting) (old new : History) (w : World) (brick :
 tells_crashed setting old new w brick tells sent marks operations numbers =
     let kept : Tells (record new { marks = old.marks }) w = tells_same old (record new { marks = old.marks }) w sent refl operations numbers tells in
     let other : Tells (record new { marks = old.marks }) (record (world_stopped setting w brick None) { marks = w.marks }) =
-    tells_other (record new { marks = old.marks }) w (record (world_stopped setting w brick None) { marks = w.marks }) refl refl refl refl
+    tells_other (record new { marks = old.marks }) w (record (world_stopped setting w brick None) { marks = w.marks }) refl refl refl refl refl
     (calls_same w (record (world_stopped setting w brick None) { marks = w.marks })
     (boots_stay w brick (stopped (w.nodes brick.0)) (stopped_boot (w.nodes brick.0)))
     (seqs_stay w brick (stopped (w.nodes brick.0)) (stopped_seq (w.nodes brick.0))) refl) kept
@@ -451,6 +462,7 @@ tells_crashed setting old new w brick tells sent marks operations numbers =
       packets = other.packets;
       marks = marks ∙ ap (λ (xs : List Mark). xs ++ Crash (length xs) brick ∷ []) tells.marks;
       begun = other.begun;
+      own = other.own;
       operations = other.operations;
       numbers = other.numbers;
     }
@@ -468,7 +480,7 @@ started_calls w brick openings = record {
 pub tells_started : (history : History) (w : World) (brick : BrickId) (openings : ℕ) → Tells history w
     → Tells history (world_started w brick openings)
 tells_started history w brick openings tells =
-    tells_other history w (world_started w brick openings) refl refl refl refl (started_calls w brick openings) tells
+    tells_other history w (world_started w brick openings) refl refl refl refl refl (started_calls w brick openings) tells
 
 -- so does one whose store is found to hold what the handling that its stop cut short would have kept
 found_calls : (w : World) (brick : BrickId) (openings : ℕ) → KeepsCalls w (world_started (world_found w brick After) brick openings)
@@ -487,11 +499,11 @@ pub tells_found_started : (history : History) (w : World) (brick : BrickId) (ope
     → Tells history (world_started (world_found w brick found) brick openings)
 tells_found_started history w brick openings Before tells = tells_started history w brick openings tells
 tells_found_started history w brick openings After tells =
-    tells_other history w (world_started (world_found w brick After) brick openings) refl refl refl refl (found_calls w brick openings) tells
+    tells_other history w (world_started (world_found w brick After) brick openings) refl refl refl refl refl (found_calls w brick openings) tells
 
 -- what a brick that is down would have kept is told by no history
 pub tells_during : (setting : Setting) (history : History) (w : World) (brick : BrickId) (during : Option ℕ)
     → Tells history (world_stopped setting w brick None) → Tells history (world_stopped setting w brick during)
 tells_during setting history w brick during tells =
-    tells_other history (world_stopped setting w brick None) (world_stopped setting w brick during) refl refl refl refl
+    tells_other history (world_stopped setting w brick None) (world_stopped setting w brick during) refl refl refl refl refl
     (calls_same (world_stopped setting w brick None) (world_stopped setting w brick during) (λ i. refl) (λ i. refl) refl) tells

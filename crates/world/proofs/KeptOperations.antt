@@ -16,7 +16,8 @@ use Rattle.reg_model.specs.Marks.{life_of, is_of_stripe, stripe_marks}
 use Rattle.reg_model.specs.Walk.{begin_of, positioned}
 use Rattle.protocol.specs.Settings.{Setting}
 use Rattle.protocol.specs.Worlds.{World, Operation, Event, first_world, run}
-use Rattle.protocol.specs.Happenings.{Effect, is_of, entry_with, entry_at, entries_to, was_answered, writes, is_told, base_of, is_among, with_entry, effect_of, ascending, walk_of, happenings_of}
+use Rattle.protocol.specs.Happenings.{is_marked, Effect, is_of, entry_with, entry_at, entries_to, was_answered, writes, is_told, base_of, is_among, with_entry, effect_of, ascending, walk_of, happenings_of}
+use Rattle.protocol_laws.proofs.MarkNumbers.{own_marked, own_walk}
 use Rattle.protocol_laws.proofs.Books.{Books, OperationBooks}
 use Rattle.protocol_laws.proofs.BooksEvents.{books}
 use Rattle.protocol_laws.proofs.Effects.{told_all}
@@ -152,9 +153,11 @@ module _ (operations : List KeptOperation) (w : World) (are : KeepsAll operation
       × (base_of (operations_of operations k) ≡ base_of (w.operations k))
   known_same k low high =
       let mine : Agrees operations w k = agrees operations w are d k low high in
+      let marked : is_marked mine.operation ≡ true = own_marked w.marked w.begun w.operations are.own k mine.operation mine.is low in
       let writing : writes (op_that mine.known.writes) ≡ writes mine.operation.ask.op = writes_that mine.known.writes ∙ mine.same.writes in (
-        ap was_answered mine.kept ∙ mine.same.answered ∙ sym (ap was_answered mine.is),
-        ap is_told mine.kept ∙ ap₂ (λ (a b : Bool). a || b) mine.same.answered writing ∙ sym (ap is_told mine.is),
+        ap was_answered mine.kept ∙ mine.same.answered ∙ sym (ap (λ (b : Bool). b && mine.operation.answered) marked) ∙ sym (ap was_answered mine.is),
+        ap is_told mine.kept ∙ ap₂ (λ (a b : Bool). a || b) mine.same.answered writing
+            ∙ sym (ap (λ (b : Bool). b && (mine.operation.answered || writes mine.operation.ask.op)) marked) ∙ sym (ap is_told mine.is),
         ap base_of mine.kept ∙ mine.same.base ∙ sym (ap base_of mine.is),
       )
 
@@ -178,6 +181,7 @@ module _ (operations : List KeptOperation) (w : World) (are : KeepsAll operation
       (All-weaker (IsUpTo w.begun) AreSame
       (λ e upto. known_same e.operation upto.0 (let begun = are.begun in omega (arith, upto.1))) entries
       (entries_numbered w.operations g s w.begun))))
+      ∙ sym (own_walk w.marked w.begun w.operations are.own (effect_of w.operations (ascending entries)).told)
 
   -- an entry's operation begins where the marks of the stripe say
   begin_same : BeginsAgree w → (e : Entry) → IsUpTo (length operations) e → IsEntryOf w.operations g s e
@@ -192,13 +196,16 @@ module _ (operations : List KeptOperation) (w : World) (are : KeepsAll operation
       let agree : begin_of (life_of (stripe_marks g s w.marks) e.operation) ≡ o.begin =
       subst (λ (x : ℕ). begin_of (life_of (stripe_marks x s w.marks) e.operation) ≡ o.begin) group
       (subst (λ (y : ℕ). begin_of (life_of (stripe_marks o.ask.group.0 y w.marks) e.operation) ≡ o.begin) stripe
-      (begins.each e.operation o ours.is)) in
+      (subst (λ (n : ℕ). begin_of (life_of (stripe_marks o.ask.group.0 o.ask.stripe.0 w.marks) n) ≡ o.begin) (are.own.each e.operation o ours.is)
+      (begins.each e.operation o ours.is))) in
       ap begin_at mine.kept ∙ mine.same.begin ∙ ap (λ (x : Operation). x.begin) one ∙ sym agree
 
   -- what holds of each entry of the stripe's operations holds of each that stands in the walk
   walk_all : (P : Entry → Type 0) → All P (entries_to w.operations g s w.begun) → All P (walk_of w g s)
   unfolding walk_of
-  walk_all P all = told_all w.operations P (ascending (entries_to w.operations g s w.begun)) (rising_all P all)
+  walk_all P all =
+      subst (λ (l : List Entry). All P l) (sym (own_walk w.marked w.begun w.operations are.own _))
+      (told_all w.operations P (ascending (entries_to w.operations g s w.begun)) (rising_all P all))
 
   -- the operations of the walk begin where the marks of the stripe say
   walk_begins : BeginsAgree w → BeginAsMarked (operations_of operations) (stripe_marks g s w.marks) (walk_of w g s)
@@ -254,7 +261,7 @@ begins_from_books setting w books = record {
       let own : is_of_stripe g s (Some mine.life) ≡ true =
       ap (λ a. nat_eq a.group.0 g && nat_eq a.stripe.0 s) mine.ask ∙ and_from _ _ (eq-eqb g g refl) (eq-eqb s s refl) in
       let found = life_filtered g s w.marks n (ap (is_of_stripe g s) mine.life_is ∙ own) w.marks mine.life mine.life_is own in
-      ap begin_of found.1 ∙ found.2.begin ∙ mine.begin);
+      ap (λ (m : ℕ). begin_of (life_of (stripe_marks g s w.marks) m)) (books.own.each n o is) ∙ ap begin_of found.1 ∙ found.2.begin ∙ mine.begin);
 }
 
 -- so in each world that a run reaches

@@ -343,6 +343,7 @@ begun_operation w brick ask step =
       made = false;
       base = None;
       answered = false;
+      mark = w.marked + 1;
       view = view_at (w.nodes brick.0) ask.group.0;
       floor = λ i. top_at (w.nodes i) ask.group.0 ask.stripe.0;
     }

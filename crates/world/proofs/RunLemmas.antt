@@ -120,10 +120,10 @@ grown_by marks mark least few = omega (arith, few, length-append marks (mark ∷
 
 grow_cases : (setting : Setting) (least : ℕ) (w : World) → HasAtLeast least w → EventCases setting w (HasAtLeast least)
 grow_cases setting least w few = record {
-  begins = λ brick ask may. grown_by w.marks (mark.Begin (length w.marks) (w.begun + 1) brick ask) least few;
+  begins = λ brick ask may. grown_by w.marks (mark.Begin (length w.marks) (w.marked + 1) brick ask) least few;
   handles = λ number packet at up.
       stepped_each (HasAtLeast least) setting packet.to (step_on setting w packet) (λ x seq t base holds. holds) (λ x seq v holds. holds)
-      (λ x one holds. grown_by x.marks (mark.End (length x.marks) (number_of x packet.to.0 one.seq) one.answer) least holds)
+      (λ x one holds. grown_by x.marks (mark.End (length x.marks) _ one.answer) least holds)
       (λ x nodes held packets holds. holds) (world_counting setting w number packet) few;
   sets = λ brick time is. few;
   ticks = λ brick up. few;

@@ -77,7 +77,7 @@ pub tells_replies : (layout : Layout) (history : History) (w : World) (number : 
     → Tells history (record w { replies = replies_with (coding layout) w packet; reached = put w.reached number true })
 tells_replies layout history w number packet tells =
     let v : World = record w { replies = replies_with (coding layout) w packet; reached = put w.reached number true } in
-    tells_other history w v refl refl refl refl (calls_same w v (λ i. refl) (λ i. refl) refl) tells
+    tells_other history w v refl refl refl refl refl (calls_same w v (λ i. refl) (λ i. refl) refl) tells
 
 -- a message that was handled
 pub shows_handled : (layout : Layout) (state : Simulation) (w : World) (number : ℕ) (packet : Packet) → packet_of w.packets number ≡ Some packet
@@ -112,7 +112,7 @@ shows_set layout old new w brick time within bricks same shows =
     (record {
       bricks = bricks;
       history = subst (λ (h : History). Tells h (record w { clocks = put w.clocks brick.0 time })) (sym same)
-          (tells_other old.history w (record w { clocks = put w.clocks brick.0 time }) refl refl refl refl
+          (tells_other old.history w (record w { clocks = put w.clocks brick.0 time }) refl refl refl refl refl
           (calls_same w (record w { clocks = put w.clocks brick.0 time }) (λ i. refl) (λ i. refl) refl) shows.history);
     })
 

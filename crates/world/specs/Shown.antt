@@ -24,6 +24,7 @@ use Rattle.protocol.specs.Worlds.{World, Operation, is_up, number_of, first_worl
 use Rattle.protocol.specs.Happenings.{writes}
 use Rattle.protocol.specs.Settings.{Setting}
 use Rattle.protocol.specs.Worlds.{Event}
+use Rattle.protocol_laws.specs.Marked.{OwnMarks}
 use Rattle.world.specs.Runs.{brick_of}
 use Rattle.world.specs.Faults.{HoldsOne, IsEventsOf, IsStartOf, IsLeft, IsLeftOpening, IsReached, IsReachedOpening, Finds, plan_of, found_of}
 use Rattle.world.specs.Disks.{ShowsDisk, IsUnwritten, AreUnwritten, KeepsDisks, LeavesContents}
@@ -242,12 +243,13 @@ HandledAs layout w number packet fault old new (Ok (Some outs)) = HandledWhole l
 HandledAs layout w number packet fault old new (Ok None) = HandledPart layout w number packet fault old new
 HandledAs layout w number packet fault old new (Err refused) = ShowsBricks layout new w.nodes w.after w.up w.clocks
 
--- The history tells the machine's world: every message, every mark, each operation, and the numbers of the
+-- The history tells the machine's world: every message, every mark, each operation, whose marks have its number, and the numbers of the
 -- calls so far of each brick's present boot.
 pub record Tells (history : History) (w : World) : Type 0 where
   pub packets : history.sent.items ≡ w.packets
   pub marks : history.marks.items ≡ w.marks
   pub begun : length history.operations.items ≡ w.begun
+  pub own : OwnMarks w
   pub operations : TellsOperations history.operations.items w.operations
   pub numbers : (i k : ℕ) → 1 ≤ k → k ≤ (w.nodes i).seq → get pair_cmp history.numbers (i, k) ≡ Some (number_of w i k)
 

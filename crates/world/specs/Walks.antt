@@ -16,20 +16,22 @@ use Rattle.reg_model.specs.Marks.{life_of, stripe_marks}
 use Rattle.reg_model.specs.Walk.{begin_of}
 use Rattle.protocol.specs.Worlds.{World, Operation}
 use Rattle.protocol.specs.Happenings.{Effect, entries_to, is_among}
+use Rattle.protocol_laws.specs.Marked.{OwnMarks}
 use Rattle.world.specs.declared.histories.KeptOperation.{KeptOperation}
 use Rattle.world.specs.declared.stripe_entries.StripeEntries.{StripeEntries}
 use Rattle.world.specs.declared.walks.Sweep.{Sweep}
 use Rattle.world.specs.Shown.{TellsOperations, pair_cmp}
 
--- these are the operations of a world, number n at place n - 1
+-- these are the operations of a world, number n at place n - 1, and the marks of each have its number
 pub record KeepsAll (operations : List KeptOperation) (w : World) : Type 0 where
   pub begun : length operations ≡ w.begun
+  pub own : OwnMarks w
   pub each : TellsOperations operations w.operations
 
 -- each operation begins where the marks of its stripe say
 pub record BeginsAgree (w : World) : Type 0 where
   pub each : (n : ℕ) (o : Operation) → w.operations n ≡ Some o
-      → begin_of (life_of (stripe_marks o.ask.group.0 o.ask.stripe.0 w.marks) n) ≡ o.begin
+      → begin_of (life_of (stripe_marks o.ask.group.0 o.ask.stripe.0 w.marks) o.mark) ≡ o.begin
 
 -- an operation on a stripe that writes, or reads
 abbrev pub op_that : Bool → Op
@@ -48,6 +50,7 @@ operation_of kept =
       made = kept.made;
       base = kept.base;
       answered = kept.answered;
+      mark = 1;
       view = 1;
       floor = λ i. first_stamp;
     }

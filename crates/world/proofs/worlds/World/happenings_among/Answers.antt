@@ -14,7 +14,11 @@ pub returns : goal.returns
 returns c =
     let keeps : KeepsAll c.as_slice.result.now (world_of (run_of c.self.inside)) =
     subst (λ (kept : List KeptOperation). KeepsAll kept (world_of (run_of c.self.inside))) (sym c.as_slice.ensures.value)
-    (record { begun = c.self.invariant.shows.history.begun; each = c.self.invariant.shows.history.operations })
+    (record {
+      begun = c.self.invariant.shows.history.begun;
+      own = c.self.invariant.shows.history.own;
+      each = c.self.invariant.shows.history.operations;
+    })
     in
     let entries : AreEntriesOf c.args.entries.now (world_of (run_of c.self.inside)) =
     subst (λ (r : Run). AreEntriesOf c.args.entries.now (world_of r)) (sym c.self.view_is) c.requires

@@ -13,7 +13,11 @@ pub returns : goal.returns
 returns c =
     let keeps : KeepsAll c.as_slice.result.now (world_of (run_of c.self.inside)) =
     subst (λ (kept : List KeptOperation). KeepsAll kept (world_of (run_of c.self.inside))) (sym c.as_slice.ensures.value)
-    (record { begun = c.self.invariant.shows.history.begun; each = c.self.invariant.shows.history.operations })
+    (record {
+      begun = c.self.invariant.shows.history.begun;
+      own = c.self.invariant.shows.history.own;
+      each = c.self.invariant.shows.history.operations;
+    })
     in
     subst (λ (r : Run). IfOk c.gather.result (λ entries. AreEntriesOf entries (world_of r))) c.self.view_is
     (IfOk-weaker c.gather.result _ _
