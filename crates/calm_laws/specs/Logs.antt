@@ -8,11 +8,11 @@ use Rattle.protocol.specs.Worlds.{World, is_up}
 
 -- a stripe of the group
 abbrev pub is_stripe : Option Group → ℕ → Bool
-is_stripe None s = false
-is_stripe (Some group) s = nat_lt s group.stripes
+is_stripe None stripe = false
+is_stripe (Some group) stripe = nat_lt stripe group.stripes
 
 -- the log of a brick's part of a stripe in the view that it has learnt, where there is such a brick, it is up, and there is such a stripe
 abbrev pub log_in : Layout → World → BrickId → ℕ → ℕ → Option (List Version)
-log_in layout w brick g s =
-    if is_stripe (group_of layout g) s && is_up layout w brick
-    then Some ((w.nodes brick.0).replicas g (view_at (w.nodes brick.0) g) s).log else None
+log_in layout w brick group stripe =
+    if is_stripe (group_of layout group) stripe && is_up layout w brick
+    then Some ((w.nodes brick.0).replicas group (view_at (w.nodes brick.0) group) stripe).log else None

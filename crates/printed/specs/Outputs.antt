@@ -27,14 +27,14 @@ happenings_text (h ∷ happenings) = happening_text h ++ happenings_text happeni
 
 -- the line of a stripe with happenings; a stripe without has none
 abbrev pub happened_text : ℕ → ℕ → List Happening → List ℕ
-happened_text g s [] = []
-happened_text g s (h ∷ happenings) =
-    codes "happened " ++ (decimal g ++ (codes " " ++ (decimal s ++ happenings_text (h ∷ happenings))))
+happened_text group stripe [] = []
+happened_text group stripe (h ∷ happenings) =
+    codes "happened " ++ (decimal group ++ (codes " " ++ (decimal stripe ++ happenings_text (h ∷ happenings))))
 
 -- the lines of a group's stripes below a number
 abbrev pub stripes_text : World → ℕ → ℕ → List ℕ
-stripes_text w g zero = []
-stripes_text w g (suc s) = stripes_text w g s ++ happened_text g s (happenings_of w g s)
+stripes_text w group zero = []
+stripes_text w group (suc stripe) = stripes_text w group stripe ++ happened_text group stripe (happenings_of w group stripe)
 
 -- how many stripes a group has, where there is one
 abbrev pub stripes_of : Option Group → ℕ
@@ -44,7 +44,7 @@ stripes_of (Some group) = group.stripes
 -- the lines of the groups below a number
 unfoldable pub groups_text : Layout → World → ℕ → List ℕ
 groups_text layout w zero = []
-groups_text layout w (suc g) = groups_text layout w g ++ stripes_text w g (stripes_of (group_of layout g))
+groups_text layout w (suc group) = groups_text layout w group ++ stripes_text w group (stripes_of (group_of layout group))
 
 -- the most groups of a layout
 abbrev pub most_groups : ℕ

@@ -68,8 +68,8 @@ early = 2 ^ 63
 -- every time that a brick knows, or keeps in a stamp, is early
 pub record IsEarly (node : Node) : Type 0 where
   pub known : node.known < early
-  pub orders : (g e s : ℕ) → (node.replicas g e s).order.time < early
-  pub logs : (g e s k : ℕ) (version : Version) → slice_get (node.replicas g e s).log k ≡ Some version → version.stamp.time < early
+  pub orders : (group view stripe : ℕ) → (node.replicas group view stripe).order.time < early
+  pub logs : (group view stripe k : ℕ) (version : Version) → slice_get (node.replicas group view stripe).log k ≡ Some version → version.stamp.time < early
 
 -- a brick of the layout is up, serves the view of the operation, and has room for two more records, and its times are early
 pub record IsReady (setting : Setting) (w : World) (c : Coordinator) (brick : BrickId) : Type 0 where

@@ -16,7 +16,7 @@ use Rattle.protocol.specs.Worlds.{World, Operation, own_mark}
 
 -- an operation of this stripe
 abbrev pub is_of : ℕ → ℕ → Operation → Bool
-is_of g s o = nat_eq o.ask.group.0 g && nat_eq o.ask.stripe.0 s
+is_of group stripe o = nat_eq o.ask.group.0 group && nat_eq o.ask.stripe.0 stripe
 
 -- the entry of operation n, where it made or read a version
 abbrev pub entry_with : ℕ → Bool → Option Stamp → List Entry
@@ -25,13 +25,13 @@ entry_with n reader (Some t) = record { stamp = t; reader = reader; operation = 
 
 -- the entry of operation n, where it is of this stripe, and made or read a version
 abbrev pub entry_at : ℕ → ℕ → ℕ → Option Operation → List Entry
-entry_at g s n None = []
-entry_at g s n (Some o) = if is_of g s o then entry_with n (not o.made) o.version else []
+entry_at group stripe n None = []
+entry_at group stripe n (Some o) = if is_of group stripe o then entry_with n (not o.made) o.version else []
 
 -- the entries of the operations 1 to n
 abbrev pub entries_to : (ℕ → Option Operation) → ℕ → ℕ → ℕ → List Entry
-entries_to operations g s zero = []
-entries_to operations g s (suc n) = entries_to operations g s n ++ entry_at g s (suc n) (operations (suc n))
+entries_to operations group stripe zero = []
+entries_to operations group stripe (suc n) = entries_to operations group stripe n ++ entry_at group stripe (suc n) (operations (suc n))
 
 -- an operation that has marks: numbers are from 1
 abbrev pub is_marked : Operation → Bool
@@ -102,7 +102,7 @@ effect_of operations (e ∷ entries) = with_entry (operations e.operation) e (ef
 
 -- what is effective of a stripe
 abbrev pub effect_in : World → ℕ → ℕ → Effect
-effect_in w g s = effect_of w.operations (ascending (entries_to w.operations g s w.begun))
+effect_in w group stripe = effect_of w.operations (ascending (entries_to w.operations group stripe w.begun))
 
 -- an entry by the number of its operation's marks
 abbrev pub by_mark : (ℕ → Option Operation) → Entry → Entry
@@ -110,8 +110,8 @@ by_mark operations e = record e { operation = own_mark e.operation (operations e
 
 -- the walk along a stripe's effective versions, by the numbers of marks
 unfoldable pub walk_of : World → ℕ → ℕ → List Entry
-walk_of w g s = map (by_mark w.operations) (effect_in w g s).told
+walk_of w group stripe = map (by_mark w.operations) (effect_in w group stripe).told
 
 -- the happenings of a stripe
 unfoldable pub happenings_of : World → ℕ → ℕ → List Happening
-happenings_of w g s = positioned (stripe_marks g s w.marks) 0 (walk_of w g s)
+happenings_of w group stripe = positioned (stripe_marks group stripe w.marks) 0 (walk_of w group stripe)

@@ -49,26 +49,26 @@ first_node layout =
       busy = 0;
       live = 0;
       learnt = first_learnt layout;
-      accepted = λ g. false;
-      replicas = λ g e s. fresh_replica layout.block e;
+      accepted = λ group. false;
+      replicas = λ group view stripe. fresh_replica layout.block view;
       calls = λ k. None;
     }
 
 -- the number of the view that a brick has learnt of a group
 abbrev pub view_at : Node → ℕ → ℕ
-view_at node g = (node.learnt g).view.number.0
+view_at node group = (node.learnt group).view.number.0
 
 -- a group, with the members of the view that a brick has learnt of it
 abbrev pub group_at : Layout → Node → ℕ → Option Group
-group_at layout node g = group_kept layout (node.learnt g).view.members g
+group_at layout node group = group_kept layout (node.learnt group).view.members group
 
 -- what a brick has learnt of a group's views and accepted puts it above all stamps of the views before
 abbrev pub view_floor : Node → ℕ → Stamp
-view_floor node g = floor_of (if node.accepted g then view_at node g + 1 else view_at node g)
+view_floor node group = floor_of (if node.accepted group then view_at node group + 1 else view_at node group)
 
 -- the stamp below which a brick takes nothing for a stripe, over all views
 unfoldable pub top_at : Node → ℕ → ℕ → Stamp
-top_at node g s = stamp_max (view_floor node g) (top_of (node.replicas g (view_at node g) s))
+top_at node group stripe = stamp_max (view_floor node group) (top_of (node.replicas group (view_at node group) stripe))
 
 -- What a step leaves, the packets that it sends, what it tells of operations' versions, and the answers that it gives, each in order.
 pub record NodeStep : Type 0 where

@@ -26,7 +26,7 @@ first_replica block = record { order = first_stamp; log = record { stamp = first
 
 -- what a stripe begins with in a view: nothing, but in view 1
 abbrev pub fresh_replica : ℕ → ℕ → Replica
-fresh_replica block e = if nat_eq e 1 then first_replica block else record { order = first_stamp; log = []; from_start = false }
+fresh_replica block view = if nat_eq view 1 then first_replica block else record { order = first_stamp; log = []; from_start = false }
 
 -- the last version of a log
 abbrev pub newest_of : List Version → Option Version

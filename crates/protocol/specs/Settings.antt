@@ -58,8 +58,8 @@ pub record Setting : Type 0 where
 -- as a block; and the zero content has zero blocks.
 pub record IsSound (setting : Setting) : Type 0 where
   pub positive : 1 ≤ setting.layout.block
-  pub limits : (g : ℕ) (group : Group) → group_of setting.layout g ≡ Some group → IsWithinLimits group.m (length group.members)
-  pub distinct : (g : ℕ) (group : Group) → group_of setting.layout g ≡ Some group → IsDistinct nat_eq (map (λ member. member.0) group.members)
+  pub limits : (number : ℕ) (group : Group) → group_of setting.layout number ≡ Some group → IsWithinLimits group.m (length group.members)
+  pub distinct : (number : ℕ) (group : Group) → group_of setting.layout number ≡ Some group → IsDistinct nat_eq (map (λ member. member.0) group.members)
   pub decodes : (m n : ℕ) → IsWithinLimits m n → AnyBlocksDecode setting.code setting.layout.block m n
   pub keeps : (m n : ℕ) → IsWithinLimits m n → KeepsDataBlocks setting.code setting.layout.block m
   pub modifies : (m n : ℕ) → IsWithinLimits m n → ModifiesBlocks setting.code setting.layout.block m n

@@ -19,15 +19,15 @@ members_of None = []
 members_of (Some group) = group.members
 
 abbrev pub layout_views : Layout → Views
-layout_views layout g e = members_of (group_of layout g)
+layout_views layout group view = members_of (group_of layout group)
 
 -- the view that a stamp is of: the first stamp counts as one of view 1
 abbrev pub view_of : Stamp → ℕ
-view_of t = max t.view.0 1
+view_of stamp = max stamp.view.0 1
 
 -- the stamp that is below all that are made in a view, and above all of the views before it; in view 1, which has none before it, the first stamp
 abbrev pub floor_of : ℕ → Stamp
-floor_of e = if nat_lt 1 e then record { view = record { 0 = e }; time = 0; brick = record { 0 = 0 }; boot = 0 } else first_stamp
+floor_of view = if nat_lt 1 view then record { view = record { 0 = view }; time = 0; brick = record { 0 = 0 }; boot = 0 } else first_stamp
 
 -- a view of a group that a brick has learnt, and whether all its stripes are known to be kept in it
 pub record Learnt : Type 0 where
@@ -36,8 +36,8 @@ pub record Learnt : Type 0 where
 
 -- what a brick has learnt of a group at first: view 1, with the layout's members and none before them
 abbrev pub first_learnt : Layout → ℕ → Learnt
-first_learnt layout g =
-    record { view = record { number = record { 0 = 1 }; members = members_of (group_of layout g); prior = [] }; synced = true }
+first_learnt layout group =
+    record { view = record { number = record { 0 = 1 }; members = members_of (group_of layout group); prior = [] }; synced = true }
 
 -- a group that these members keep
 abbrev pub kept_by : List BrickId → Group → Group
@@ -45,21 +45,21 @@ kept_by members group = record { members = members; m = group.m; stripes = group
 
 -- the group of a number, as these members keep it
 abbrev pub group_kept : Layout → List BrickId → ℕ → Option Group
-group_kept layout members g = option_map (kept_by members) (group_of layout g)
+group_kept layout members group = option_map (kept_by members) (group_of layout group)
 
 -- the group of a number in a view
 abbrev pub group_in : Layout → Views → ℕ → ℕ → Option Group
-group_in layout views g e = group_kept layout (views g e) g
+group_in layout views group view = group_kept layout (views group view) group
 
--- what a message names as view e of group g, if it teaches that
+-- what a message names as this view of this group, if it teaches that
 abbrev pub learn_in : ℕ → ℕ → Message → Option View
-learn_in g e (Message.Learn group view) = if nat_eq group.0 g && nat_eq view.number.0 e then Some view else None
-learn_in g e message = None
+learn_in group view (Message.Learn named taught) = if nat_eq named.0 group && nat_eq taught.number.0 view then Some taught else None
+learn_in group view message = None
 
 -- what the first of these messages names that teaches it
 abbrev pub first_learn : ℕ → ℕ → List Packet → Option View
-first_learn g e [] = None
-first_learn g e (packet ∷ packets) = either_view (learn_in g e packet.message) (first_learn g e packets)
+first_learn group view [] = None
+first_learn group view (packet ∷ packets) = either_view (learn_in group view packet.message) (first_learn group view packets)
   where
     either_view : Option View → Option View → Option View
     either_view None later = later
@@ -67,5 +67,5 @@ first_learn g e (packet ∷ packets) = either_view (learn_in g e packet.message)
 
 -- the members that a group has in a view: in a later view than 1 those that the first of these messages names that teaches it, else the layout's
 abbrev pub views_in : Layout → List Packet → Views
-views_in layout packets g e =
-    if nat_lt 1 e then unwrap_or (option_map (λ (view : View). view.members) (first_learn g e packets)) (layout_views layout g e) else layout_views layout g e
+views_in layout packets group view =
+    if nat_lt 1 view then unwrap_or (option_map (λ (named : View). named.members) (first_learn group view packets)) (layout_views layout group view) else layout_views layout group view

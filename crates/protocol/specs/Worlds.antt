@@ -102,8 +102,8 @@ first_world layout =
       operations = λ n. None;
       numbers = λ i b k. 0;
       past = λ i b. 0;
-      contents = λ g s t. zero_content layout.block (group_of layout g);
-      held = λ i g s t. is_held t (fresh_replica layout.block (view_of t)).log;
+      contents = λ group stripe t. zero_content layout.block (group_of layout group);
+      held = λ i group stripe t. is_held t (fresh_replica layout.block (view_of t)).log;
       replies = λ n p. [];
       reached = λ k. false;
     }
@@ -190,7 +190,7 @@ with_content block contents t base (Some o) = content_by block contents t base o
 
 -- what bricks have held, with what brick i keeps now
 abbrev pub with_held : (ℕ → ℕ → ℕ → Stamp → Bool) → ℕ → Node → ℕ → ℕ → ℕ → Stamp → Bool
-with_held held i node = put held i (λ g s t. held i g s t || is_held t (node.replicas g (view_of t) s).log)
+with_held held i node = put held i (λ group stripe t. held i group stripe t || is_held t (node.replicas group (view_of t) stripe).log)
 
 -- the number of the operation of a brick's call since it was started last
 abbrev pub number_of : World → ℕ → ℕ → ℕ

@@ -41,29 +41,29 @@ WasSent w packet = (k : ℕ) × (slice_get w.packets k ≡ Some packet)
 
 -- a brick's part of a stripe in a view
 abbrev pub part_in : World → ℕ → ℕ → ℕ → ℕ → Replica
-part_in w g e s i = (w.nodes i).replicas g e s
+part_in w group view stripe brick = (w.nodes brick).replicas group view stripe
 
 -- the stamp below which a brick takes nothing for a stripe
 abbrev pub top_in : World → ℕ → ℕ → ℕ → Stamp
-top_in w g s i = top_at (w.nodes i) g s
+top_in w group stripe brick = top_at (w.nodes brick) group stripe
 
 -- a test holds at a quorum of the group's seats
 abbrev pub AtQuorum : Group → (ℕ → Bool) → Type 0
 AtQuorum group test = quorum_of group ≤ count (length group.members) test
 
--- a quorum of the group's members takes nothing below t for the stripe
+-- a quorum of the group's members takes nothing below this stamp for the stripe
 abbrev pub IsGuarded : World → ℕ → ℕ → Group → Stamp → Type 0
-IsGuarded w g s group t = AtQuorum group (λ seat. not (stamp_below (top_in w g s (brick_at group seat)) t))
+IsGuarded w number stripe group stamp = AtQuorum group (λ seat. not (stamp_below (top_in w number stripe (brick_at group seat)) stamp))
 
 -- A world follows an assignment of members to views: each of its lists is within the limits of its group's m, and distinct; what a brick has
 -- learnt as its view is the assignment's, and so are the members of the view before that; and where a brick has learnt a view, a quorum of each view before that takes nothing below the next.
 pub record Follows (layout : Layout) (views : Views) (w : World) : Type 0 where
-  pub limits : (g e : ℕ) (group : Group) → group_in layout views g e ≡ Some group → IsWithinLimits group.m (length group.members)
-  pub distinct : (g e : ℕ) (group : Group) → group_in layout views g e ≡ Some group → IsDistinct nat_eq (map (λ member. member.0) group.members)
-  pub learnt : (i g : ℕ) → ((w.nodes i).learnt g).view.members ≡ views g (view_at (w.nodes i) g)
-  pub prior : (i g : ℕ) → 1 < view_at (w.nodes i) g → ((w.nodes i).learnt g).view.prior ≡ views g (view_at (w.nodes i) g - 1)
-  pub passed : (i g e s : ℕ) (group : Group) → 1 ≤ e → e < view_at (w.nodes i) g → group_in layout views g e ≡ Some group
-      → IsGuarded w g s group (floor_of (e + 1))
+  pub limits : (number view : ℕ) (group : Group) → group_in layout views number view ≡ Some group → IsWithinLimits group.m (length group.members)
+  pub distinct : (number view : ℕ) (group : Group) → group_in layout views number view ≡ Some group → IsDistinct nat_eq (map (λ member. member.0) group.members)
+  pub learnt : (brick number : ℕ) → ((w.nodes brick).learnt number).view.members ≡ views number (view_at (w.nodes brick) number)
+  pub prior : (brick number : ℕ) → 1 < view_at (w.nodes brick) number → ((w.nodes brick).learnt number).view.prior ≡ views number (view_at (w.nodes brick) number - 1)
+  pub passed : (brick number view stripe : ℕ) (group : Group) → 1 ≤ view → view < view_at (w.nodes brick) number → group_in layout views number view ≡ Some group
+      → IsGuarded w number stripe group (floor_of (view + 1))
 
 -- a run follows an assignment where each world on its way does
 abbrev pub RunFollows : Setting → Views → List Event → Type 0
@@ -82,154 +82,154 @@ RequestSent w call from to request = WasSent w (record { from = from; to = to; m
 
 -- the stamp under which a request has its member store
 abbrev pub stamp_stored : Request → Option Stamp
-stamp_stored (Request.Write t block) = Some t
-stamp_stored (Request.Modify t base j delta) = Some t
+stamp_stored (Request.Write stamp block) = Some stamp
+stamp_stored (Request.Modify stamp base j delta) = Some stamp
 stamp_stored request = None
 
 -- the stamp at which a request asks its member: to promise it, or to store under it
 abbrev pub stamp_asked : Request → Option Stamp
-stamp_asked (Request.Order t) = Some t
-stamp_asked (Request.OrderRead t look want) = Some t
-stamp_asked (Request.Write t block) = Some t
-stamp_asked (Request.Modify t base j delta) = Some t
+stamp_asked (Request.Order stamp) = Some stamp
+stamp_asked (Request.OrderRead stamp look want) = Some stamp
+stamp_asked (Request.Write stamp block) = Some stamp
+stamp_asked (Request.Modify stamp base j delta) = Some stamp
 stamp_asked request = None
 
 -- what a version modifies of its base: data block j, by this, and no other data block
-pub record IsModified (setting : Setting) (w : World) (g s : ℕ) (t base : Stamp) (j : ℕ) (delta : List ℕ) : Type 0 where
-  pub delta_is : delta ≡ setting.code.delta (block_of setting.layout.block j (w.contents g s base)) (block_of setting.layout.block j (w.contents g s t))
-  pub others : w.contents g s t ≡ with_block setting.layout.block j (block_of setting.layout.block j (w.contents g s t)) (w.contents g s base)
+pub record IsModified (setting : Setting) (w : World) (group stripe : ℕ) (version base : Stamp) (j : ℕ) (delta : List ℕ) : Type 0 where
+  pub delta_is : delta ≡ setting.code.delta (block_of setting.layout.block j (w.contents group stripe base)) (block_of setting.layout.block j (w.contents group stripe version))
+  pub others : w.contents group stripe version ≡ with_block setting.layout.block j (block_of setting.layout.block j (w.contents group stripe version)) (w.contents group stripe base)
 
--- One stamp has one content: each block of version t that was sent, or was found, or is kept is its seat's
--- block of the content of t, the seat being one of the view of the message, or of the part; but one that was found and not wanted is empty. What a
--- member is sent to modify a base by is what data block j changes by from the base's content to that of t, where that changes its seat's block, and
+-- One stamp has one content: each block of a version that was sent, or was found, or is kept is its seat's
+-- block of the version's content, the seat being one of the view of the message, or of the part; but one that was found and not wanted is empty. What a
+-- member is sent to modify a base by is what data block j changes by from the base's content to the version's, where that changes its seat's block, and
 -- else nothing; all other data blocks are the base's.
 pub record OneContent (setting : Setting) (views : Views) (w : World) : Type 0 where
-  pub sent : (call : Call) (from to : BrickId) (t : Stamp) (block : List ℕ) (group : Group)
-      → group_in setting.layout views call.group.0 call.view.0 ≡ Some group → RequestSent w call from to (Request.Write t block)
+  pub sent : (call : Call) (from to : BrickId) (stamp : Stamp) (block : List ℕ) (group : Group)
+      → group_in setting.layout views call.group.0 call.view.0 ≡ Some group → RequestSent w call from to (Request.Write stamp block)
       → (seat : ℕ) × (seat < length group.members) × (brick_at group seat ≡ to.0)
-      × (block ≡ setting.code.encode group.m (w.contents call.group.0 call.stripe.0 t) seat)
-  pub changed : (call : Call) (from to : BrickId) (t base : Stamp) (j : ℕ) (sent : List ℕ) (group : Group)
-      → group_in setting.layout views call.group.0 call.view.0 ≡ Some group → RequestSent w call from to (Request.Modify t base j sent)
+      × (block ≡ setting.code.encode group.m (w.contents call.group.0 call.stripe.0 stamp) seat)
+  pub changed : (call : Call) (from to : BrickId) (stamp base : Stamp) (j : ℕ) (sent : List ℕ) (group : Group)
+      → group_in setting.layout views call.group.0 call.view.0 ≡ Some group → RequestSent w call from to (Request.Modify stamp base j sent)
       → (seat : ℕ) × (seat < length group.members) × (brick_at group seat ≡ to.0)
-      × ((delta : List ℕ) × (sent ≡ delta_at group.m j seat delta) × IsModified setting w call.group.0 call.stripe.0 t base j delta)
+      × ((delta : List ℕ) × (sent ≡ delta_at group.m j seat delta) × IsModified setting w call.group.0 call.stripe.0 stamp base j delta)
   pub found : (call : Call) (from to : BrickId) (seat : ℕ) (reply : Reply) (version : Version) (group : Group)
       → group_in setting.layout views call.group.0 call.view.0 ≡ Some group → seat_in group.members from.0 ≡ Some seat
       → WasSent w (record { from = from; to = to; message = Message.Reply call reply }) → told_in reply ≡ Some version
       → (version.block ≡ []) ⊎ (version.block ≡ setting.code.encode group.m (w.contents call.group.0 call.stripe.0 version.stamp) seat)
-  pub kept : (g e s i seat k : ℕ) (version : Version) (group : Group) → group_in setting.layout views g e ≡ Some group
-      → seat_in group.members i ≡ Some seat → slice_get (part_in w g e s i).log k ≡ Some version
-      → version.block ≡ setting.code.encode group.m (w.contents g s version.stamp) seat
+  pub kept : (number view stripe brick seat k : ℕ) (version : Version) (group : Group) → group_in setting.layout views number view ≡ Some group
+      → seat_in group.members brick ≡ Some seat → slice_get (part_in w number view stripe brick).log k ≡ Some version
+      → version.block ≡ setting.code.encode group.m (w.contents number stripe version.stamp) seat
 
--- At so many seats that with a quorum they are more than all, the brick takes nothing at or below version d, and d
--- was never held: no quorum has held d, or ever will.
+-- At so many seats that with a quorum they are more than all, the brick takes nothing at or below the version, which
+-- was never held there: no quorum has held it, or ever will.
 abbrev pub IsBlocked : World → ℕ → ℕ → Group → Stamp → Type 0
-IsBlocked w g s group d =
+IsBlocked w number stripe group version =
     length group.members < quorum_of group
-    + count (length group.members) (λ seat. stamp_below d (top_in w g s (brick_at group seat)) && not (w.held (brick_at group seat) g s d))
+    + count (length group.members) (λ seat. stamp_below version (top_in w number stripe (brick_at group seat)) && not (w.held (brick_at group seat) number stripe version))
 
 -- the content of each version is what its maker makes of its base's
 abbrev pub ContentsAreMade : Setting → World → Type 0
 ContentsAreMade setting w =
-    (n : ℕ) (o : Operation) (t : Stamp) → w.operations n ≡ Some o → o.made ≡ true → o.version ≡ Some t
-    → w.contents o.ask.group.0 o.ask.stripe.0 t ≡ content_on setting.layout.block (w.contents o.ask.group.0 o.ask.stripe.0) o.ask.op o.base
+    (n : ℕ) (o : Operation) (version : Stamp) → w.operations n ≡ Some o → o.made ≡ true → o.version ≡ Some version
+    → w.contents o.ask.group.0 o.ask.stripe.0 version ≡ content_on setting.layout.block (w.contents o.ask.group.0 o.ask.stripe.0) o.ask.op o.base
 
 -- An operation that made a version on a base writes no stripe whole; the base is below the version; and no quorum of its view has held a
 -- version between the two, or ever will.
 abbrev pub BasesAreNewest : Setting → Views → World → Type 0
 BasesAreNewest setting views w =
-    (n : ℕ) (o : Operation) (t b : Stamp) → w.operations n ≡ Some o → o.made ≡ true → o.version ≡ Some t → o.base ≡ Some b
+    (n : ℕ) (o : Operation) (version base : Stamp) → w.operations n ≡ Some o → o.made ≡ true → o.version ≡ Some version → o.base ≡ Some base
     → ((bytes : List ℕ) → o.ask.op ≡ WriteStripe bytes → ⊥)
-    × (stamp_below b t ≡ true)
-    × ((d : Stamp) (group : Group) → group_in setting.layout views o.ask.group.0 (view_of d) ≡ Some group
-    → stamp_below b d ≡ true → stamp_below d t ≡ true → IsBlocked w o.ask.group.0 o.ask.stripe.0 group d)
+    × (stamp_below base version ≡ true)
+    × ((between : Stamp) (group : Group) → group_in setting.layout views o.ask.group.0 (view_of between) ≡ Some group
+    → stamp_below base between ≡ true → stamp_below between version ≡ true → IsBlocked w o.ask.group.0 o.ask.stripe.0 group between)
 
--- an operation of the stripe made this version: it is a stripe write, which has no base, or its base is u
+-- an operation of the stripe made this version: it is a stripe write, which has no base, or it has this base
 abbrev pub WasMadeOn : World → ℕ → ℕ → Stamp → Stamp → Type 0
-WasMadeOn w g s u t =
-    (n : ℕ) × (o : Operation) × (w.operations n ≡ Some o) × (is_of g s o ≡ true) × (o.made ≡ true) × (o.version ≡ Some t)
-    × (((bytes : List ℕ) × (o.ask.op ≡ WriteStripe bytes)) ⊎ (o.base ≡ Some u))
+WasMadeOn w group stripe base version =
+    (n : ℕ) × (o : Operation) × (w.operations n ≡ Some o) × (is_of group stripe o ≡ true) × (o.made ≡ true) × (o.version ≡ Some version)
+    × (((bytes : List ℕ) × (o.ask.op ≡ WriteStripe bytes)) ⊎ (o.base ≡ Some base))
 
 -- of two neighbours among the effective versions, the upper was written whole, or was made on the lower
 abbrev pub NeighboursFollow : World → ℕ → ℕ → Type 0
-NeighboursFollow w g s =
-    (k : ℕ) (u t : Stamp) → slice_get (effect_in w g s).versions k ≡ Some u → slice_get (effect_in w g s).versions (k + 1) ≡ Some t
-    → (u ≡ t) ⊎ WasMadeOn w g s u t
+NeighboursFollow w group stripe =
+    (k : ℕ) (lower upper : Stamp) → slice_get (effect_in w group stripe).versions k ≡ Some lower → slice_get (effect_in w group stripe).versions (k + 1) ≡ Some upper
+    → (lower ≡ upper) ⊎ WasMadeOn w group stripe lower upper
 
 -- the lowest of the effective versions is the first one, or was written whole, or was made on the first one
 abbrev pub LowestFollows : World → ℕ → ℕ → Type 0
-LowestFollows w g s = (t : Stamp) → slice_get (effect_in w g s).versions 0 ≡ Some t → (t ≡ first_stamp) ⊎ WasMadeOn w g s first_stamp t
+LowestFollows w group stripe = (version : Stamp) → slice_get (effect_in w group stripe).versions 0 ≡ Some version → (version ≡ first_stamp) ⊎ WasMadeOn w group stripe first_stamp version
 
 -- the content of the first version is zero
 abbrev pub FirstIsZero : Setting → World → Type 0
 FirstIsZero setting w =
-    (g s : ℕ) (group : Group) → group_of setting.layout g ≡ Some group → w.contents g s first_stamp ≡ zero_registers group.m setting.layout.block
+    (number stripe : ℕ) (group : Group) → group_of setting.layout number ≡ Some group → w.contents number stripe first_stamp ≡ zero_registers group.m setting.layout.block
 
--- Before a request to store version t was sent, a quorum of the view of t took nothing below t, and has so ever since.
+-- Before a request to store a version was sent, a quorum of its view took nothing below it, and has so ever since.
 abbrev pub WritesAreGuarded : Setting → Views → World → Type 0
 WritesAreGuarded setting views w =
-    (call : Call) (from to : BrickId) (request : Request) (t : Stamp) (group : Group)
-    → group_in setting.layout views call.group.0 (view_of t) ≡ Some group → RequestSent w call from to request → stamp_stored request ≡ Some t
-    → IsGuarded w call.group.0 call.stripe.0 group t
+    (call : Call) (from to : BrickId) (request : Request) (version : Stamp) (group : Group)
+    → group_in setting.layout views call.group.0 (view_of version) ≡ Some group → RequestSent w call from to request → stamp_stored request ≡ Some version
+    → IsGuarded w call.group.0 call.stripe.0 group version
 
--- a quorum of the group has held version v of the stripe
+-- a quorum of the group has held this version of the stripe
 abbrev pub IsHeldByQuorum : World → ℕ → ℕ → Group → Stamp → Type 0
-IsHeldByQuorum w g s group v = AtQuorum group (λ seat. w.held (brick_at group seat) g s v)
+IsHeldByQuorum w number stripe group version = AtQuorum group (λ seat. w.held (brick_at group seat) number stripe version)
 
--- A member was sent word to drop what is below version c only after a quorum of the view of c had held that.
+-- A member was sent word to drop what is below a version only after a quorum of its view had held that.
 abbrev pub CollectsStand : Setting → Views → World → Type 0
 CollectsStand setting views w =
-    (call : Call) (from to : BrickId) (c : Stamp) (group : Group) → group_in setting.layout views call.group.0 (view_of c) ≡ Some group
-    → RequestSent w call from to (Request.Collect c) → IsHeldByQuorum w call.group.0 call.stripe.0 group c
+    (call : Call) (from to : BrickId) (version : Stamp) (group : Group) → group_in setting.layout views call.group.0 (view_of version) ≡ Some group
+    → RequestSent w call from to (Request.Collect version) → IsHeldByQuorum w call.group.0 call.stripe.0 group version
 
 -- A version that a member has held it keeps, or it keeps a later one that a quorum of that one's view has held.
 abbrev pub DropsOnlyOlder : Setting → Views → World → Type 0
 DropsOnlyOlder setting views w =
-    (g s i : ℕ) (t : Stamp) → w.held i g s t ≡ true
-    → (is_held t (part_in w g (view_of t) s i).log ≡ true)
-    ⊎ ((c : Stamp) × (is_held c (part_in w g (view_of t) s i).log ≡ true) × (stamp_below t c ≡ true)
-    × ((group : Group) → group_in setting.layout views g (view_of c) ≡ Some group → IsHeldByQuorum w g s group c))
+    (number stripe brick : ℕ) (version : Stamp) → w.held brick number stripe version ≡ true
+    → (is_held version (part_in w number (view_of version) stripe brick).log ≡ true)
+    ⊎ ((later : Stamp) × (is_held later (part_in w number (view_of version) stripe brick).log ≡ true) × (stamp_below version later ≡ true)
+    × ((group : Group) → group_in setting.layout views number (view_of later) ≡ Some group → IsHeldByQuorum w number stripe group later))
 
 -- no step lowers the stamp below which a brick takes nothing
 abbrev pub NeverFalls : World → World → Type 0
-NeverFalls old new = (g s i : ℕ) → stamp_below (top_in new g s i) (top_in old g s i) ≡ false
+NeverFalls old new = (group stripe brick : ℕ) → stamp_below (top_in new group stripe brick) (top_in old group stripe brick) ≡ false
 
 -- no brick adds a version to a log below the stamp below which it takes nothing
 abbrev pub AddsNothingBelow : World → World → Type 0
 AddsNothingBelow old new =
-    (g e s i : ℕ) (t : Stamp) → is_held t (part_in new g e s i).log ≡ true
-    → (is_held t (part_in old g e s i).log ≡ true) ⊎ (stamp_below t (top_in old g s i) ≡ false)
+    (group view stripe brick : ℕ) (version : Stamp) → is_held version (part_in new group view stripe brick).log ≡ true
+    → (is_held version (part_in old group view stripe brick).log ≡ true) ⊎ (stamp_below version (top_in old group stripe brick) ≡ false)
 
 -- no order stamp is replaced by one of an earlier time
 abbrev pub OrdersRise : World → World → Type 0
-OrdersRise old new = (g e s i : ℕ) → (part_in old g e s i).order.time ≤ (part_in new g e s i).order.time
+OrdersRise old new = (group view stripe brick : ℕ) → (part_in old group view stripe brick).order.time ≤ (part_in new group view stripe brick).order.time
 
 -- a member says that it stored a version only where it was asked to, and has held it
 abbrev pub StoredIsHeld : World → Type 0
 StoredIsHeld w =
     (call : Call) (from to : BrickId) → WasSent w (record { from = from; to = to; message = Message.Reply call Reply.Stored })
-    → (t : Stamp) × (request : Request) × RequestSent w call to from request × (stamp_stored request ≡ Some t)
-    × (w.held from.0 call.group.0 call.stripe.0 t ≡ true)
+    → (version : Stamp) × (request : Request) × RequestSent w call to from request × (stamp_stored request ≡ Some version)
+    × (w.held from.0 call.group.0 call.stripe.0 version ≡ true)
 
 -- Versions follow real time: where one operation of a stripe ended before another began, its version is below
 -- the other's, or it is the version that the other read.
 abbrev pub FollowsRealTime : World → ℕ → ℕ → Type 0
-FollowsRealTime w g s =
-    (a b : ℕ) (earlier later : Operation) (u v : Stamp) → w.operations a ≡ Some earlier → w.operations b ≡ Some later
-    → is_of g s earlier ≡ true → is_of g s later ≡ true → earlier.version ≡ Some u → later.version ≡ Some v
+FollowsRealTime w group stripe =
+    (a b : ℕ) (earlier later : Operation) (version next : Stamp) → w.operations a ≡ Some earlier → w.operations b ≡ Some later
+    → is_of group stripe earlier ≡ true → is_of group stripe later ≡ true → earlier.version ≡ Some version → later.version ≡ Some next
     → last_of (life_of w.marks earlier.mark) < later.begin
-    → (stamp_below u v ≡ true) ⊎ ((u ≡ v) × (later.made ≡ false))
+    → (stamp_below version next ≡ true) ⊎ ((version ≡ next) × (later.made ≡ false))
 
 -- how an operation orders its stamp: the write of a stripe by the order alone, that of a block by one that tells the newest version below, with the
 -- block at its seat, and the recovery of a read by one that tells that version with all blocks
 abbrev pub order_of : Op → Stamp → Request
-order_of (ReadBlock j) t = Request.OrderRead t (Look.Below t) Want.All
-order_of (WriteBlock j bytes) t = Request.OrderRead t (Look.Below t) (Want.Seat j)
-order_of ReadStripe t = Request.OrderRead t (Look.Below t) Want.All
-order_of (WriteStripe bytes) t = Request.Order t
+order_of (ReadBlock j) stamp = Request.OrderRead stamp (Look.Below stamp) Want.All
+order_of (WriteBlock j bytes) stamp = Request.OrderRead stamp (Look.Below stamp) (Want.Seat j)
+order_of ReadStripe stamp = Request.OrderRead stamp (Look.Below stamp) Want.All
+order_of (WriteStripe bytes) stamp = Request.Order stamp
 
--- a brick was asked at stamp t
+-- a brick was asked at this stamp
 abbrev pub AskedAt : World → Call → BrickId → BrickId → Stamp → Type 0
-AskedAt w call from to t = (request : Request) × RequestSent w call from to request × (stamp_asked request ≡ Some t)
+AskedAt w call from to stamp = (request : Request) × RequestSent w call from to request × (stamp_asked request ≡ Some stamp)
 
 -- a message's call is the operation's
 abbrev pub IsCallOf : Call → Operation → Type 0
@@ -305,13 +305,13 @@ pub record Sending (setting : Setting) (w : World) (k : ℕ) : Type 0 where
   pub unsent : length moment.packets ≤ k
   pub sent : k < length (happens setting moment event).packets
 
--- Each request to store version t was sent at a moment when a quorum of the view of t took nothing below t, and the operation of its call had not ended.
+-- Each request to store a version was sent at a moment when a quorum of its view took nothing below it, and the operation of its call had not ended.
 abbrev pub WritesWereGuarded : Setting → Views → World → Type 0
 WritesWereGuarded setting views w =
-    (k : ℕ) (call : Call) (from to : BrickId) (request : Request) (t : Stamp) (group : Group)
-    → slice_get w.packets k ≡ Some (record { from = from; to = to; message = Message.Request call request }) → stamp_stored request ≡ Some t
-    → group_in setting.layout views call.group.0 (view_of t) ≡ Some group
-    → (sending : Sending setting w k) × IsGuarded sending.moment call.group.0 call.stripe.0 group t
+    (k : ℕ) (call : Call) (from to : BrickId) (request : Request) (version : Stamp) (group : Group)
+    → slice_get w.packets k ≡ Some (record { from = from; to = to; message = Message.Request call request }) → stamp_stored request ≡ Some version
+    → group_in setting.layout views call.group.0 (view_of version) ≡ Some group
+    → (sending : Sending setting w k) × IsGuarded sending.moment call.group.0 call.stripe.0 group version
     × IsOpen (life_of sending.moment.marks (mark_of sending.moment (sending.moment.numbers from.0 call.boot call.seq)))
 
 -- each refusal was true of the member that told it when it was sent
@@ -355,9 +355,9 @@ pub record Laws (setting : Setting) (views : Views) (w : World) : Type 0 where
   pub drops : DropsOnlyOlder setting views w
   pub bases : BasesAreNewest setting views w
   pub bases_found : BasesAreFound setting w
-  pub neighbours : (g s : ℕ) → NeighboursFollow w g s
-  pub lowest : (g s : ℕ) → LowestFollows w g s
-  pub real_time : (g s : ℕ) → FollowsRealTime w g s
+  pub neighbours : (number stripe : ℕ) → NeighboursFollow w number stripe
+  pub lowest : (number stripe : ℕ) → LowestFollows w number stripe
+  pub real_time : (number stripe : ℕ) → FollowsRealTime w number stripe
   pub counted : CountedWereSent w
   pub aborts : AbortsShow w
   pub refusals : RefusalsWereTrue setting w
@@ -365,28 +365,28 @@ pub record Laws (setting : Setting) (views : Views) (w : World) : Type 0 where
   pub well_formed : IsWellFormed w.marks
   pub without_gaps : AreWithoutGaps w.marks
   pub words : WordsFit setting.layout w.marks
-  pub stripe_well_formed : (g s : ℕ) → IsWellFormed (stripe_marks g s w.marks)
-  pub strict : (g s : ℕ) (group : Group) → group_of setting.layout g ≡ Some group
-      → IsStrict group.m setting.layout.block (stripe_marks g s w.marks) (happenings_of w g s)
+  pub stripe_well_formed : (number stripe : ℕ) → IsWellFormed (stripe_marks number stripe w.marks)
+  pub strict : (number stripe : ℕ) (group : Group) → group_of setting.layout number ≡ Some group
+      → IsStrict group.m setting.layout.block (stripe_marks number stripe w.marks) (happenings_of w number stripe)
 
--- Version v of the stripe is lost: a quorum of the group's members takes nothing below a stamp that is above v, and fewer than m of these have
--- held v.
-pub record IsLost (w : World) (g s : ℕ) (group : Group) (v : Stamp) : Type 0 where
+-- A version of the stripe is lost: a quorum of the group's members takes nothing below a stamp that is above it, and fewer than m of these have
+-- held it.
+pub record IsLost (w : World) (number stripe : ℕ) (group : Group) (version : Stamp) : Type 0 where
   pub seats : ℕ → Bool
   pub stamp : Stamp
   pub quorum : AtQuorum group seats
-  pub passed : (seat : ℕ) → seats seat ≡ true → stamp_below (top_in w g s (brick_at group seat)) stamp ≡ false
-  pub above : stamp_below v stamp ≡ true
-  pub few : count (length group.members) (λ seat. seats seat && w.held (brick_at group seat) g s v) < group.m
+  pub passed : (seat : ℕ) → seats seat ≡ true → stamp_below (top_in w number stripe (brick_at group seat)) stamp ≡ false
+  pub above : stamp_below version stamp ≡ true
+  pub few : count (length group.members) (λ seat. seats seat && w.held (brick_at group seat) number stripe version) < group.m
 
 -- Whatever happens after a version was lost to its view's members, no quorum of them will ever have held it: for every assignment of members to
 -- views that the whole run follows.
 abbrev pub NeverSurfaces : Type 0
 NeverSurfaces =
-    (setting : Setting) (views : Views) (events more : List Event) (g s : ℕ) (group : Group) (v : Stamp) → IsSound setting
-    → RunFollows setting views (events ++ more) → group_in setting.layout views g (view_of v) ≡ Some group
+    (setting : Setting) (views : Views) (events more : List Event) (number stripe : ℕ) (group : Group) (version : Stamp) → IsSound setting
+    → RunFollows setting views (events ++ more) → group_in setting.layout views number (view_of version) ≡ Some group
     → (let w = run setting events (first_world setting.layout) in
-    IsLost w g s group v → IsHeldByQuorum (run setting more w) g s group v → ⊥)
+    IsLost w number stripe group version → IsHeldByQuorum (run setting more w) number stripe group version → ⊥)
 
 -- the laws hold in every world that a run reaches, for every layout within the limits, every code that gives back what it encodes, and every
 -- assignment of members to views that the run follows
