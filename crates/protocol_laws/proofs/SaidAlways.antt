@@ -94,24 +94,6 @@ module _ (setting : Setting) (views : Views) (w : World) (stamps : Stamping) (me
       said_after_request setting views w stamps me from call request books stamped group seat group_is seat_is view free said sent reaction []
       (handle_after setting.code group.m seat full (replica_at (w.nodes me.0) call) request) (λ k packet at. cc)
 
--- a request is delivered
-request_said : (setting : Setting) (views : Views) (w : World) (stamps : Stamping) (me from : BrickId) (call : Call) (request : Request) → Books setting w → StampViews setting.layout w
-    → Follows setting.layout views w → Said setting views w stamps → WasSent w (record { from = from; to = me; message = Message.Request call request })
-    → Said setting views (stepped setting w me (requested setting me from (w.nodes me.0) call request)) stamps
-request_said setting views w stamps me from call request books stamped follows said sent =
-    request_each (λ step. Said setting views (stepped setting w me step) stamps) setting me from (w.nodes me.0) call request
-    (nothing_said setting views w stamps me books said)
-    (handled_said setting views w stamps me from call request books stamped follows said sent)
-
--- a request is handled, and its reply is lost
-request_kept : (setting : Setting) (views : Views) (w : World) (stamps : Stamping) (me from : BrickId) (call : Call) (request : Request) → Books setting w → StampViews setting.layout w
-    → Follows setting.layout views w → Said setting views w stamps → WasSent w (record { from = from; to = me; message = Message.Request call request })
-    → Said setting views (quiet w me (requested setting me from (w.nodes me.0) call request).node []) stamps
-request_kept setting views w stamps me from call request books stamped follows said sent =
-    request_each (λ step. Said setting views (quiet w me step.node []) stamps) setting me from (w.nodes me.0) call request
-    (nothing_said setting views w stamps me books said)
-    (kept_said setting views w stamps me from call request books stamped follows said sent)
-
 -- a fresh stamp is its brick's, and above all that it knows
 fresh_says : (setting : Setting) (w : World) (me : BrickId) (view : ViewNo) (now known : ℕ) (t : Stamp) → 1 ≤ view.0 → Books setting w
     → (w.nodes me.0).known ≤ known → fresh_stamp me view now (w.nodes me.0).boot known ≡ Some t
@@ -122,13 +104,28 @@ fresh_says setting w me view now known t of books more is =
     (sym (fresh_is me view now (w.nodes me.0).boot known t is).0)
     (record { view = of; boot = refl; booted = omega arith; brick = refl; positive = omega arith; bounded = λ now. omega arith }, omega arith)
 
-module _ (setting : Setting) (views : Views) where
+module _ (setting : Setting) (views : Views) (w : World) (stamps : Stamping) (books : Books setting w) (stamped : StampViews setting.layout w)
+    (follows : Follows setting.layout views w) (said : Said setting views w stamps) where
+  -- a request is delivered
+  request_said : (me from : BrickId) (call : Call) (request : Request) → WasSent w (record { from = from; to = me; message = Message.Request call request })
+      → Said setting views (stepped setting w me (requested setting me from (w.nodes me.0) call request)) stamps
+  request_said me from call request sent =
+      request_each (λ step. Said setting views (stepped setting w me step) stamps) setting me from (w.nodes me.0) call request
+      (nothing_said setting views w stamps me books said) (handled_said setting views w stamps me from call request books stamped follows said sent)
+
+  -- a request is handled, and its reply is lost
+  request_kept : (me from : BrickId) (call : Call) (request : Request) → WasSent w (record { from = from; to = me; message = Message.Request call request })
+      → Said setting views (quiet w me (requested setting me from (w.nodes me.0) call request).node []) stamps
+  request_kept me from call request sent =
+      request_each (λ step. Said setting views (quiet w me step.node []) stamps) setting me from (w.nodes me.0) call request
+      (nothing_said setting views w stamps me books said) (kept_said setting views w stamps me from call request books stamped follows said sent)
+
   -- a reply is delivered
-  reply_said : (w : World) (stamps : Stamping) (me from : BrickId) (now : ℕ) (call : Call) (reply : Reply) → IsSound setting
-      → Books setting w → Said setting views w stamps → WasSent w (record { from = from; to = me; message = Message.Reply call reply })
+  reply_said : (me from : BrickId) (now : ℕ) (call : Call) (reply : Reply) → IsSound setting
+      → WasSent w (record { from = from; to = me; message = Message.Reply call reply })
       → IsSaid setting views (stepped setting w me (replied setting me now from (w.nodes me.0) call reply))
   unfolding replied
-  reply_said w stamps me from now call reply sound books said sent = at_call ((w.nodes me.0).calls call.seq) refl
+  reply_said me from now call reply sound sent = at_call ((w.nodes me.0).calls call.seq) refl
     where
       some : (c : Coordinator) → IsCall w me.0 c.call.seq c → 1 ≤ c.call.view.0
       some c is =
@@ -158,60 +155,54 @@ module _ (setting : Setting) (views : Views) where
           in_call c (subst (λ (k : ℕ). IsCall w me.0 k c) (sym seq) is)
 
   -- a message is delivered
-  message_said : (w : World) (stamps : Stamping) (me from : BrickId) (now : ℕ) (message : Message) → IsSound setting
-      → Books setting w → StampViews setting.layout w
-      → Follows setting.layout views w → Said setting views w stamps → WasSent w (record { from = from; to = me; message = message })
+  message_said : (me from : BrickId) (now : ℕ) (message : Message) → IsSound setting → WasSent w (record { from = from; to = me; message = message })
       → IsSaid setting views (stepped setting w me (received setting me now (w.nodes me.0) (record { from = from; to = me; message = message })))
   unfolding received
-  message_said w stamps me from now (Message.Request call request) sound books stamped follows said sent =
-      (stamps, request_said setting views w stamps me from call request books stamped follows said sent)
-  message_said w stamps me from now (Message.Reply call reply) sound books stamped follows said sent =
-      reply_said w stamps me from now call reply sound books said sent
-  message_said w stamps me from now message sound books stamped follows said sent = (stamps, nothing_said setting views w stamps me books said)
+  message_said me from now (Message.Request call request) sound sent = (stamps, request_said me from call request sent)
+  message_said me from now (Message.Reply call reply) sound sent = reply_said me from now call reply sound sent
+  message_said me from now message sound sent = (stamps, nothing_said setting views w stamps me books said)
 
   -- a message is handled, and no reply is sent
-  absorbed_said : (w : World) (stamps : Stamping) (me from to : BrickId) (message : Message) → Books setting w → StampViews setting.layout w
-      → Follows setting.layout views w → Said setting views w stamps → WasSent w (record { from = from; to = me; message = message })
+  absorbed_said : (me from to : BrickId) (message : Message) → WasSent w (record { from = from; to = me; message = message })
       → Said setting views (quiet w me (absorbed setting me (w.nodes me.0) (record { from = from; to = to; message = message })) []) stamps
   unfolding absorbed
-  absorbed_said w stamps me from to (Message.Request call request) books stamped follows said sent =
-      request_kept setting views w stamps me from call request books stamped follows said sent
-  absorbed_said w stamps me from to message books stamped follows said sent = nothing_said setting views w stamps me books said
-
-  delivery_said : (w : World) (stamps : Stamping) (number : ℕ) (packet : Packet) → IsSound setting → Books setting w → StampViews setting.layout w
-      → Follows setting.layout views w → Said setting views w stamps → WasSent w packet → IsSaid setting views (world_handled setting w number packet)
-  delivery_said w stamps number packet sound books stamped follows said sent =
-      message_said (world_counting setting w number packet) stamps packet.to packet.from (w.clocks packet.to.0) packet.message sound
-      (books_beside setting w (replies_with setting w packet) (put w.reached number true) books)
-      (record { nodes = stamped.nodes; after = stamped.after; packets = stamped.packets })
-      (record { limits = follows.limits; distinct = follows.distinct; learnt = follows.learnt; prior = follows.prior; passed = follows.passed })
-      (said_beside setting views w stamps w.clocks (replies_with setting w packet) (put w.reached number true) books said)
-      sent
+  absorbed_said me from to (Message.Request call request) sent = request_kept me from call request sent
+  absorbed_said me from to message sent = nothing_said setting views w stamps me books said
 
   -- what the store of a stopped brick may hold says what it should
-  left_said : (w : World) (stamps : Stamping) (me : BrickId) (node : Node) → IsLeft setting w me.0 node → Books setting w → StampViews setting.layout w
-      → Follows setting.layout views w → Said setting views w stamps → Said setting views (quiet w me node []) stamps
-  left_said w stamps me node left books stamped follows said = ⊎_elim
+  left_said : (me : BrickId) (node : Node) → IsLeft setting w me.0 node → Said setting views (quiet w me node []) stamps
+  left_said me node left = ⊎_elim
       (λ (same : node ≡ w.nodes me.0).
       subst (λ (z : Node). Said setting views (quiet w me z []) stamps) (sym same) (nothing_said setting views w stamps me books said))
       (λ (handled : (packet : Packet) × (packet.to ≡ me) × WasSent w packet × (node ≡ absorbed setting me (w.nodes me.0) packet)).
       let packet : Packet = handled.0 in
       subst (λ (z : Node). Said setting views (quiet w me z []) stamps) (sym handled.3)
-      (absorbed_said w stamps me packet.from packet.to packet.message books stamped follows said
+      (absorbed_said me packet.from packet.to packet.message
       (subst (λ (to : BrickId). WasSent w (record { from = packet.from; to = to; message = packet.message })) handled.1 handled.2)))
       left
 
   -- so does the brick that starts with it
-  found_said : (w : World) (stamps : Stamping) (me : BrickId) (found : Found) → w.up me.0 ≡ false → Leaves setting w → Books setting w → StampViews setting.layout w
-      → Follows setting.layout views w → Said setting views w stamps → Said setting views (world_found w me found) stamps
-  found_said w stamps me Before down leaves books stamped follows said = said
-  found_said w stamps me After down leaves books stamped follows said =
+  found_said : (me : BrickId) (found : Found) → w.up me.0 ≡ false → Leaves setting w → Said setting views (world_found w me found) stamps
+  found_said me Before down leaves = said
+  found_said me After down leaves =
       subst (λ (l : List Packet). Said setting views (record w {
         nodes = put w.nodes me.0 (w.after me.0);
         held = with_held w.held me.0 (w.after me.0);
         packets = l;
       }) stamps) (append-nil w.packets)
-      (left_said w stamps me (w.after me.0) (leaves me.0 down) books stamped follows said)
+      (left_said me (w.after me.0) (leaves me.0 down))
+
+module _ (setting : Setting) (views : Views) where
+  -- a packet is delivered
+  delivery_said : (w : World) (stamps : Stamping) (number : ℕ) (packet : Packet) → IsSound setting → Books setting w → StampViews setting.layout w
+      → Follows setting.layout views w → Said setting views w stamps → WasSent w packet → IsSaid setting views (world_handled setting w number packet)
+  delivery_said w stamps number packet sound books stamped follows said sent =
+      message_said setting views (world_counting setting w number packet) stamps
+      (books_beside setting w (replies_with setting w packet) (put w.reached number true) books)
+      (record { nodes = stamped.nodes; after = stamped.after; packets = stamped.packets })
+      (record { limits = follows.limits; distinct = follows.distinct; learnt = follows.learnt; prior = follows.prior; passed = follows.passed })
+      (said_beside setting views w stamps w.clocks (replies_with setting w packet) (put w.reached number true) books said)
+      packet.to packet.from (w.clocks packet.to.0) packet.message sound sent
 
   -- a brick's clock ticks
   ticked_said : (w : World) (stamps : Stamping) (me : BrickId) → Books setting w → Said setting views w stamps
@@ -278,7 +269,7 @@ module _ (setting : Setting) (views : Views) where
             (let fits = start_fits setting w brick openings may in (
               said.0,
               started_said (world_found w brick found) said.0 brick openings (books_found setting w brick found fits.0 known.0 books)
-                  (found_said w said.0 brick found fits.0 known.0 books known.3 known.2 said.1) fits.1,
+                  (found_said setting views w said.0 books known.3 known.2 said.1 brick found fits.0 known.0) fits.1,
             ));
       }
 

@@ -29,7 +29,7 @@ use Rattle.protocol_laws.proofs.BooksKept.{KeepsNumbers, cases_call, keeps_all, 
 use Rattle.protocol_laws.proofs.BooksQuiet.{quiet_world, started_calls, unstarted, started_known}
 use Rattle.protocol_laws.proofs.BooksEnds.{stopped_keeps, stopped_calls, unstopped_calls}
 use Rattle.protocol_laws.proofs.BooksBegins.{call_is, other_calls, same_boots, call_number, other_number, other_operations, knows}
-use Rattle.protocol_laws.proofs.BooksEvents.{keeps_put, stepped, known_grows, BeginFits, begin_fits, begin_up, KeepsCalls, found_keeps, books_found, start_fits, books_beside, books, group_there, fits_at}
+use Rattle.protocol_laws.proofs.BooksEvents.{keeps_put, stepped, known_grows, BeginFits, begin_fits, KeepsCalls, found_keeps, books_found, start_fits, books_beside, books, group_there, fits_at}
 use Rattle.protocol_laws.proofs.Outcomes.{first_round_above, once_full_fits}
 use Rattle.protocol_laws.proofs.Said.{Stamping, Said, IsSaid, CountedSays}
 use Rattle.protocol_laws.proofs.SaidAlways.{always_said, follows_front}
@@ -42,15 +42,14 @@ use Rattle.protocol_laws.proofs.TalliesKept.{call_tallied_on, known_kept, tallie
 use Rattle.protocol_laws.proofs.TalliesCounts.{tallied_counted}
 use Rattle.protocol.proofs.Events.{EventCases, world_handled, run_along}
 
-module _ (setting : Setting) (w : World) where
+module _ (setting : Setting) (w : World) (books : Books setting w) (tallied : Tallied w) where
   -- a step that changes no operation
   tallied_quiet : (nodes : ℕ → Node) (held : ℕ → ℕ → ℕ → Stamp → Bool) (clocks : ℕ → ℕ) (packets : List Packet)
-      (reached : ℕ → Bool) → Books setting w → Tallied w
-      → MessagesShow (quiet_world w nodes held clocks packets w.replies reached) → ((i : ℕ) → KeepsNumbers (w.nodes i) (nodes i))
+      (reached : ℕ → Bool) → MessagesShow (quiet_world w nodes held clocks packets w.replies reached) → ((i : ℕ) → KeepsNumbers (w.nodes i) (nodes i))
       → ((i k : ℕ) → (nodes i).calls k ≡ (w.nodes i).calls k)
       → ((packet : Packet) → WasSent w packet → WasSent (quiet_world w nodes held clocks packets w.replies reached) packet)
       → Tallied (quiet_world w nodes held clocks packets w.replies reached)
-  tallied_quiet nodes held clocks packets reached books tallied shows keeps calls sent =
+  tallied_quiet nodes held clocks packets reached shows keeps calls sent =
       tallied_on setting w (quiet_world w nodes held clocks packets w.replies reached) books tallied shows
       (record {
         sent = sent;
@@ -62,49 +61,45 @@ module _ (setting : Setting) (w : World) where
       (ap (λ (b : ℕ). w.numbers i b k) (keeps i).boot) (λ p. refl) (tallied.calls i k c (sym (calls i k) ∙ is)))
       tallied.unbegun (λ n phase k x is. inl is) (λ k p n cause is. inl is)
 
-  tallied_nothing : (me : BrickId) (node : Node) (packets : List Packet) → Books setting w → Tallied w
+  tallied_nothing : (me : BrickId) (node : Node) (packets : List Packet)
       → MessagesShow (stepped setting w w.replies me (sending node packets)) → KeepsNumbers (w.nodes me.0) node
       → ((l : ℕ) → node.calls l ≡ (w.nodes me.0).calls l) → Tallied (stepped setting w w.replies me (sending node packets))
-  tallied_nothing me node packets books tallied shows keeps calls =
-      tallied_quiet (put w.nodes me.0 node) (with_held w.held me.0 node) w.clocks (w.packets ++ packets) w.reached books tallied shows (keeps_put w me.0 node keeps)
+  tallied_nothing me node packets shows keeps calls =
+      tallied_quiet (put w.nodes me.0 node) (with_held w.held me.0 node) w.clocks (w.packets ++ packets) w.reached shows (keeps_put w me.0 node keeps)
       (λ j l. put_each (λ (x : ℕ) (y : Node). y.calls l ≡ (w.nodes x).calls l) w.nodes me.0 node (calls l) (λ x other. refl) j)
       (λ packet sent. (sent.0, get_kept w.packets packets sent.0 packet sent.1))
 
-  tallied_no_step : (me : BrickId) → Books setting w → Tallied w
-      → MessagesShow (stepped setting w w.replies me (no_step (w.nodes me.0))) → Tallied (stepped setting w w.replies me (no_step (w.nodes me.0)))
-  tallied_no_step me books tallied shows =
-      tallied_nothing me (w.nodes me.0) [] books tallied shows (keeps_all (w.nodes me.0)) (λ l. refl)
+  tallied_no_step : (me : BrickId) → MessagesShow (stepped setting w w.replies me (no_step (w.nodes me.0)))
+      → Tallied (stepped setting w w.replies me (no_step (w.nodes me.0)))
+  tallied_no_step me shows = tallied_nothing me (w.nodes me.0) [] shows (keeps_all (w.nodes me.0)) (λ l. refl)
 
   -- a brick learns of a time
-  tallied_known : (me : BrickId) (known : ℕ) → Books setting w → Tallied w → (w.nodes me.0).known ≤ known
+  tallied_known : (me : BrickId) (known : ℕ) → (w.nodes me.0).known ≤ known
       → MessagesShow (stepped setting w w.replies me (no_step (with_known (w.nodes me.0) known)))
       → Tallied (stepped setting w w.replies me (no_step (with_known (w.nodes me.0) known)))
-  tallied_known me known books tallied grows shows =
-      tallied_nothing me (with_known (w.nodes me.0) known) [] books tallied shows (keeps_known (w.nodes me.0) known grows) (λ l. refl)
+  tallied_known me known grows shows =
+      tallied_nothing me (with_known (w.nodes me.0) known) [] shows (keeps_known (w.nodes me.0) known grows) (λ l. refl)
 
   -- a request
-  tallied_requested : (me from : BrickId) (call : Call) (request : Request) → Books setting w → Tallied w
+  tallied_requested : (me from : BrickId) (call : Call) (request : Request)
       → MessagesShow (stepped setting w w.replies me (requested setting me from (w.nodes me.0) call request))
       → Tallied (stepped setting w w.replies me (requested setting me from (w.nodes me.0) call request))
-  tallied_requested me from call request books tallied =
+  tallied_requested me from call request =
       request_each (λ (step : NodeStep). MessagesShow (stepped setting w w.replies me step) → Tallied (stepped setting w w.replies me step)) setting
-      me from (w.nodes me.0) call request
-      (tallied_no_step me books tallied)
+      me from (w.nodes me.0) call request (tallied_no_step me)
       (λ group seat here at view shows.
       let reaction = handle setting.code group.m (full_at setting.layout.records (w.nodes me.0).live) seat (replica_at (w.nodes me.0) call) request in
-      tallied_nothing me (with_replica (w.nodes me.0) call reaction) (reply_packets me from call reaction.reply) books tallied shows
+      tallied_nothing me (with_replica (w.nodes me.0) call reaction) (reply_packets me from call reaction.reply) shows
       (keeps_replica (w.nodes me.0) call reaction view) (λ l. refl))
 
   -- a reply
-  tallied_replied : (me : BrickId) (now : ℕ) (from : BrickId) (call : Call) (reply : Reply) → Books setting w
-      → Tallied w
-      → MessagesShow w → WasSent w (record { from = from; to = me; message = Message.Reply call reply })
+  tallied_replied : (me : BrickId) (now : ℕ) (from : BrickId) (call : Call) (reply : Reply) → MessagesShow w → WasSent w (record { from = from; to = me; message = Message.Reply call reply })
       → MessagesShow (stepped setting w (replies_at setting w me from call reply ((w.nodes me.0).calls call.seq)) me
       (replied setting me now from (w.nodes me.0) call reply))
       → Tallied (stepped setting w (replies_at setting w me from call reply ((w.nodes me.0).calls call.seq)) me
       (replied setting me now from (w.nodes me.0) call reply))
   unfolding replied on_reply
-  tallied_replied me now from call reply books tallied shows sent = at_call ((w.nodes me.0).calls call.seq) refl
+  tallied_replied me now from call reply shows sent = at_call ((w.nodes me.0).calls call.seq) refl
     where
       at_seat : (c : Coordinator) → IsCall w me.0 call.seq c → (z : Option ℕ)
           → counts_at setting.layout.block c from.0 call reply ≡ z
@@ -115,7 +110,7 @@ module _ (setting : Setting) (w : World) where
           (carried_out setting me (w.nodes me.0) (known_after (w.nodes me.0).known reply) c
           (counted_at setting.layout.block setting.code (fresh_stamp me c.call.view now (w.nodes me.0).boot (known_after (w.nodes me.0).known reply)) c from reply z)))
       at_seat c is None none later =
-          tallied_known me (known_after (w.nodes me.0).known reply) books tallied (known_grows (w.nodes me.0).known reply) later
+          tallied_known me (known_after (w.nodes me.0).known reply) (known_grows (w.nodes me.0).known reply) later
       at_seat c is (Some seat) counts later =
           let facts : CountsAt setting.layout.block c from.0 call reply seat = counts_facts setting.layout.block c from.0 call reply seat counts in
           let time : ℕ = known_after (w.nodes me.0).known reply in
@@ -134,49 +129,44 @@ module _ (setting : Setting) (w : World) where
           → MessagesShow (stepped setting w (replies_at setting w me from call reply z) me (replied_at setting me now from (w.nodes me.0) call reply z))
           → Tallied (stepped setting w (replies_at setting w me from call reply z) me (replied_at setting me now from (w.nodes me.0) call reply z))
       at_call None none later =
-          tallied_known me (known_after (w.nodes me.0).known reply) books tallied (known_grows (w.nodes me.0).known reply) later
+          tallied_known me (known_after (w.nodes me.0).known reply) (known_grows (w.nodes me.0).known reply) later
       at_call (Some c) is later = at_seat c is (counts_at setting.layout.block c from.0 call reply) refl later
 
   -- a message
-  tallied_received : (now : ℕ) (from to : BrickId) (message : Message) → Books setting w → Tallied w → MessagesShow w
-      → WasSent w (record { from = from; to = to; message = message })
+  tallied_received : (now : ℕ) (from to : BrickId) (message : Message) → MessagesShow w → WasSent w (record { from = from; to = to; message = message })
       → (let packet : Packet = record { from = from; to = to; message = message } in
       MessagesShow (stepped setting w (replies_with setting w packet) to (received setting to now (w.nodes to.0) packet))
       → Tallied (stepped setting w (replies_with setting w packet) to (received setting to now (w.nodes to.0) packet)))
   unfolding received
-  tallied_received now from to (Message.Request call request) books tallied shows sent =
-      tallied_requested to from call request books tallied
-  tallied_received now from to (Message.Reply call reply) books tallied shows sent =
-      tallied_replied to now from call reply books tallied shows sent
-  tallied_received now from to message books tallied shows sent = tallied_no_step to books tallied
+  tallied_received now from to (Message.Request call request) shows sent = tallied_requested to from call request
+  tallied_received now from to (Message.Reply call reply) shows sent = tallied_replied to now from call reply shows sent
+  tallied_received now from to message shows sent = tallied_no_step to
 
 -- what messages show does not change with those that were delivered
 shows_reached : (w : World) (reached : ℕ → Bool) → MessagesShow w → MessagesShow (record w { reached = reached })
 shows_reached w reached shows = record { later = shows.later; orders_alone = shows.orders_alone; in_round = shows.in_round; counted = shows.counted }
 
-module _ (setting : Setting) (w : World) where
-  tallied_handled : (number : ℕ) (packet : Packet) → Books setting w → Tallied w → MessagesShow w → WasSent w packet
-      → MessagesShow (world_handled setting w number packet) → Tallied (world_handled setting w number packet)
-  tallied_handled number packet books tallied shows sent =
+module _ (setting : Setting) (w : World) (books : Books setting w) (tallied : Tallied w) where
+  tallied_handled : (number : ℕ) (packet : Packet) → MessagesShow w → WasSent w packet → MessagesShow (world_handled setting w number packet) → Tallied (world_handled setting w number packet)
+  tallied_handled number packet shows sent =
       let reached : ℕ → Bool = put w.reached number true in
       let noted : World = record w { reached = reached } in
       let noted_shows : MessagesShow noted = shows_reached w reached shows in
-      tallied_received setting noted (w.clocks packet.to.0) packet.from packet.to packet.message (books_beside setting w w.replies reached books)
-      (tallied_quiet setting w w.nodes w.held w.clocks w.packets reached books tallied noted_shows (λ i. keeps_all (w.nodes i)) (λ i k. refl)
-      (λ other was. was)) noted_shows sent
+      tallied_received setting noted (books_beside setting w w.replies reached books)
+      (tallied_quiet setting w books tallied w.nodes w.held w.clocks w.packets reached noted_shows (λ i. keeps_all (w.nodes i)) (λ i k. refl)
+      (λ other was. was)) (w.clocks packet.to.0) packet.from packet.to packet.message noted_shows sent
 
   -- an operation begins
-  tallied_began : (brick : BrickId) (now : ℕ) (ask : Ask) (fits : BeginFits setting ask) → w.up brick.0 ≡ true
-      → Books setting w → Tallied w
-      → MessagesShow (world_began w brick ask (began_in setting brick (w.nodes brick.0) (new_coordinator (group_there (w.nodes brick.0) ask fits.group) brick now (w.nodes brick.0) ask)))
-      → Tallied (world_began w brick ask (began_in setting brick (w.nodes brick.0) (new_coordinator (group_there (w.nodes brick.0) ask fits.group) brick now (w.nodes brick.0) ask)))
-  tallied_began brick now ask fits up books tallied shows =
+  tallied_began : (brick : BrickId) (now : ℕ) (ask : Ask) (group : Group)
+      → MessagesShow (world_began w brick ask (began_in setting brick (w.nodes brick.0) (new_coordinator (group_there (w.nodes brick.0) ask group) brick now (w.nodes brick.0) ask)))
+      → Tallied (world_began w brick ask (began_in setting brick (w.nodes brick.0) (new_coordinator (group_there (w.nodes brick.0) ask group) brick now (w.nodes brick.0) ask)))
+  tallied_began brick now ask group shows =
       let next : World = world_began w brick ask (began_in setting brick (w.nodes brick.0)
-      (new_coordinator (group_there (w.nodes brick.0) ask fits.group) brick now (w.nodes brick.0) ask)) in
+      (new_coordinator (group_there (w.nodes brick.0) ask group) brick now (w.nodes brick.0) ask)) in
       let i : ℕ = brick.0 in
       let k : ℕ = (w.nodes brick.0).seq + 1 in
       let n : ℕ = w.begun + 1 in
-      let c : Coordinator = new_coordinator (group_there (w.nodes brick.0) ask fits.group) brick now (w.nodes brick.0) ask in
+      let c : Coordinator = new_coordinator (group_there (w.nodes brick.0) ask group) brick now (w.nodes brick.0) ask in
       let new : CallTallied w.replies n c = record {
         now = ([], tallied.unbegun n 1 (omega arith), refl, refl);
         later = λ p above. tallied.unbegun n p (omega arith);
@@ -185,13 +175,10 @@ module _ (setting : Setting) (w : World) where
       tallied_on setting w next books tallied shows
       (record {
         sent = λ packet sent. (sent.0, get_kept w.packets _ sent.0 packet sent.1);
-        known = known_kept w next (λ j b. refl)
-            (same_boots setting w brick now ask fits.group books fits.block_fits fits.group_is fits.stripe up fits.length_fits)
-            (knows setting w brick now ask fits.group books fits.block_fits fits.group_is fits.stripe up fits.length_fits);
+        known = known_kept w next (λ j b. refl) (same_boots setting w brick now ask group) (knows setting w brick now ask group);
         operations = λ m o is. (
           o,
-          other_operations setting w brick now ask fits.group books fits.block_fits fits.group_is fits.stripe up fits.length_fits m
-              (λ same. omega (arith, (books.operations m o is).begun)) ∙ is,
+          other_operations setting w brick now ask group m (λ same. omega (arith, (books.operations m o is).begun)) ∙ is,
           record { brick = refl; boot = refl; seq = refl; ask = refl },
         );
         replies = λ m. inl (λ p. refl);
@@ -200,17 +187,14 @@ module _ (setting : Setting) (w : World) where
       (λ (mine : (j ≡ i) × (l ≡ k)).
       let at : (next.nodes i).calls k ≡ Some e
       = subst (λ (x : ℕ). (next.nodes x).calls k ≡ Some e) mine.0 (subst (λ (y : ℕ). (next.nodes j).calls y ≡ Some e) mine.1 is) in
-      let one : c ≡ e = same_Some c e
-      (sym (call_is setting w brick now ask fits.group books fits.block_fits fits.group_is fits.stripe up fits.length_fits) ∙ at) in
-      let number : number_of next i k ≡ n = call_number setting w brick now ask fits.group books fits.block_fits fits.group_is fits.stripe up fits.length_fits in
+      let one : c ≡ e = same_Some c e (sym (call_is setting w brick now ask group) ∙ at) in
+      let number : number_of next i k ≡ n = call_number setting w brick now ask group in
       subst (λ (x : ℕ). CallTallied w.replies (number_of next x l) e) (sym mine.0) (subst (λ (y : ℕ). CallTallied w.replies (number_of next i y) e)
       (sym mine.1)
       (subst (λ (x : ℕ). CallTallied w.replies x e) (sym number) (subst (λ (z : Coordinator). CallTallied w.replies n z) one new))))
       (λ (other : j ≡ i → l ≡ k → ⊥).
-      let old : IsCall w j l e
-      = sym (other_calls setting w brick now ask fits.group books fits.block_fits fits.group_is fits.stripe up fits.length_fits j l other) ∙ is in
-      call_tallied_on w.replies w.replies (number_of w j l) (number_of next j l) e
-      (other_number setting w brick now ask fits.group books fits.block_fits fits.group_is fits.stripe up fits.length_fits j l other)
+      let old : IsCall w j l e = sym (other_calls setting w brick now ask group j l other) ∙ is in
+      call_tallied_on w.replies w.replies (number_of w j l) (number_of next j l) e (other_number setting w brick now ask group j l other)
       (λ p. refl) (tallied.calls j l e old))
       (cases_call i k j l))
       (λ m p above. tallied.unbegun m p (omega arith))
@@ -222,22 +206,20 @@ module _ (setting : Setting) (w : World) where
       = get_one (Begin (length w.marks) (w.marked + 1) brick ask) (End p m (Aborted cause)) new.0 new.1 in cc))
       (get_grown w.marks (Begin (length w.marks) (w.marked + 1) brick ask ∷ []) a (End p m (Aborted cause)) is))
 
-  tallied_invoked : (brick : BrickId) (now : ℕ) (ask : Ask) → Books setting w → Tallied w
-      → may_begin setting w brick ask ≡ true
+  tallied_invoked : (brick : BrickId) (now : ℕ) (ask : Ask) → may_begin setting w brick ask ≡ true
       → MessagesShow (world_began w brick ask (invoked setting brick now (w.nodes brick.0) ask))
       → Tallied (world_began w brick ask (invoked setting brick now (w.nodes brick.0) ask))
   unfolding invoked
-  tallied_invoked brick now ask books tallied may =
+  tallied_invoked brick now ask may =
       let fits : BeginFits setting ask = begin_fits setting w brick ask may in
       subst (λ (found : Option Group). MessagesShow (world_began w brick ask (began setting brick now (w.nodes brick.0) ask found))
       → Tallied (world_began w brick ask (began setting brick now (w.nodes brick.0) ask found)))
       (sym (fits_at setting (w.nodes brick.0) ask fits))
-      (tallied_began brick now ask fits (begin_up setting w brick ask may) books tallied)
+      (tallied_began brick now ask fits.group)
 
   -- a brick stops
-  tallied_stopped : (brick : BrickId) (during : Option ℕ) → Books setting w → Tallied w
-      → MessagesShow (world_stopped setting w brick during) → Tallied (world_stopped setting w brick during)
-  tallied_stopped brick during books tallied shows =
+  tallied_stopped : (brick : BrickId) (during : Option ℕ) → MessagesShow (world_stopped setting w brick during) → Tallied (world_stopped setting w brick during)
+  tallied_stopped brick during shows =
       let next : World = world_stopped setting w brick during in
       let keeps : (i : ℕ) → KeepsNumbers (w.nodes i) (next.nodes i) = stopped_keeps setting w brick during books in
       tallied_on setting w next books tallied shows
@@ -265,9 +247,9 @@ module _ (setting : Setting) (w : World) where
       (get_grown w.marks (Crash (length w.marks) brick ∷ []) k (End p n (Aborted cause)) is))
 
   -- a stopped brick is started again
-  tallied_started : (brick : BrickId) (openings : ℕ) → w.up brick.0 ≡ false → 1 ≤ openings → Books setting w → Tallied w
+  tallied_started : (brick : BrickId) (openings : ℕ) → w.up brick.0 ≡ false → 1 ≤ openings
       → MessagesShow (world_started w brick openings) → Tallied (world_started w brick openings)
-  tallied_started brick openings down once books tallied shows =
+  tallied_started brick openings down once shows =
       let next : World = world_started w brick openings in
       tallied_on setting w next books tallied shows
       (record {
@@ -304,7 +286,7 @@ tallied_found : (setting : Setting) (w : World) (brick : BrickId) (found : Found
 tallied_found setting w brick Before down leaves books tallied shows = tallied
 tallied_found setting w brick After down leaves books tallied shows =
     let keeps : (i : ℕ) → KeepsCalls (w.nodes i) ((world_found w brick After).nodes i) = found_keeps setting w brick After down leaves in
-    tallied_quiet setting w (put w.nodes brick.0 (w.after brick.0)) (with_held w.held brick.0 (w.after brick.0)) w.clocks w.packets w.reached books tallied
+    tallied_quiet setting w books tallied (put w.nodes brick.0 (w.after brick.0)) (with_held w.held brick.0 (w.after brick.0)) w.clocks w.packets w.reached
     (shows_found w brick (λ i. (keeps i).1) shows) (λ i. (keeps i).0) (λ i. (keeps i).1) (λ packet sent. sent)
 
 -- a world whose messages show what they should has its history of replies: so does the next
@@ -320,20 +302,20 @@ tallied_cases setting w known there =
     let shows : MessagesShow w = known.2 in
     let tallied : Tallied w = there shows in
     record {
-      begins = λ brick ask may. tallied_invoked setting w brick (w.clocks brick.0) ask books tallied may;
-      handles = λ number packet at up. tallied_handled setting w number packet books tallied shows (packet_was_sent w number packet at);
+      begins = λ brick ask may. tallied_invoked setting w books tallied brick (w.clocks brick.0) ask may;
+      handles = λ number packet at up. tallied_handled setting w books tallied number packet shows (packet_was_sent w number packet at);
       sets = λ brick time is shown.
-          tallied_quiet setting w w.nodes w.held (put w.clocks brick.0 time) w.packets w.reached books tallied shown (λ i. keeps_all (w.nodes i))
+          tallied_quiet setting w books tallied w.nodes w.held (put w.clocks brick.0 time) w.packets w.reached shown (λ i. keeps_all (w.nodes i))
           (λ i k. refl) (λ packet sent. sent);
       ticks = λ brick up shown.
           (let more : List Packet = ticked setting brick (w.nodes brick.0) in
-          tallied_quiet setting w w.nodes w.held w.clocks (w.packets ++ more) w.reached books tallied shown (λ i. keeps_all (w.nodes i)) (λ i k. refl)
+          tallied_quiet setting w books tallied w.nodes w.held w.clocks (w.packets ++ more) w.reached shown (λ i. keeps_all (w.nodes i)) (λ i k. refl)
           (λ packet sent. (sent.0, get_kept w.packets more sent.0 packet sent.1)));
-      stops = λ brick during up. tallied_stopped setting w brick during books tallied;
+      stops = λ brick during up. tallied_stopped setting w books tallied brick during;
       starts = λ brick openings found may.
           (let fits = start_fits setting w brick openings may in
-          tallied_started setting (world_found w brick found) brick openings (found_down w brick found fits.0) fits.1
-          (books_found setting w brick found fits.0 leaves books) (tallied_found setting w brick found fits.0 leaves books tallied shows));
+          tallied_started setting (world_found w brick found) (books_found setting w brick found fits.0 leaves books)
+          (tallied_found setting w brick found fits.0 leaves books tallied shows) brick openings (found_down w brick found fits.0) fits.1);
     }
 
 -- at first no reply has counted

@@ -136,73 +136,70 @@ pub invoked_boot : (setting : Setting) (brick : BrickId) (now : ℕ) (node : Nod
 unfolding invoked
 invoked_boot setting brick now node ask = invoked_boot_in setting brick now node ask (group_at setting.layout node ask.group.0)
 
--- a number that was not sent changes nothing
-pub happens_unsent : (setting : Setting) (w : World) (number : ℕ) → packet_of w.packets number ≡ None → happens setting w (Delivers number) ≡ w
-unfolding happens
-happens_unsent setting w number none = ap (delivered setting w number) none
+module _ (setting : Setting) (w : World) where
+  -- a number that was not sent changes nothing
+  pub happens_unsent : (number : ℕ) → packet_of w.packets number ≡ None → happens setting w (Delivers number) ≡ w
+  unfolding happens
+  happens_unsent number none = ap (delivered setting w number) none
 
--- a message to no brick that is up changes nothing
-pub happens_astray : (setting : Setting) (w : World) (number : ℕ) (packet : Packet) → packet_of w.packets number ≡ Some packet
-    → is_up setting.layout w packet.to ≡ false → happens setting w (Delivers number) ≡ w
-unfolding happens
-happens_astray setting w number packet sent down = ap (delivered setting w number) sent ∙ ap (λ b. cond b (world_handled setting w number packet) w) down
+  -- a message to no brick that is up changes nothing
+  pub happens_astray : (number : ℕ) (packet : Packet) → packet_of w.packets number ≡ Some packet
+      → is_up setting.layout w packet.to ≡ false → happens setting w (Delivers number) ≡ w
+  unfolding happens
+  happens_astray number packet sent down = ap (delivered setting w number) sent ∙ ap (λ b. cond b (world_handled setting w number packet) w) down
 
--- a message is handled by its brick
-pub happens_handled : (setting : Setting) (w : World) (number : ℕ) (packet : Packet) → packet_of w.packets number ≡ Some packet
-    → is_up setting.layout w packet.to ≡ true → happens setting w (Delivers number) ≡ world_handled setting w number packet
-unfolding happens
-happens_handled setting w number packet sent up = ap (delivered setting w number) sent ∙ ap (λ b. cond b (world_handled setting w number packet) w) up
+  -- a message is handled by its brick
+  pub happens_handled : (number : ℕ) (packet : Packet) → packet_of w.packets number ≡ Some packet
+      → is_up setting.layout w packet.to ≡ true → happens setting w (Delivers number) ≡ world_handled setting w number packet
+  unfolding happens
+  happens_handled number packet sent up = ap (delivered setting w number) sent ∙ ap (λ b. cond b (world_handled setting w number packet) w) up
 
--- a clock is set
-pub happens_set : (setting : Setting) (w : World) (brick : BrickId) (time : ℕ) → brick.0 < setting.layout.bricks
-    → happens setting w (Sets brick time) ≡ record w { clocks = put w.clocks brick.0 time }
-unfolding happens
-happens_set setting w brick time within =
-    ap (λ b. cond b (record w { clocks = put w.clocks brick.0 time }) w)
-    (let e : nat_lt brick.0 setting.layout.bricks ≡ true = grind (arith, nat_tests) in e)
+  -- a clock is set
+  pub happens_set : (brick : BrickId) (time : ℕ) → brick.0 < setting.layout.bricks
+      → happens setting w (Sets brick time) ≡ record w { clocks = put w.clocks brick.0 time }
+  unfolding happens
+  happens_set brick time within =
+      ap (λ b. cond b (record w { clocks = put w.clocks brick.0 time }) w)
+      (let e : nat_lt brick.0 setting.layout.bricks ≡ true = grind (arith, nat_tests) in e)
 
--- a clock that there is not changes nothing
-pub happens_unset : (setting : Setting) (w : World) (brick : BrickId) (time : ℕ) → setting.layout.bricks ≤ brick.0
-    → happens setting w (Sets brick time) ≡ w
-unfolding happens
-happens_unset setting w brick time past =
-    ap (λ b. cond b (record w { clocks = put w.clocks brick.0 time }) w)
-    (let e : nat_lt brick.0 setting.layout.bricks ≡ false = grind (arith, nat_tests) in e)
+  -- a clock that there is not changes nothing
+  pub happens_unset : (brick : BrickId) (time : ℕ) → setting.layout.bricks ≤ brick.0 → happens setting w (Sets brick time) ≡ w
+  unfolding happens
+  happens_unset brick time past =
+      ap (λ b. cond b (record w { clocks = put w.clocks brick.0 time }) w)
+      (let e : nat_lt brick.0 setting.layout.bricks ≡ false = grind (arith, nat_tests) in e)
 
--- the clock of a brick that is up ticks
-pub happens_ticked : (setting : Setting) (w : World) (brick : BrickId) → is_up setting.layout w brick ≡ true
-    → happens setting w (Ticks brick) ≡ world_ticked setting w brick
-unfolding happens
-happens_ticked setting w brick up = ap (λ b. cond b (world_ticked setting w brick) w) up
+  -- the clock of a brick that is up ticks
+  pub happens_ticked : (brick : BrickId) → is_up setting.layout w brick ≡ true → happens setting w (Ticks brick) ≡ world_ticked setting w brick
+  unfolding happens
+  happens_ticked brick up = ap (λ b. cond b (world_ticked setting w brick) w) up
 
-pub happens_unticked : (setting : Setting) (w : World) (brick : BrickId) → is_up setting.layout w brick ≡ false → happens setting w (Ticks brick) ≡ w
-unfolding happens
-happens_unticked setting w brick down = ap (λ b. cond b (world_ticked setting w brick) w) down
+  pub happens_unticked : (brick : BrickId) → is_up setting.layout w brick ≡ false → happens setting w (Ticks brick) ≡ w
+  unfolding happens
+  happens_unticked brick down = ap (λ b. cond b (world_ticked setting w brick) w) down
 
--- a brick that is up stops
-pub happens_stopped : (setting : Setting) (w : World) (brick : BrickId) → is_up setting.layout w brick ≡ true
-    → happens setting w (Stops brick None) ≡ world_stopped setting w brick None
-unfolding happens
-happens_stopped setting w brick up = ap (λ b. cond b (world_stopped setting w brick None) w) up
+  -- a brick that is up stops
+  pub happens_stopped : (brick : BrickId) → is_up setting.layout w brick ≡ true → happens setting w (Stops brick None) ≡ world_stopped setting w brick None
+  unfolding happens
+  happens_stopped brick up = ap (λ b. cond b (world_stopped setting w brick None) w) up
 
-pub happens_unstopped : (setting : Setting) (w : World) (brick : BrickId) → is_up setting.layout w brick ≡ false
-    → happens setting w (Stops brick None) ≡ w
-unfolding happens
-happens_unstopped setting w brick down = ap (λ b. cond b (world_stopped setting w brick None) w) down
+  pub happens_unstopped : (brick : BrickId) → is_up setting.layout w brick ≡ false → happens setting w (Stops brick None) ≡ w
+  unfolding happens
+  happens_unstopped brick down = ap (λ b. cond b (world_stopped setting w brick None) w) down
 
--- a brick stops during the handling of a message
-pub happens_stopped_during : (setting : Setting) (w : World) (brick : BrickId) (during : Option ℕ) → is_up setting.layout w brick ≡ true
-    → happens setting w (Stops brick during) ≡ world_stopped setting w brick during
-unfolding happens
-happens_stopped_during setting w brick during up = ap (λ b. cond b (world_stopped setting w brick during) w) up
+  -- a brick stops during the handling of a message
+  pub happens_stopped_during : (brick : BrickId) (during : Option ℕ) → is_up setting.layout w brick ≡ true
+      → happens setting w (Stops brick during) ≡ world_stopped setting w brick during
+  unfolding happens
+  happens_stopped_during brick during up = ap (λ b. cond b (world_stopped setting w brick during) w) up
 
--- a brick that may start does
-pub happens_started : (setting : Setting) (w : World) (brick : BrickId) (openings : ℕ) (found : Found) → may_start setting.layout w brick openings ≡ true
-    → happens setting w (Starts brick openings found) ≡ world_started (world_found w brick found) brick openings
-unfolding happens
-happens_started setting w brick openings found may = ap (λ b. cond b (world_started (world_found w brick found) brick openings) w) may
+  -- a brick that may start does
+  pub happens_started : (brick : BrickId) (openings : ℕ) (found : Found) → may_start setting.layout w brick openings ≡ true
+      → happens setting w (Starts brick openings found) ≡ world_started (world_found w brick found) brick openings
+  unfolding happens
+  happens_started brick openings found may = ap (λ b. cond b (world_started (world_found w brick found) brick openings) w) may
 
-pub happens_unstarted : (setting : Setting) (w : World) (brick : BrickId) (openings : ℕ) (found : Found) → may_start setting.layout w brick openings ≡ false
-    → happens setting w (Starts brick openings found) ≡ w
-unfolding happens
-happens_unstarted setting w brick openings found may_not = ap (λ b. cond b (world_started (world_found w brick found) brick openings) w) may_not
+  pub happens_unstarted : (brick : BrickId) (openings : ℕ) (found : Found) → may_start setting.layout w brick openings ≡ false
+      → happens setting w (Starts brick openings found) ≡ w
+  unfolding happens
+  happens_unstarted brick openings found may_not = ap (λ b. cond b (world_started (world_found w brick found) brick openings) w) may_not
