@@ -1,5 +1,5 @@
 -- The laws hold in every world that a run reaches.
-use Rattle.std.proofs.Common.{List, [], sym}
+use Rattle.std.proofs.Common.{List, [], sym, ◌∙◌}
 use Rattle.std.proofs.lemmas.List.{append-nil}
 use Rattle.protocol.specs.Settings.{Setting, IsSound}
 use Rattle.protocol.specs.Views.{Views, views_in}
@@ -39,6 +39,8 @@ laws setting views w stamps booked said follows guards facts history numbered tr
   real_time = facts.real_time;
   counted = history.counted;
   aborts = λ k p n cause at. (let shown = history.aborts k p n cause at in (n, shown.0, shown.1, booked.own.each n shown.0 shown.1, shown.2));
+  marks_apart = λ a b first second first_is second_is marked same.
+      sym (booked.own.each a first first_is) ∙ same ∙ booked.own.each b second second_is;
   refusals = truths;
   full = facts.full;
   well_formed = booked.well_formed;
