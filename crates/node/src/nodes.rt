@@ -28,7 +28,7 @@ use crate::open_calls::OpenCalls;
 use crate::operations::first_view;
 use crate::outs::{Begun, Outs};
 use crate::sending::answer_messages;
-use brick_store::{BrickStore, State, StoreFault};
+use brick_store::{BrickStore, OpenFault, State};
 use fab_base::{Ask, BrickId, GroupId, Refusal, StripeNo, ViewNo};
 use fab_disk::{Armed, Disk, Plan};
 use layout::Layout;
@@ -74,14 +74,14 @@ impl<D: Disk> Node<D> {
     ///
     /// # Errors
     ///
-    /// Each hands the disk back, and is a fault of [`open_store`](brick_store::open_store). [`StoreFault::NotAStore`] also where the store
+    /// Each hands the disk back, and is a fault of [`open_store`](brick_store::open_store). [`OpenFault::NotAStore`] also where the store
     /// was opened, and has learnt a later view of a group: later views are not built yet.
     pub fn start(
         alloc: Global,
         layout: Layout,
         me: BrickId,
         disk: D,
-    ) -> Result<Node<D>, (StoreFault, D)>
+    ) -> Result<Node<D>, (OpenFault, D)>
         ensures layout { IfOk result (λ node. node.layout ≡ layout) }
         ensures me { IfOk result (λ node. node.me ≡ me) }
         ensures runs { IfOk result (λ node. node.brick.halted ≡ false) }
@@ -107,26 +107,23 @@ impl<D: Disk> Node<D> {
         ensures run { IfOk result (λ node. RunsAsOpening D.tells D.seen D.moment D.plan D.unlisted (shape_at layout me) disk node.brick.disk (Unit {0}) ⊥) }
         // A store that was there is opened whole before it is found to have learnt a later view.
         ensures run_err { IfErr result (λ e. RunsAsOpening D.tells D.seen D.moment D.plan D.unlisted (shape_at layout me) disk e.1
-            (e.0 ≡ StoreFault.NotAStore) (e.0 ≡ StoreFault.Disk)) }
+            (e.0 ≡ OpenFault.NotAStore) (e.0 ≡ OpenFault.Disk)) }
         // Cut short where no fault is listed, its store was not worn.
-        ensures not_worn { IfErr result (λ e. e.0 ≡ StoreFault.Disk → D.tells → D.unlisted disk → (before : machine.Node)
+        ensures not_worn { IfErr result (λ e. e.0 ≡ OpenFault.Disk → D.tells → D.unlisted disk → (before : machine.Node)
             → ImageShows layout me before (D.seen disk) → before.boot < 2 ^ 32 - 1) }
-        ensures cut { IfErr result (λ e. e.0 ≡ StoreFault.Disk
+        ensures cut { IfErr result (λ e. e.0 ≡ OpenFault.Disk
             → StopsAsOpening D.tells D.seen D.certain D.moment D.unlisted layout me disk e.1) }
         // There is no store, and nothing has changed; or its store has learnt a later view.
-        ensures not_a_store { IfErr result (λ e. e.0 ≡ StoreFault.NotAStore → D.tells
+        ensures not_a_store { IfErr result (λ e. e.0 ≡ OpenFault.NotAStore → D.tells
             → (IsNoStore (shape_at layout me) (D.seen disk) × IsUntouched D.seen D.may_leave D.moment D.left_since disk e.1)
             ⊎ ((st : StateOf Version) × IsFound (shape_at layout me) st (D.seen disk) × (IsFirstView st → ⊥))) }
         // There was a store, and it was opened as often as it can be.
-        ensures worn { IfErr result (λ e. e.0 ≡ StoreFault.Worn → D.tells → (st : StateOf Version) × IsFound (shape_at layout me) st (D.seen disk)
+        ensures worn { IfErr result (λ e. e.0 ≡ OpenFault.Worn → D.tells → (st : StateOf Version) × IsFound (shape_at layout me) st (D.seen disk)
             × (st.boot ≡ 2 ^ 32 - 1)) }
-        ensures unchanged { IfErr result (λ e. (e.0 ≡ StoreFault.Worn) ⊎ (e.0 ≡ StoreFault.NoMemory)
+        ensures unchanged { IfErr result (λ e. (e.0 ≡ OpenFault.Worn) ⊎ (e.0 ≡ OpenFault.NoMemory)
             → IsUntouched D.seen D.may_leave D.moment D.left_since disk e.1) }
-        // No other fault is answered.
-        ensures not_halted { IfErr result (λ e. e.0 ≢ StoreFault.Halted) }
-        ensures not_full { IfErr result (λ e. (n : ℕ) → e.0 ≢ StoreFault.Full n) }
         ensures cause { IfOk result (λ node. Kept (D.faults disk) (D.faults node.brick.disk) (D.sound disk) (D.sound node.brick.disk) ⊥) }
-        ensures cause_err { IfErr result (λ e. Kept (D.faults disk) (D.faults e.1) (D.sound disk) (D.sound e.1) (e.0 ≡ StoreFault.Disk)) }
+        ensures cause_err { IfErr result (λ e. Kept (D.faults disk) (D.faults e.1) (D.sound disk) (D.sound e.1) (e.0 ≡ OpenFault.Disk)) }
     {
         let store = match brick_store::open_store(
             alloc,
@@ -140,7 +137,7 @@ impl<D: Disk> Node<D> {
         };
         // In a later view the brick would not know whom it serves.
         if !is_first_view(&store) {
-            return Err((StoreFault::NotAStore, store.into_disk()));
+            return Err((OpenFault::NotAStore, store.into_disk()));
         }
         let calls = OpenCalls::new(alloc, me, store.boot());
         Ok(Node {

@@ -24,8 +24,8 @@ use Rattle.brick_state.specs.States.{StateOf, booted}
 use Rattle.brick_store.specs.Images.{IsFound, IsListed}
 use Rattle.brick_store.specs.Calls.{opening_calls}
 use Rattle.brick_store.specs.Openings.{opens_appendable, IsAllowedOr}
-use Rattle.brick_store.specs.declared.faults.StoreFault.{StoreFault}
-use Rattle.brick_store.specs.declared.faults.StoreFault.TheVariants.{NotAStore, Disk}
+use Rattle.brick_store.specs.declared.faults.OpenFault.{OpenFault}
+use Rattle.brick_store.specs.declared.faults.OpenFault.TheVariants.{NotAStore, Disk}
 use Rattle.replica.specs.Parts.{IsFirstView}
 use Rattle.coord_phase.specs.Messages.{packets_from}
 use Rattle.node.specs.Calls.{packet_calls, RunsAsOpening, StopsAsOpening}
@@ -192,7 +192,7 @@ module _ (layout : Layout) (me : BrickId) (state after : machine.Node) (fault : 
       ap (λ (k : ℕ). k + found_there.openings) (sym (found_boots state after found_there.found rests.boots))
       ∙ found_boot layout me node_there st (content_of armed) found shows_there
 
-  pub not_another : (store : StoreFault) → ((IsNoStore (shape_at layout me) (content_of armed)) ⊎ ((st : StateOf Version)
+  pub not_another : (store : OpenFault) → ((IsNoStore (shape_at layout me) (content_of armed)) ⊎ ((st : StateOf Version)
       × IsFound (shape_at layout me) st (content_of armed) × (IsFirstView st → ⊥))) → ⊥
   not_another store none = ⊎_elim
       (λ (is : IsNoStore (shape_at layout me) (content_of armed)).
@@ -264,7 +264,7 @@ module _ (layout : Layout) (me : BrickId) (state after : machine.Node) (fault : 
   }
 
   -- a call of its disk was befallen
-  pub cut_short : (left last : MemDisk) (store : StoreFault) → store ≡ Disk
+  pub cut_short : (left last : MemDisk) (store : OpenFault) → store ≡ Disk
       → ((before : machine.Node) → ImageShows layout me before (content_of armed)
       → LeavesOnly moment_of was_left_since armed left (IsAllowedOr (may_be_left armed) (ShowsEither layout me before (reopened before))))
       → RunsAsOpening (Unit {0}) content_of moment_of plan_in is_unlisted (shape_at layout me) armed left (store ≡ NotAStore) (store ≡ Disk)
