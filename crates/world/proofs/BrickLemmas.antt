@@ -2,9 +2,7 @@
 use Rattle.std.proofs.Common.{◌≡◌, ℕ, zero, suc, Bool, true, false, cond, List, [], ◌∷◌, ◌++◌, refl, sym, ap, ◌∙◌, subst}
 use Rattle.std.specs.Prelude.{nat_eq, is_some, replicate, slice_index_or}
 use Rattle.fab_base.specs.declared.identities.BrickId.{BrickId}
-use Rattle.fab_disk.specs.MediumLaws.{fits_shown}
-use Rattle.fab_disk.specs.MemDisk.{content_of, past_of_disk, may_be_left, IsSound}
-use Rattle.fab_disk.specs.PastLaws.{content_is_image}
+use Rattle.fab_disk.specs.MemDisk.{content_of, IsSound}
 use Rattle.fab_disk.specs.declared.mem_disk.MemDisk.{MemDisk}
 use Rattle.frame_store.specs.declared.frames.Frame.{Frame}
 use Rattle.frame_store.specs.declared.shapes.Shape.{Shape}
@@ -19,8 +17,8 @@ use Rattle.brick_store.specs.Images.{IsFound, StandsFor, state_in}
 use Rattle.brick_store.specs.Blocks.{accepted_of}
 use Rattle.protocol.specs.Views.{first_learnt}
 use Rattle.protocol.specs.Replicas.{first_replica}
-use Rattle.replica.specs.Parts.{IsFirstView, part_of, part_in, learnt_or, learnt_in, accepted_in}
-use Rattle.node.specs.Running.{Running, state_of, shape_at, ImageShows, LeavesBrick, IsSameBrick}
+use Rattle.replica.specs.Parts.{part_of, part_in, learnt_or, learnt_in, accepted_in}
+use Rattle.node.specs.Running.{Running, state_of, shape_at, ImageShows, IsSameBrick}
 use Rattle.fab_base.specs.Layouts.{Layout}
 use Rattle.protocol.specs.Nodes as machine
 use Rattle.world.specs.Disks.{ShowsDisk, IsUnwritten}
@@ -32,18 +30,12 @@ found_is shape st other image found stands =
     let once = opens_once shape image found.frames stands.frames found.closed true found.opens stands.opens in
     sym found.state ∙ ap (λ (frames : List Frame). state_in shape frames image) once.0 ∙ stands.state
 
--- what is found shows the brick: its count, and no later view
+-- what is found was opened as often as the brick that it shows
 pub found_boot : (layout : Layout) (me : BrickId) (state : machine.Node) (st : StateOf Version) (image : List ℕ)
     → IsFound (shape_at layout me) st image
     → ImageShows layout me state image → state.boot ≡ st.boot
 found_boot layout me state st image found shows =
     shows.parts.boot ∙ ap (λ (x : StateOf Version). x.boot) (sym (found_is (shape_at layout me) st shows.st image found shows.stands))
-
-pub found_first : (layout : Layout) (me : BrickId) (state : machine.Node) (st : StateOf Version) (image : List ℕ)
-    → IsFound (shape_at layout me) st image
-    → ImageShows layout me state image → IsFirstView st
-found_first layout me state st image found shows =
-    subst IsFirstView (sym (found_is (shape_at layout me) st shows.st image found shows.stands)) shows.first
 
 -- a stopped brick keeps what it kept
 pub stopped_shows : (layout : Layout) (me : BrickId) (state : machine.Node) (image : List ℕ) → ImageShows layout me state image

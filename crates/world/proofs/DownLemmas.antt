@@ -5,7 +5,7 @@ use Rattle.std.proofs.lemmas.Bool.Decides.{nat_tests}
 use Rattle.fab_base.specs.declared.identities.BrickId.{BrickId}
 use Rattle.fab_base.specs.Layouts.{Layout}
 use Rattle.fab_disk.specs.Changing.{End, Whole, Cut, NotBegun, Stands, Change}
-use Rattle.fab_disk.specs.Disk.{IsUntouched, LeavesOnly}
+use Rattle.fab_disk.specs.Disk.{IsUntouched}
 use Rattle.fab_disk.specs.MediumLaws.{fits_shown}
 use Rattle.fab_disk.specs.PastLaws.{content_is_image, image_had}
 use Rattle.fab_disk.specs.Plan.{IsWithin, IsRun, calls_made}
@@ -13,15 +13,13 @@ use Rattle.fab_disk.specs.MemDisk.{content_of, past_of_disk, may_be_left, certai
 use Rattle.fab_disk.specs.MemDisk.{plan_of as plan_in}
 use Rattle.fab_disk.specs.declared.disk.Plan.{Plan}
 use Rattle.fab_disk.specs.declared.mem_disk.MemDisk.{MemDisk}
-use Rattle.frame_store.specs.declared.shapes.Half.{Half}
-use Rattle.frame_store.specs.declared.shapes.Half.TheVariants.{A, B}
 use Rattle.frame_store.specs.declared.shapes.Shape.{Shape}
-use Rattle.frame_store.specs.Images.{OpensAs, InForce, IsNoStore}
+use Rattle.frame_store.specs.Images.{OpensAs}
 use Rattle.frame_store.specs.Listed.{size_of}
 use Rattle.frame_store.proofs.Openings.{opens_once}
 use Rattle.messages.specs.declared.packets.Packet.{Packet}
 use Rattle.version_log.specs.Versions.{Version}
-use Rattle.brick_state.specs.States.{StateOf, booted}
+use Rattle.brick_state.specs.States.{StateOf}
 use Rattle.brick_store.specs.Images.{IsFound, IsListed}
 use Rattle.brick_store.specs.Calls.{opening_calls}
 use Rattle.brick_store.specs.Openings.{opens_appendable, IsCounted, IsWornOut}
@@ -30,7 +28,7 @@ use Rattle.node.specs.Calls.{packet_calls}
 use Rattle.node.specs.Ends.{StepChange, end_of}
 use Rattle.node.specs.Openings.{OpensBrick}
 use Rattle.node.specs.Outcomes.{Outcome}
-use Rattle.node.specs.Running.{Running, state_of, shape_at, ImageShows, ShowsEither, LeavesBrick, IsSameBrick, reopened}
+use Rattle.node.specs.Running.{Running, state_of, shape_at, ImageShows, ShowsEither, IsSameBrick, reopened}
 use Rattle.node.specs.States.{StepsAs}
 use Rattle.node.specs.Faults.{halted_after}
 use Rattle.node.specs.declared.faults.NodeFault.{NodeFault}
@@ -166,11 +164,6 @@ restarted_again : (node : machine.Node) (openings : ℕ) → machine.restarted 1
 unfolding machine.restarted
 restarted_again node openings =
     ap (λ (k : ℕ). record node { boot = k; seq = 0; known = 0; busy = 0; calls = machine.no_calls }) (omega arith)
-
--- where there is a store, it is not that there is none
-no_store_in : (shape : Shape) (half : Half) (image : List ℕ) → IsNoStore shape image → InForce shape half image → ⊥
-no_store_in shape A image none in_force = none.first in_force.0
-no_store_in shape B image none in_force = none.second in_force.0
 
 -- A brick that is down is started over its disk, with a plan.
 module _ (layout : Layout) (me : BrickId) (state after : machine.Node) (fault : Option Fault) (disk armed : MemDisk)

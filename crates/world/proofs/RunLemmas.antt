@@ -16,7 +16,6 @@ use Rattle.lines.specs.declared.forms.Fault.{Fault}
 use Rattle.stripe_code.specs.Codes.{coding}
 use Rattle.fab_base.specs.Layouts.{Layout, Group, group_of}
 use Rattle.protocol.specs.Nodes.{Node, view_at}
-use Rattle.protocol.specs.declared.tellings.Told.TheVariants as told
 use Rattle.protocol.specs.Settings.{Setting}
 use Rattle.protocol.specs.Worlds.{World, Event, Stops, Starts, Before, first_world, is_up, number_of, run}
 use Rattle.protocol_laws.proofs.Books.{Books}
