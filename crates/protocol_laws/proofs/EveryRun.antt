@@ -39,8 +39,7 @@ laws setting views w stamps booked said follows guards facts history numbered tr
   real_time = facts.real_time;
   counted = history.counted;
   aborts = λ k p n cause at. (let shown = history.aborts k p n cause at in (n, shown.0, shown.1, booked.own.each n shown.0 shown.1, shown.2));
-  marks_apart = λ a b first second first_is second_is marked same.
-      sym (booked.own.each a first first_is) ∙ same ∙ booked.own.each b second second_is;
+  own_marks = booked.own;
   refusals = truths;
   full = facts.full;
   well_formed = booked.well_formed;

@@ -32,8 +32,8 @@ use Rattle.protocol.specs.declared.phases.Phase.TheVariants.{Bases}
 use Rattle.protocol.specs.Coordinators.{Coordinator, most_rounds, greatest_refuser, lowest_full, told_in, counts_at, with_reply, pieces_at, delta_at}
 use Rattle.protocol.specs.Nodes.{view_at, top_at, has_later_time}
 use Rattle.protocol.specs.Worlds.{World, Event, Operation, content_on, first_world, mark_of, known_in, happens, run}
-use Rattle.protocol.specs.Happenings.{is_marked, is_of, effect_in, happenings_of}
-use Rattle.protocol_laws.specs.Marked.{WordsFit, AreWithoutGaps}
+use Rattle.protocol.specs.Happenings.{is_of, effect_in, happenings_of}
+use Rattle.protocol_laws.specs.Marked.{WordsFit, AreWithoutGaps, OwnMarks}
 
 -- the packet was sent
 abbrev pub WasSent : World → Packet → Type 0
@@ -326,12 +326,6 @@ AbortsShow w =
     (k p n : ℕ) (cause : Cause) → slice_get w.marks k ≡ Some (End p n (Aborted cause))
     → (a : ℕ) × (o : Operation) × (w.operations a ≡ Some o) × (o.mark ≡ n) × Evidence w a o cause
 
--- no two operations have the same marks
-abbrev pub MarksAreApart : World → Type 0
-MarksAreApart w =
-    (a b : ℕ) (first second : Operation) → w.operations a ≡ Some first → w.operations b ≡ Some second → is_marked first ≡ true
-    → first.mark ≡ second.mark → a ≡ b
-
 -- a member says that its store is full only with as many live records as a brick may keep
 abbrev pub FullIsFull : Setting → World → Type 0
 FullIsFull setting w =
@@ -366,7 +360,7 @@ pub record Laws (setting : Setting) (views : Views) (w : World) : Type 0 where
   pub real_time : (number stripe : ℕ) → FollowsRealTime w number stripe
   pub counted : CountedWereSent w
   pub aborts : AbortsShow w
-  pub marks_apart : MarksAreApart w
+  pub own_marks : OwnMarks w
   pub refusals : RefusalsWereTrue setting w
   pub full : FullIsFull setting w
   pub well_formed : IsWellFormed w.marks
