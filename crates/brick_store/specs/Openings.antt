@@ -55,6 +55,13 @@ pub record EndsBefore (limits : Limits) (frame : Frame) (old new : StateOf Entry
   pub never : taken_by limits frame old ≡ None
   pub ends : (rest : List Frame) → folded limits (records_of (frame ∷ rest)) old ≡ old
 
+-- What these frames make of a brick that keeps nothing is this state, and whole says whether each of them counts.
+pub record IsFold (limits : Limits) (frames : List Frame) (st : StateOf Entry) (whole : Bool) : Type 0 where
+  pub found : folded limits (records_of frames) empty ≡ st
+  pub whole_is : whole ≡ is_whole limits frames empty
+  pub leads : whole ≡ true → Leads limits frames empty st
+  pub members : AllByRecursion GroupHasMembers st.groups
+
 -- the block in the slot is held in memory; that of the zero block need not be
 abbrev pub IsHeld : BTreeMap ℕ (List ℕ) → ℕ → Type 0
 IsHeld blocks slot = ((slot == 4294967295) ≡ true) ⊎ IsSome (get nat_cmp blocks slot)
@@ -103,11 +110,8 @@ pub record StopsReadying {D : Type 0} (seen certain : D → List ℕ) (moment : 
 pub record IsLoaded (tells : Type 0) (shape : Shape) (frames : List Frame) (content : List ℕ) (limits : Limits) (st : StateOf Entry) (whole : Bool)
     (blocks : BTreeMap ℕ (List ℕ)) : Type 0 where
   pub limits_are : limits ≡ limits_of shape
-  pub found : folded (limits_of shape) (records_of frames) empty ≡ st
-  pub leads : whole ≡ true → Leads (limits_of shape) frames empty st
-  pub whole_is : whole ≡ is_whole (limits_of shape) frames empty
+  pub fold : IsFold (limits_of shape) frames st whole
   pub kept : IsKeptState (limits_of shape) st
-  pub members : AllByRecursion GroupHasMembers st.groups
   pub held : AllSlots (IsCached shape.block blocks) st
   pub stored : tells → AllSlots (IsStored shape blocks content) st
   pub boots : st.boot < 2 ^ 32 - 1
