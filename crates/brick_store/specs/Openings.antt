@@ -171,6 +171,16 @@ pub record IsWornOut (shape : Shape) (image : List ℕ) : Type 0 where
   pub worn : before.boot ≡ 2 ^ 32 - 1
 
 module _ {D : Type 0} (d : on_disk.Ghosts D) where
+  -- The list of a store that was read was made ready for the count of an opening, by so many calls and by how that ended: it still makes this state.
+  pub record Readies (calls : ℕ) (st : StateOf Entry) (old : Held D) (new : D) (end : End) : Type 0 where
+    pub moments : d.tells → old.closed ≡ true → LeavesOnly d.moment d.left_since old.disk new
+        (IsAllowedOr (d.may_leave old.disk) (IsKeptIn old.shape st (d.seen old.disk)))
+    pub run : IsRun d.tells d.moment d.plan d.unlisted calls old.disk new (end ≡ Whole) (end ≡ Cut)
+    pub cut : end ≡ Cut → d.tells → d.unlisted old.disk → old.closed ≡ true
+        → StopsReadying d.seen d.certain d.moment calls old.disk new (IsKeptIn old.shape st (d.seen old.disk))
+    pub not_begun : end ≡ NotBegun → IsUntouched d.seen d.may_leave d.moment d.left_since old.disk new
+    pub cause : Kept (d.faults old.disk) (d.faults new) (d.sound old.disk) (d.sound new) (end ≡ Cut)
+
   -- An opening of a store that was read, by how it ended: its list makes this state, and whole says whether each frame of it counts.
   pub record Starts (whole : Bool) (st : StateOf Entry) (old : Held D) (new : D) (end : End) : Type 0 where
     pub moments : d.tells → old.closed ≡ true → LeavesOnly d.moment d.left_since old.disk new
