@@ -1,9 +1,10 @@
 -- What an opening reads of a store.
-use Rattle.std.proofs.Common.{◌≡◌, ◌⊎◌, inl, inr, ℕ, ◌-◌, ◌^◌, ◌<◌, ◌≤◌, Bool, true, false, cond, eqb, ltb, Option, Some, None, List, [], ◌∷◌, length, drop, refl, sym, ap, subst, ◌∙◌, arith, length-take, length-drop}
+use Rattle.std.proofs.Common.{◌≡◌, ◌⊎◌, inl, inr, ℕ, ◌-◌, ◌^◌, ◌<◌, ◌≤◌, Bool, true, false, cond, eqb, ltb, Option, Some, None, Result, Ok, Err, List, [], ◌∷◌, length, drop, refl, sym, ap, subst, ◌∙◌, arith, length-take, length-drop}
 use Rattle.std.specs.Prelude.{replicate}
 use Rattle.std.specs.List.{AllByRecursion}
 use Rattle.std.specs.Ordering.{nat_cmp}
 use Rattle.std.specs.Option.{IsSome, unwrap_or}
+use Rattle.std.specs.Result.{IfOk}
 use Rattle.std.specs.BTreeMap.{BTreeMap, get}
 use Rattle.std.proofs.lemmas.Bool.{or_cases, ltb-true, cases_lt}
 use Rattle.std.proofs.lemmas.List.{nil_from_length}
@@ -23,10 +24,11 @@ use Rattle.brick_state.specs.Slots.{slots_in, slots_of}
 use Rattle.brick_state.specs.KeptStates.{IsKeptState}
 use Rattle.brick_state.proofs.Keeping.{empty_kept, folded_keeps}
 use Rattle.brick_state.proofs.UsedSlots.{kept_slots, each_slot}
+use Rattle.brick_store.specs.declared.faults.OpenFault.{OpenFault}
 use Rattle.brick_store.specs.Blocks.{cached}
-use Rattle.brick_store.specs.Images.{records_of, limits_for, limits_of}
-use Rattle.brick_store.specs.Standing.{AllSlots, GroupHasMembers, IsCached, IsStored, Leads}
-use Rattle.brick_store.specs.Openings.{IsHeld, AreRead, IsInside, IsLoaded, is_whole}
+use Rattle.brick_store.specs.Images.{records_of, limits_of}
+use Rattle.brick_store.specs.Standing.{AllSlots, IsCached, IsStored}
+use Rattle.brick_store.specs.Openings.{IsFold, IsHeld, AreRead, IsInside, IsLoaded}
 
 -- ---- a file that has a frame has all slots
 
@@ -130,39 +132,38 @@ module _ (tells : Type 0) (shape : Shape) (size : ℕ) (content : List ℕ) (blo
 
 -- ---- all of it
 
-limits_same : (records : ℕ) (shape : Shape) → records ≡ shape.records → limits_for records ≡ limits_of shape
-limits_same records shape is = ap limits_for is
-
-module _ {D : Type 0} (tells : Type 0) (seen : D → List ℕ) (held : Held D) (records : ℕ) (limits : Limits) (st : StateOf Entry)
-    (is : records ≡ held.shape.records)
-    (state : st ≡ folded (limits_for records) (records_of held.frames) empty) where
-  pub found_in_shape : folded (limits_of held.shape) (records_of held.frames) empty ≡ st
-  found_in_shape = ap (λ (l : Limits). folded l (records_of held.frames) empty) (sym (limits_same records held.shape is)) ∙ sym state
-
-  pub kept_in_shape : IsKeptState (limits_of held.shape) st
-  kept_in_shape = subst (λ (s : StateOf Entry). IsKeptState (limits_of held.shape) s) found_in_shape
+module _ {D : Type 0} (tells : Type 0) (seen : D → List ℕ) (held : Held D) (st : StateOf Entry) (whole : Bool)
+    (fold : IsFold (limits_of held.shape) held.frames st whole) where
+  kept_in_shape : IsKeptState (limits_of held.shape) st
+  kept_in_shape = subst (λ (s : StateOf Entry). IsKeptState (limits_of held.shape) s) fold.found
       (folded_keeps (limits_of held.shape) (records_of held.frames) empty (empty_kept (limits_of held.shape)))
 
-  pub loaded_from : (whole : Bool) (blocks : BTreeMap ℕ (List ℕ)) (slots : List ℕ) → limits ≡ limits_for records
-      → (whole ≡ true → Leads (limits_for records) held.frames empty st) → whole ≡ is_whole (limits_for records) held.frames empty → AllByRecursion GroupHasMembers st.groups
-      → slots ≡ slots_of st → AllByRecursion (IsHeld blocks) slots → AreRead tells held.shape held.size (seen held.disk) blocks
+  -- what was read of a store that is not worn
+  loaded_from : (limits : Limits) (blocks : BTreeMap ℕ (List ℕ)) (slots : List ℕ) → limits ≡ limits_of held.shape → slots ≡ slots_of st
+      → AllByRecursion (IsHeld blocks) slots → AreRead tells held.shape held.size (seen held.disk) blocks
       → (tells → Shows seen held) → st.boot < 2 ^ 32 - 1
       → IsLoaded tells held.shape held.frames (seen held.disk) limits st whole blocks
-  loaded_from whole blocks slots limits_are leads whole_is members slots_are all read shows boots =
+  loaded_from limits blocks slots limits_are slots_are all read shows boots =
       let here : AllByRecursion (IsHeld blocks) (slots_of st) = subst (λ (xs : List ℕ). AllByRecursion (IsHeld blocks) xs) slots_are all in
       record {
-        limits_are = limits_are ∙ limits_same records held.shape is;
-        found = found_in_shape;
-        leads = λ w. subst (λ (l : Limits). Leads l held.frames empty st) (limits_same records held.shape is) (leads w);
-        whole_is = whole_is ∙ ap (λ (l : Limits). is_whole l held.frames empty) (limits_same records held.shape is);
+        limits_are = limits_are;
+        fold = fold;
         kept = kept_in_shape;
-        members = members;
         held = all_cached tells held.shape held.size (seen held.disk) blocks read st here;
         stored = λ told. all_stored tells held.shape held.size (seen held.disk) blocks read told (shows told).size st here;
         boots = boots;
       }
 
+  -- the same of a reading of the blocks that may have failed
+  pub loaded_if : (limits : Limits) (slots : List ℕ) (r : Result (BTreeMap ℕ (List ℕ)) OpenFault) → limits ≡ limits_of held.shape → slots ≡ slots_of st
+      → IfOk r (λ blocks. AllByRecursion (IsHeld blocks) slots) → IfOk r (λ blocks. AreRead tells held.shape held.size (seen held.disk) blocks)
+      → (tells → Shows seen held) → st.boot < 2 ^ 32 - 1
+      → IfOk r (λ blocks. IsLoaded tells held.shape held.frames (seen held.disk) limits st whole blocks)
+  loaded_if limits slots (Ok blocks) limits_are slots_are all read shows boots =
+      loaded_from limits blocks slots limits_are slots_are all read shows boots
+  loaded_if limits slots (Err fault) limits_are slots_are all read shows boots = tt
+
   -- no slot is past the end of the file
   pub inside_from : (slots : List ℕ) → slots ≡ slots_of st → Shows seen held → AllByRecursion (IsInside held.shape held.size) slots
   inside_from slots slots_are shows = subst (λ (xs : List ℕ). AllByRecursion (IsInside held.shape held.size) xs) (sym slots_are)
-      (none_outside seen held st shows kept_in_shape found_in_shape)
+      (none_outside seen held st shows kept_in_shape fold.found)

@@ -1,10 +1,12 @@
 -- The laws of openings.
-use Rattle.std.proofs.Common.{◌≡◌, ◌⊎◌, inl, inr, ⊎_elim, ℕ, ◌+◌, ◌≤◌, Bool, List, Result, Ok, Err, OnErr, refl, sym, ap, subst, ◌∙◌, arith}
+use Rattle.std.proofs.Common.{◌≡◌, ◌⊎◌, inl, inr, ⊎_elim, ℕ, ◌+◌, ◌≤◌, Bool, true, List, Result, Ok, Err, OnErr, refl, sym, ap, subst, ◌∙◌, arith}
 use Rattle.fab_disk.specs.declared.disk.Disk as on_disk
 use Rattle.fab_disk.specs.Disk.{IsUntouched, Kept, LeavesOnly}
 use Rattle.fab_disk.specs.Changing.{End, Whole, Cut, NotBegun, Still}
 use Rattle.fab_disk.proofs.Moments.{widened, kept_both}
-use Rattle.fab_disk.proofs.Plans.{run_after, run_calls, run_not_begun}
+use Rattle.fab_disk.proofs.Plans.{run_after, run_as, run_calls, run_not_begun}
+use Rattle.fab_disk.specs.Plan.{IsRun}
+use Rattle.std.specs.Result.{IsOk}
 use Rattle.frame_store.specs.declared.faults.OpenFault.{OpenFault as ListFault}
 use Rattle.frame_store.specs.declared.faults.OpenFault.TheVariants as lists
 use Rattle.frame_store.specs.declared.frames.Frame.{Frame}
@@ -23,11 +25,12 @@ use Rattle.brick_store.specs.Bricks.{open_fault_of, start_fault_of}
 use Rattle.brick_store.specs.Ends.{end_of}
 use Rattle.brick_store.specs.Calls.{is_appendable, opening_calls}
 use Rattle.brick_store.specs.Images.{limits_of, StandsFor, StandsForEither}
-use Rattle.brick_store.specs.Openings.{IsAllowedOr, IsCounted, IsKeptIn, IsKeptInEither, Opens, Starts, StopsOpening, found_in, is_whole, opens_appendable, stopped_by}
+use Rattle.brick_store.specs.Openings.{IsAllowedOr, IsCounted, IsKeptIn, IsKeptInEither, Opens, Readies, Starts, StopsOpening, StopsReadying, found_in, is_whole, opens_appendable, stopped_by}
 use Rattle.brick_store.proofs.Stepping.{refused}
 use Rattle.brick_store.proofs.Counting.{opening_is}
 use Rattle.brick_store.proofs.CutOpenings.{opening_cut, read_first}
 use Rattle.brick_store.proofs.Opened.{boot_there, found_is, opening_moments}
+use Rattle.brick_store.proofs.StateChanges.{not_whole}
 use Rattle.brick_store.proofs.Starting.{still_allowed, then_allowed}
 
 -- ---- ends
@@ -68,13 +71,13 @@ read_meant lists.NotAStore is = absurd cc
 read_meant lists.NoMemory is = absurd cc
 
 -- what the end of the making ready means for its fault
-pub cut_meant : (fault : StoreFault) → end_of (refused fault) ≡ Cut → fault ≡ stores.Disk
+cut_meant : (fault : StoreFault) → end_of (refused fault) ≡ Cut → fault ≡ stores.Disk
 cut_meant stores.Disk is = refl
 cut_meant (stores.Full live) is = absurd cc
 cut_meant stores.Halted is = absurd cc
 cut_meant stores.NoMemory is = absurd cc
 
-pub memory_meant : (fault : StoreFault) → (refused fault ≡ refused stores.Disk) ⊎ (refused fault ≡ refused stores.NoMemory)
+memory_meant : (fault : StoreFault) → (refused fault ≡ refused stores.Disk) ⊎ (refused fault ≡ refused stores.NoMemory)
     → end_of (refused fault) ≡ NotBegun → fault ≡ stores.NoMemory
 memory_meant stores.Disk only is = absurd cc
 memory_meant (stores.Full live) (inl only) is = absurd cc
@@ -107,6 +110,34 @@ module _ {D : Type 0} (d : on_disk.Ghosts D) (only_now : (disk : D) (image : Lis
       let either = StandsForEither shape st (booted (st.boot + 1) st) in
       widened d.moment d.left_since old new (IsAllowedOr (d.may_leave old) either) either
       (λ image at. ⊎_elim (λ had. inl (stands image had)) (λ now. now) at) (run.moments told st (stands (d.seen old) seen_is_left))
+
+  -- ---- a list that was made ready
+
+  -- in the words of how it ended
+  pub ready_by : (calls : ℕ) (st : StateOf Entry) (old : Held D) (new : D) (r : Result (Unit {0}) StoreFault)
+      → OnErr r ((r ≡ Err stores.Disk) ⊎ (r ≡ Err stores.NoMemory))
+      → (d.tells → old.closed ≡ true → LeavesOnly d.moment d.left_since old.disk new
+      (IsAllowedOr (d.may_leave old.disk) (IsKeptIn old.shape st (d.seen old.disk))))
+      → IsRun d.tells d.moment d.plan d.unlisted calls old.disk new (IsOk r) (r ≡ Err stores.Disk)
+      → (d.tells → d.unlisted old.disk → old.closed ≡ true → r ≡ Err stores.Disk
+      → StopsReadying d.seen d.certain d.moment calls old.disk new (IsKeptIn old.shape st (d.seen old.disk)))
+      → (r ≡ Err stores.NoMemory → IsUntouched d.seen d.may_leave d.moment d.left_since old.disk new)
+      → Kept (d.faults old.disk) (d.faults new) (d.sound old.disk) (d.sound new) (r ≡ Err stores.Disk) → Readies d calls st old new (end_of r)
+  ready_by calls st old new (Ok value) only moments run cut memory cause = record {
+    moments = moments;
+    run = run_as d.tells d.moment d.plan d.unlisted calls old.disk new _ _ _ _ (λ is. refl) (λ is. absurd cc) (λ a b. absurd (a refl)) run;
+    cut = λ is. absurd cc;
+    not_begun = λ is. absurd cc;
+    cause = kept_for _ _ _ _ _ _ (λ is. absurd cc) cause;
+  }
+  ready_by calls st old new (Err fault) only moments run cut memory cause = record {
+    moments = moments;
+    run = run_as d.tells d.moment d.plan d.unlisted calls old.disk new _ _ _ _ (λ is. absurd (not_whole fault is)) (λ is. ap refused (cut_meant fault is))
+        (λ a b. run.waits (λ ok. absurd cc) (λ is. b (ap end_of is))) run;
+    cut = λ is told free closed. cut told free closed (ap refused (cut_meant fault is));
+    not_begun = λ is. memory (ap refused (memory_meant fault only is));
+    cause = kept_for _ _ _ _ _ _ (λ is. ap refused (cut_meant fault is)) cause;
+  }
 
   -- ---- an opening that was refused while it read
 

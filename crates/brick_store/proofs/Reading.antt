@@ -1,8 +1,8 @@
 -- Frames read as records, one after the other.
-use Rattle.std.proofs.Common.{◌≡◌, ℕ, suc, add-one, drop-cons, ◌+◌, ◌<◌, ◌≤◌, true, false, Option, Some, None, List, [], ◌∷◌, ◌++◌, length, take, drop, get_or, refl, sym, ap, subst, ◌∙◌}
-use Rattle.std.proofs.Math.Seq.{take-suc}
-use Rattle.std.proofs.lemmas.List.{take-append-drop, take_all, append-nil}
-use Rattle.std.specs.Option.{IfSome}
+use Rattle.std.proofs.Common.{◌≡◌, ℕ, Bool, true, false, Option, Some, None, List, [], ◌∷◌, ◌++◌, refl, sym, ap, subst, ◌∙◌}
+use Rattle.std.proofs.lemmas.List.{append-nil}
+use Rattle.std.specs.List.{AllByRecursion}
+use Rattle.std.specs.Option.{IfSome, option_and_then}
 use Rattle.stamp_store.specs.declared.kept_records.Kept.{Kept}
 use Rattle.stamp_store.specs.declared.kept_records.Kept.TheVariants.{Boot, Ballots, Order}
 use Rattle.stamp_store.specs.declared.kept_records.Kept.TheVariants as kinds
@@ -22,8 +22,8 @@ use Rattle.brick_state.specs.Entries.{Entry}
 use Rattle.brick_state.specs.States.{StateOf, empty}
 use Rattle.brick_state.specs.Folds.{Limits, applied, folded}
 use Rattle.brick_store.specs.Images.{or_logged, record_of, records_of}
-use Rattle.brick_store.specs.Standing.{Leads}
-use Rattle.brick_store.specs.Openings.{IsTaken, EndsBefore, taken_by, goes_on, is_whole}
+use Rattle.brick_store.specs.Standing.{GroupHasMembers, Leads}
+use Rattle.brick_store.specs.Openings.{IsFold, IsTaken, EndsBefore, taken_by, goes_on, is_whole}
 use Rattle.brick_store.proofs.Stepping.{leads_more}
 use Rattle.brick_store.proofs.Changing.{leads_folded}
 
@@ -114,52 +114,65 @@ all_whole : (limits : Limits) (st : StateOf Entry) → is_whole limits [] st ≡
 unfolding is_whole
 all_whole limits st = refl
 
--- a frame that was taken is one more
-pub taken_more : (limits : Limits) (frames : List Frame) (i : ℕ) (frame : Frame) (a b next : StateOf Entry) → i < length frames
-    → frame ≡ get_or frames i frame → Leads limits (take i frames) a b → IsTaken limits frame b next
-    → Leads limits (take (i + 1) frames) a next
-taken_more limits frames i frame a b next within is leads taken =
-    let more : take (i + 1) frames ≡ take i frames ++ frame ∷ [] = rw add-one (take-suc frames i frame within)
-    ∙ ap (λ (x : Frame). take i frames ++ x ∷ []) (sym is) in
-    subst (λ (xs : List Frame). Leads limits xs a next) (sym more)
-    (leads_more limits (take i frames) frame taken.read a b next leads taken.is taken.leads)
+-- what comes after a list that ended early changes nothing
+stopped_more : (limits : Limits) (xs rest : List Frame) (a : StateOf Entry) → is_whole limits xs a ≡ false
+    → (folded limits (records_of (xs ++ rest)) a ≡ folded limits (records_of xs) a) × (is_whole limits (xs ++ rest) a ≡ false)
+unfolding is_whole folded records_of
+stopped_more limits [] rest a ended = absurd cc
+stopped_more limits (x ∷ xs) rest a ended = by (λ b at. stopped_more limits xs rest b at) (record_of x) refl
+  where
+    by : ((b : StateOf Entry) → is_whole limits xs b ≡ false
+        → (folded limits (records_of (xs ++ rest)) b ≡ folded limits (records_of xs) b) × (is_whole limits (xs ++ rest) b ≡ false))
+        → (r : Option Record) → record_of x ≡ r
+        → (folded limits (records_of (x ∷ xs ++ rest)) a ≡ folded limits (records_of (x ∷ xs)) a) × (is_whole limits (x ∷ xs ++ rest) a ≡ false)
+    by more None at = (rw at refl, rw at refl)
+    by more (Some r) at = then (applied limits r a) refl
+      where
+        then : (next : Option (StateOf Entry)) → applied limits r a ≡ next
+            → (folded limits (records_of (x ∷ xs ++ rest)) a ≡ folded limits (records_of (x ∷ xs)) a) × (is_whole limits (x ∷ xs ++ rest) a ≡ false)
+        then None never = (rw (at, never) refl, rw (at, never) refl)
+        then (Some b) on =
+            let rest_of = more b (subst (λ (o : Option (StateOf Entry)). goes_on o (is_whole limits xs) ≡ false) on
+            (subst (λ (o : Option Record). goes_on (option_and_then (λ read. applied limits read a) o) (is_whole limits xs) ≡ false) at ended)) in
+            (rw (at, on) rest_of.0, rw (at, on) rest_of.1)
 
--- what the frames make where the list ends before one of them
-pub ended_at : (limits : Limits) (frames : List Frame) (i : ℕ) (frame : Frame) (a b next : StateOf Entry) → i < length frames
-    → frame ≡ get_or frames i frame → Leads limits (take i frames) a b → EndsBefore limits frame b next
-    → next ≡ folded limits (records_of frames) a
-ended_at limits frames i frame a b next within is leads ends =
-    let rest = drop (suc i) frames in
-    let left : drop i frames ≡ frame ∷ rest = drop-cons frames i frame within ∙ ap (λ (x : Frame). x ∷ rest) (sym is) in
-    let split : take i frames ++ frame ∷ rest ≡ frames = ap (λ (xs : List Frame). take i frames ++ xs) (sym left) ∙ take-append-drop i frames in
-    ends.same ∙ sym (ends.ends rest) ∙ sym (leads_then limits (take i frames) (frame ∷ rest) a b leads)
-    ∙ ap (λ (xs : List Frame). folded limits (records_of xs) a) split
+-- ---- a list that is folded as it is read
 
--- then not all of them count
-pub ended_whole : (limits : Limits) (frames : List Frame) (i : ℕ) (frame : Frame) (a b next : StateOf Entry) → i < length frames
-    → frame ≡ get_or frames i frame → Leads limits (take i frames) a b → EndsBefore limits frame b next → false ≡ is_whole limits frames a
-ended_whole limits frames i frame a b next within is leads ends =
-    let rest = drop (suc i) frames in
-    let left : drop i frames ≡ frame ∷ rest = drop-cons frames i frame within ∙ ap (λ (x : Frame). x ∷ rest) (sym is) in
-    let split : take i frames ++ frame ∷ rest ≡ frames = ap (λ (xs : List Frame). take i frames ++ xs) (sym left) ∙ take-append-drop i frames in
-    sym (stops_whole limits frame rest b ends.never) ∙ sym (whole_then limits (take i frames) (frame ∷ rest) a b leads)
-    ∙ ap (λ (xs : List Frame). is_whole limits xs a) split
+-- before the first frame
+pub no_fold : (limits : Limits) (st : StateOf Entry) → st ≡ empty → AllByRecursion GroupHasMembers st.groups → IsFold limits [] st true
+unfolding folded records_of is_whole Leads
+no_fold limits st is members = record { found = sym is; whole_is = refl; leads = λ whole. sym is; members = members }
 
-pub leads_nothing : (limits : Limits) (st : StateOf Entry) → st ≡ empty → Leads limits [] empty st
-unfolding Leads
-leads_nothing limits st is = sym is
+-- one frame more, which was taken or ended the list
+pub fold_more : (limits : Limits) (frames : List Frame) (frame : Frame) (st next : StateOf Entry) (whole now : Bool) → whole ≡ true
+    → IsFold limits frames st whole → (now ≡ true → IsTaken limits frame st next) → (now ≡ false → EndsBefore limits frame st next)
+    → AllByRecursion GroupHasMembers next.groups → IsFold limits (frames ++ frame ∷ []) next now
+fold_more limits frames frame st next whole true is so_far taken ended members =
+    let take = taken refl in
+    let leads = leads_more limits frames frame take.read empty st next (so_far.leads is) take.is take.leads in
+    record {
+      found = leads_folded limits (frames ++ frame ∷ []) empty next leads;
+      whole_is = sym (all_whole limits next) ∙ sym (whole_then limits (frames ++ frame ∷ []) [] empty next leads)
+          ∙ ap (λ (xs : List Frame). is_whole limits xs empty) (append-nil (frames ++ frame ∷ []));
+      leads = λ all. leads;
+      members = members;
+    }
+fold_more limits frames frame st next whole false is so_far taken ended members =
+    let leads = so_far.leads is in
+    let ends = ended refl in
+    record {
+      found = leads_then limits frames (frame ∷ []) empty st leads ∙ ends.ends [] ∙ sym ends.same;
+      whole_is = sym (stops_whole limits frame [] st ends.never) ∙ sym (whole_then limits frames (frame ∷ []) empty st leads);
+      leads = λ all. absurd cc;
+      members = members;
+    }
 
--- all of them were taken
-pub all_taken : (limits : Limits) (frames : List Frame) (i : ℕ) (a b : StateOf Entry) → length frames ≤ i → Leads limits (take i frames) a b
-    → Leads limits frames a b
-all_taken limits frames i a b past leads = subst (λ (xs : List Frame). Leads limits xs a b) (take_all i frames past) leads
-
-pub all_whole_at : (limits : Limits) (frames : List Frame) (i : ℕ) (a b : StateOf Entry) → length frames ≤ i → Leads limits (take i frames) a b
-    → true ≡ is_whole limits frames a
-all_whole_at limits frames i a b past leads =
-    sym (all_whole limits b) ∙ sym (whole_then limits frames [] a b (all_taken limits frames i a b past leads))
-    ∙ ap (λ (xs : List Frame). is_whole limits xs a) (append-nil frames)
-
-pub leads_all : (limits : Limits) (frames : List Frame) (i : ℕ) (a b : StateOf Entry) → length frames ≤ i → Leads limits (take i frames) a b
-    → b ≡ folded limits (records_of frames) a
-leads_all limits frames i a b past leads = sym (leads_folded limits frames a b (all_taken limits frames i a b past leads))
+-- what comes behind a list that ended early changes nothing
+pub fold_past : (limits : Limits) (frames : List Frame) (frame : Frame) (st : StateOf Entry) (whole : Bool) → whole ≡ false
+    → IsFold limits frames st whole → IsFold limits (frames ++ frame ∷ []) st whole
+fold_past limits frames frame st whole is so_far =
+    let more = stopped_more limits frames (frame ∷ []) empty (sym so_far.whole_is ∙ is) in
+    record { found = more.0 ∙ so_far.found; whole_is = is ∙ sym more.1; leads = λ all. absurd (differ (sym is ∙ all)); members = so_far.members }
+  where
+    differ : false ≡ true → ⊥
+    differ e = cc

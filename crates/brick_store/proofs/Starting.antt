@@ -124,7 +124,7 @@ module _ {D : Type 0} (d : on_disk.Ghosts D) where
           leads = subst (λ (s : Shape). Leads (limits_of s) new.frames empty (state_of index)) to leads;
           kept = subst (λ (s : Shape). IsKeptState (limits_of s) (state_of index)) to
               (subst (λ (x : StateOf Entry). IsKeptState (limits_of shape) x) back (boot_kept (limits_of shape) (st.boot + 1) st loaded.kept));
-          members = subst (λ (x : StateOf Entry). AllByRecursion GroupHasMembers x.groups) back loaded.members;
+          members = subst (λ (x : StateOf Entry). AllByRecursion GroupHasMembers x.groups) back loaded.fold.members;
         };
         cached_all = subst (λ (s : Shape). AllSlots (IsCached s.block blocks) (state_of index)) to
             (subst (λ (x : StateOf Entry). AllSlots (IsCached shape.block blocks) x) back loaded.held);

@@ -55,6 +55,13 @@ pub record EndsBefore (limits : Limits) (frame : Frame) (old new : StateOf Entry
   pub never : taken_by limits frame old ≡ None
   pub ends : (rest : List Frame) → folded limits (records_of (frame ∷ rest)) old ≡ old
 
+-- What these frames make of a brick that keeps nothing is this state, and whole says whether each of them counts.
+pub record IsFold (limits : Limits) (frames : List Frame) (st : StateOf Entry) (whole : Bool) : Type 0 where
+  pub found : folded limits (records_of frames) empty ≡ st
+  pub whole_is : whole ≡ is_whole limits frames empty
+  pub leads : whole ≡ true → Leads limits frames empty st
+  pub members : AllByRecursion GroupHasMembers st.groups
+
 -- the block in the slot is held in memory; that of the zero block need not be
 abbrev pub IsHeld : BTreeMap ℕ (List ℕ) → ℕ → Type 0
 IsHeld blocks slot = ((slot == 4294967295) ≡ true) ⊎ IsSome (get nat_cmp blocks slot)
@@ -103,11 +110,8 @@ pub record StopsReadying {D : Type 0} (seen certain : D → List ℕ) (moment : 
 pub record IsLoaded (tells : Type 0) (shape : Shape) (frames : List Frame) (content : List ℕ) (limits : Limits) (st : StateOf Entry) (whole : Bool)
     (blocks : BTreeMap ℕ (List ℕ)) : Type 0 where
   pub limits_are : limits ≡ limits_of shape
-  pub found : folded (limits_of shape) (records_of frames) empty ≡ st
-  pub leads : whole ≡ true → Leads (limits_of shape) frames empty st
-  pub whole_is : whole ≡ is_whole (limits_of shape) frames empty
+  pub fold : IsFold (limits_of shape) frames st whole
   pub kept : IsKeptState (limits_of shape) st
-  pub members : AllByRecursion GroupHasMembers st.groups
   pub held : AllSlots (IsCached shape.block blocks) st
   pub stored : tells → AllSlots (IsStored shape blocks content) st
   pub boots : st.boot < 2 ^ 32 - 1
@@ -167,6 +171,16 @@ pub record IsWornOut (shape : Shape) (image : List ℕ) : Type 0 where
   pub worn : before.boot ≡ 2 ^ 32 - 1
 
 module _ {D : Type 0} (d : on_disk.Ghosts D) where
+  -- The list of a store that was read was made ready for the count of an opening, by so many calls and by how that ended: it still makes this state.
+  pub record Readies (calls : ℕ) (st : StateOf Entry) (old : Held D) (new : D) (end : End) : Type 0 where
+    pub moments : d.tells → old.closed ≡ true → LeavesOnly d.moment d.left_since old.disk new
+        (IsAllowedOr (d.may_leave old.disk) (IsKeptIn old.shape st (d.seen old.disk)))
+    pub run : IsRun d.tells d.moment d.plan d.unlisted calls old.disk new (end ≡ Whole) (end ≡ Cut)
+    pub cut : end ≡ Cut → d.tells → d.unlisted old.disk → old.closed ≡ true
+        → StopsReadying d.seen d.certain d.moment calls old.disk new (IsKeptIn old.shape st (d.seen old.disk))
+    pub not_begun : end ≡ NotBegun → IsUntouched d.seen d.may_leave d.moment d.left_since old.disk new
+    pub cause : Kept (d.faults old.disk) (d.faults new) (d.sound old.disk) (d.sound new) (end ≡ Cut)
+
   -- An opening of a store that was read, by how it ended: its list makes this state, and whole says whether each frame of it counts.
   pub record Starts (whole : Bool) (st : StateOf Entry) (old : Held D) (new : D) (end : End) : Type 0 where
     pub moments : d.tells → old.closed ≡ true → LeavesOnly d.moment d.left_since old.disk new

@@ -8,11 +8,11 @@ ghost use Rattle.brick_store.specs.Images.{StandsFor};
 ghost use Rattle.brick_store.specs.Openings.{disk_in, end_in, IsCounted, IsWornOut, Opens};
 
 use crate::faults::OpenFault;
+use crate::readings::Folded;
 use crate::stores::BrickStore;
 use crate::taking_up::take_up;
 use fab_base::BrickId;
 use fab_disk::Disk;
-use frame_store::Collected;
 use std::alloc::Global;
 
 /// Opens the store that a disk holds for a brick: its count of openings is one greater, and nothing else is changed.
@@ -41,12 +41,16 @@ pub fn open_store<D: Disk>(
     ensures not_a_store { IfErr result (λ e. e.0 ≡ OpenFault.NotAStore → D.tells → IsNoStore (shape_of me.0 block records) (D.seen disk)) }
     ensures worn { IfErr result (λ e. e.0 ≡ OpenFault.Worn → D.tells → IsWornOut (shape_of me.0 block records) (D.seen disk)) }
 {
-    let mut list = Collected::new(alloc);
-    let mut frames = match frame_store::open_store(alloc, disk, me.0, block, records, &mut list) {
+    let mut folded = match Folded::new(alloc, records) {
+        Ok(folded) => folded,
+        Err(refused) => return Err((OpenFault::from(refused), disk)),
+    };
+    let opened = frame_store::open_store(alloc, disk, me.0, block, records, &mut folded);
+    let mut frames = match opened {
         Ok(frames) => frames,
         Err((fault, disk)) => return Err((OpenFault::from(fault), disk)),
     };
-    match take_up(alloc, &mut frames, list.frames(), block, records) {
+    match take_up(alloc, &mut frames, folded, block) {
         Ok(taken) => Ok(BrickStore {
             alloc,
             frames,

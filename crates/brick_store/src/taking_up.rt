@@ -1,22 +1,24 @@
 //! Taking up the store that a list of frames makes.
 
-ghost use Rattle.std.specs.Prelude.{◌≡◌, ◌≢◌, ◌+◌, ◌-◌, ◌<◌, ◌^◌, true, false, Err, IfOk, IsOk};
+ghost use Rattle.std.specs.Prelude.{◌≡◌, ◌≢◌, ◌+◌, ◌-◌, ◌<◌, ◌^◌, false, Err, IfOk, IsOk};
 ghost use Rattle.frame_store.specs.Layouts.{IsShape};
 ghost use Rattle.frame_store.specs.Stores.{IsRead};
 ghost use Rattle.brick_state.specs.States.{booted, empty};
 ghost use Rattle.brick_state.specs.Indexes.{state_of};
+ghost use Rattle.brick_state.specs.Indexes as indexes;
 ghost use Rattle.brick_store.specs.Bricks.{start_fault_of};
 ghost use Rattle.brick_store.specs.Images.{limits_of};
 ghost use Rattle.brick_store.specs.Standing.{AllSlots, IsStored, Standing};
-ghost use Rattle.brick_store.specs.Openings.{is_whole, found_in, Starts, opening_end};
+ghost use Rattle.brick_store.specs.Openings.{IsFold, is_whole, found_in, Starts, opening_end};
 
 use crate::faults::{OpenFault, StoreFault};
 use crate::loading::load;
+use crate::readings::Folded;
 use crate::starts::start;
 use brick_state::Index;
 use fab_base::Bytes;
 use fab_disk::Disk;
-use frame_store::{Frame, FrameStore};
+use frame_store::FrameStore;
 use std::alloc::Global;
 use std::collections::BTreeMap;
 
@@ -38,19 +40,18 @@ fn refusal_of(fault: StoreFault) -> OpenFault
     }
 }
 
-/// Reads the store that the frames make into memory, and counts the opening. NotAStore only where the file changed since its
-/// frames were read. All faults but Disk come before the disk is touched.
+/// Takes up the store that its frames make, with its blocks in memory, and counts the opening. NotAStore only where the file changed
+/// since its frames were read. All faults but Disk come before the disk is touched.
 pub(crate) fn take_up<D: Disk>(
     alloc: Global,
     frames: &mut FrameStore<D>,
-    list: &[Frame],
+    folded: Folded,
     block: u16,
-    records: u32,
 ) -> Result<TakenUp, OpenFault>
-    requires list { list.now ≡ frames.old.frames }
     requires shape { IsShape frames.old.shape }
     requires block { block ≡ frames.old.shape.block }
-    requires records { records ≡ frames.old.shape.records }
+    requires limits { indexes.limits_of folded.index ≡ limits_of frames.old.shape }
+    requires fold { IsFold (limits_of frames.old.shape) frames.old.frames (state_of folded.index) folded.whole }
     requires runs { frames.old.halted ≡ false }
     requires read { IsRead D.tells D.seen frames.old }
     ensures standing { IfOk result (λ made. Standing D.tells D.seen D.may_leave frames.new made.index made.blocks made.zero) }
@@ -67,12 +68,12 @@ pub(crate) fn take_up<D: Disk>(
     ensures a_store { D.tells → result ≢ Err OpenFault.NotAStore }
 {
     let zero = Bytes::from_vec(vec![in alloc; 0u8; block as usize]?);
-    let loaded = load(alloc, frames, list, block, records)?;
-    let mut index = loaded.folded.index;
-    match start(alloc, frames, &mut index, loaded.folded.whole) {
+    let blocks = load(alloc, frames, &folded, block)?;
+    let Folded { mut index, whole } = folded;
+    match start(alloc, frames, &mut index, whole) {
         Ok(()) => Ok(TakenUp {
             index,
-            blocks: loaded.blocks,
+            blocks,
             zero,
         }),
         Err(fault) => Err(refusal_of(fault)),

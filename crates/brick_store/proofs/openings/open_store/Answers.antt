@@ -3,6 +3,7 @@ use Rattle.std.proofs.Common.{◌∙◌, Err, refl, sym, ap, subst}
 use Rattle.fab_disk.specs.Changing.{Whole}
 use Rattle.frame_store.specs.declared.shapes.Shape.{Shape}
 use Rattle.frame_store.specs.Layouts.{shape_of}
+use Rattle.frame_store.proofs.Stills.{still_none}
 use Rattle.brick_state.specs.Indexes.{state_of}
 use Rattle.brick_store.specs.Blocks.{resolved, cached}
 use Rattle.brick_store.specs.Openings.{IsCounted, IsWornOut, Opens, stopped_by}
@@ -13,14 +14,18 @@ use Rattle.brick_store.proofs.openings.open_store.Goals as goal
 
 pub returns-in-Err-clause-opens : goal.returns-in-Err-clause-opens
 returns-in-Err-clause-opens g c =
-    refused_opens g.D.Disk g.met.D.Disk.only_now _ c.args.disk c.in-Err.disk _ _ c.in-Err.ensures.still_err
-    (λ is. read_meant c.in-Err.fault (sym c.from.ensures ∙ is))
+    refused_opens g.D.Disk g.met.D.Disk.only_now _ c.args.disk c.args.disk c.from.result ⊥ (still_none g.D.Disk c.args.disk) (λ is. cc)
+
+pub returns-in-Err-opened-clause-opens : goal.returns-in-Err-opened-clause-opens
+returns-in-Err-opened-clause-opens g c =
+    refused_opens g.D.Disk g.met.D.Disk.only_now _ c.args.disk c.in-Err-opened.disk _ _ c.in-Err-opened.ensures.still_err
+    (λ is. read_meant c.in-Err-opened.fault (sym c.from-in-Err-opened.ensures ∙ is))
 
 pub returns-in-Ok-take_up-clause-found : goal.returns-in-Ok-take_up-clause-found
 returns-in-Ok-take_up-clause-found g c = λ told.
     let d = g.D.Disk in
-    let held = c.in-Ok.frames in
-    let here = c.in-Ok.ensures in
+    let held = c.in-Ok-opened.frames in
+    let here = c.in-Ok-opened.ensures in
     let made = c.in-Ok-take_up.ensures in
     let taken = c.in-Ok-take_up.taken in
     let size = c.take_up.new.frames.shape.block in
@@ -36,24 +41,24 @@ returns-in-Ok-take_up-clause-stands g c = λ told.
 
 pub returns-in-Ok-take_up-clause-opens : goal.returns-in-Ok-take_up-clause-opens
 returns-in-Ok-take_up-clause-opens g c =
-    let here = c.in-Ok.ensures in
+    let here = c.in-Ok-opened.ensures in
     subst (λ (s : Shape). Opens g.D.Disk s c.args.disk c.take_up.new.frames.disk Whole) here.shape
-    (started_opens g.D.Disk g.met.D.Disk.only_now g.met.D.Disk.counts_now c.args.disk c.take_up.new.frames.disk c.in-Ok.frames _ _
+    (started_opens g.D.Disk g.met.D.Disk.only_now g.met.D.Disk.counts_now c.args.disk c.take_up.new.frames.disk c.in-Ok-opened.frames _ _
     (λ told. here.read told here.runs) here.still here.certain c.in-Ok-take_up.ensures.starts)
 
-pub returns-clause-opens : goal.returns-clause-opens
-returns-clause-opens g c =
-    let here = c.in-Ok.ensures in
+pub returns-in-Err-take_up-clause-opens : goal.returns-in-Err-take_up-clause-opens
+returns-in-Err-take_up-clause-opens g c =
+    let here = c.in-Ok-opened.ensures in
     let back = sym c.into_disk.ensures in
     subst (λ (last : g.row.D.Denot). Opens g.D.Disk (shape_of c.args.me.0 c.args.block c.args.records) c.args.disk last (stopped_by c.in-Err-take_up.fault)) back
     (subst (λ (s : Shape). Opens g.D.Disk s c.args.disk c.take_up.new.frames.disk (stopped_by c.in-Err-take_up.fault)) here.shape
-    (started_opens g.D.Disk g.met.D.Disk.only_now g.met.D.Disk.counts_now c.args.disk c.take_up.new.frames.disk c.in-Ok.frames _ _
+    (started_opens g.D.Disk g.met.D.Disk.only_now g.met.D.Disk.counts_now c.args.disk c.take_up.new.frames.disk c.in-Ok-opened.frames _ _
     (λ told. here.read told here.runs) here.still here.certain c.in-Err-take_up.ensures.starts))
 
-pub returns-clause-worn : goal.returns-clause-worn
-returns-clause-worn g c = λ is told.
+pub returns-in-Err-take_up-clause-worn : goal.returns-in-Err-take_up-clause-worn
+returns-in-Err-take_up-clause-worn g c = λ is told.
     let d = g.D.Disk in
-    let held = c.in-Ok.frames in
-    let here = c.in-Ok.ensures in
+    let held = c.in-Ok-opened.frames in
+    let here = c.in-Ok-opened.ensures in
     subst (λ (s : Shape). IsWornOut s (d.seen c.args.disk)) here.shape
     (worn_there d.seen held (here.read told here.runs) (d.seen c.args.disk) here.still.untouched.content (c.in-Err-take_up.ensures.worn (ap Err is)))

@@ -2,6 +2,7 @@
 use Rattle.std.proofs.Common.{Bool, Result, refl, sym, subst}
 use Rattle.std.specs.Result.{IfOk}
 use Rattle.fab_base.specs.declared.faults.NoMem.{NoMem}
+use Rattle.frame_store.specs.Listed.{frame_of}
 use Rattle.brick_state.specs.Folds.{applied}
 use Rattle.brick_state.specs.Indexes.{state_of, limits_of, Answers}
 use Rattle.brick_store.proofs.Members.{refused_none, answered_members}
@@ -16,9 +17,9 @@ returns-in-Some-clause-ended c = λ no.
     let answers = subst (λ (r : Result Bool NoMem). IfOk r (λ taken. Answers (state_of c.apply.new.self) next taken)) no c.apply.ensures.answer in
     record {
       same = c.apply.ensures.refused no;
-      never = never_refused limits c.args.frame.now c.in-Some.record old (sym c.in-Some.ensures.found)
+      never = never_refused limits (frame_of c.args.kind c.args.body.now) c.in-Some.record old (sym c.in-Some.ensures.found)
           (refused_none (state_of c.apply.new.self) next answers);
-      ends = λ rest. ends_refused limits c.args.frame.now c.in-Some.record rest old (sym c.in-Some.ensures.found)
+      ends = λ rest. ends_refused limits (frame_of c.args.kind c.args.body.now) c.in-Some.record rest old (sym c.in-Some.ensures.found)
           (refused_none (state_of c.apply.new.self) next answers);
     }
 
@@ -30,6 +31,6 @@ returns-in-Some-clause-members c = λ ok all.
 pub returns-in-None-clause-ended : goal.returns-in-None-clause-ended
 returns-in-None-clause-ended c = λ no. record {
   same = refl;
-  never = never_unread (limits_of c.args.index.now) c.args.frame.now (state_of c.args.index.now) (sym c.in-None.ensures.found);
-  ends = λ rest. ends_unread (limits_of c.args.index.now) c.args.frame.now rest (state_of c.args.index.now) (sym c.in-None.ensures.found);
+  never = never_unread (limits_of c.args.index.now) (frame_of c.args.kind c.args.body.now) (state_of c.args.index.now) (sym c.in-None.ensures.found);
+  ends = λ rest. ends_unread (limits_of c.args.index.now) (frame_of c.args.kind c.args.body.now) rest (state_of c.args.index.now) (sym c.in-None.ensures.found);
 }

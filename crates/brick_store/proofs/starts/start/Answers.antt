@@ -18,8 +18,7 @@ use Rattle.brick_store.specs.Ends.{end_of}
 use Rattle.brick_store.specs.Openings.{IsKeptIn, StopsOpening}
 use Rattle.brick_store.proofs.Counting.{start_sum}
 use Rattle.brick_store.proofs.CutOpenings.{readying_cut, count_cut}
-use Rattle.brick_store.proofs.Stepping.{refused}
-use Rattle.brick_store.proofs.OpeningLaws.{cut_meant, kept_for, memory_meant, refused_starts, tried_ends}
+use Rattle.brick_store.proofs.OpeningLaws.{refused_starts, tried_ends}
 use Rattle.brick_store.proofs.Starting.{counted, counted_moments, settled_moments}
 use Rattle.brick_store.proofs.StateChanges.{not_whole, stands_before, settled_after, slots_after}
 use Rattle.brick_store.proofs.starts.start.Goals as goal
@@ -46,24 +45,22 @@ returns-in_err-make_appendable-clause-starts g c =
     let new = c.make_appendable.new.frames.disk in
     let st = state_of c.args.index.now in
     let fault = c.in_err-make_appendable.field-0.0 in
-    let here = c.in_err-make_appendable.ensures in
+    let ready = c.in_err-make_appendable.ensures.readies in
     let len : c.len.result ≡ 4 = c.len.ensures ∙ c.in_ok-frame.ensures.length in
     let sum = start_sum (is_appendable c.args.whole old 4) ∙ ap (λ (n : ℕ). (if is_appendable c.args.whole old n then 1 else 8) + 4) (sym len) in
     let p = err_from_is_err_and c.from_residual-in_err-make_appendable.result c.from_residual-in_err-make_appendable.ensures.1 in
     rw (p.1, p.2) (record {
       moments = λ told closed. settled_moments d.moment d.left_since (d.may_leave old.disk) old.shape st (booted (st.boot + 1) st) (d.seen old.disk)
-          old.disk new (here.moments told closed);
-      run = run_cut d.tells d.moment d.plan d.unlisted _ _ old.disk new _ _ (omega (arith, sum)) (not_whole fault)
-          (λ not. here.run.waits (λ ok. absurd cc) (λ is. not (ap end_of is)))
-          (run_as d.tells d.moment d.plan d.unlisted _ old.disk new _ _ _ _ (λ never. absurd never) (λ is. ap refused (cut_meant fault is))
-          (λ a b. here.run.waits (λ ok. absurd cc) (λ is. b (ap end_of is))) here.run);
+          old.disk new (ready.moments told closed);
+      run = run_cut d.tells d.moment d.plan d.unlisted _ _ old.disk new _ _ (omega (arith, sum)) (not_whole fault) (ready.run.waits (not_whole fault))
+          (run_as d.tells d.moment d.plan d.unlisted _ old.disk new _ _ _ _ (λ never. absurd never) (λ is. is) (λ a b. ready.run.waits (not_whole fault) b)
+          ready.run);
       not_worn = λ is free. c.requires.boots;
       cut = λ is told free closed. subst (λ (n : ℕ). StopsOpening d.seen d.certain d.moment n old.disk new
           (IsKeptIn old.shape st (d.seen old.disk)) (IsKeptIn old.shape (booted (st.boot + 1) st) (d.seen old.disk))) (sym sum)
-          (readying_cut d.seen d.certain d.may_leave d.moment d.left_since _ old.disk new _ _
-          (here.cut told free closed (ap refused (cut_meant fault is))));
-      not_begun = λ is. here.no_memory (ap refused (memory_meant fault here.only is));
-      cause = kept_for _ _ _ _ _ _ (λ is. ap refused (cut_meant fault is)) here.cause;
+          (readying_cut d.seen d.certain d.may_leave d.moment d.left_since _ old.disk new _ _ (ready.cut is told free closed));
+      not_begun = ready.not_begun;
+      cause = ready.cause;
     })
 
 pub returns-clause-starts : goal.returns-clause-starts
@@ -89,15 +86,15 @@ returns-clause-starts g c =
     (stands_before d None st mid made.may told) in
     record {
       moments = λ told closed. counted_moments d.moment d.left_since (d.may_leave old.disk) old.shape st (booted (st.boot + 1) st) (d.seen old.disk)
-          old.disk mid.disk new.disk (d.seen mid.disk) (made.slots told) (c.make_appendable.ensures.moments told closed) (change.moments told (stands told));
-      run = run_both d.tells d.moment d.plan d.unlisted _ 4 _ old.disk mid.disk new.disk _ _ _ _ sum refl ends.0 made.run change.run;
+          old.disk mid.disk new.disk (d.seen mid.disk) (made.slots told) (made.readies.moments told closed) (change.moments told (stands told));
+      run = run_both d.tells d.moment d.plan d.unlisted _ 4 _ old.disk mid.disk new.disk _ _ _ _ sum refl ends.0 made.readies.run change.run;
       not_worn = λ is free. c.requires.boots;
       cut = λ is told free closed. subst (λ (n : ℕ). StopsOpening d.seen d.certain d.moment n old.disk new.disk
           (IsKeptIn old.shape st (d.seen old.disk)) (IsKeptIn old.shape (booted (st.boot + 1) st) (d.seen old.disk))) (sym sum)
           (count_cut d.seen d.certain d.may_leave d.moment d.left_since _ old.shape st (booted (st.boot + 1) st) old.disk mid.disk new.disk
-          (made.run.counted told refl) (made.slots told) (change.cut is told (stands told)));
+          (made.readies.run.counted told refl) (made.slots told) (change.cut is told (stands told)));
       not_begun = λ is. absurd (ends.1 is);
-      cause = kept_both (d.faults old.disk) (d.faults mid.disk) (d.faults new.disk) _ _ _ _ _ c.make_appendable.ensures.cause change.cause;
+      cause = kept_both (d.faults old.disk) (d.faults mid.disk) (d.faults new.disk) _ _ _ _ _ made.readies.cause change.cause;
     }
 
 pub returns-clause-settled : goal.returns-clause-settled
