@@ -71,13 +71,13 @@ read_meant lists.NotAStore is = absurd cc
 read_meant lists.NoMemory is = absurd cc
 
 -- what the end of the making ready means for its fault
-pub cut_meant : (fault : StoreFault) → end_of (refused fault) ≡ Cut → fault ≡ stores.Disk
+cut_meant : (fault : StoreFault) → end_of (refused fault) ≡ Cut → fault ≡ stores.Disk
 cut_meant stores.Disk is = refl
 cut_meant (stores.Full live) is = absurd cc
 cut_meant stores.Halted is = absurd cc
 cut_meant stores.NoMemory is = absurd cc
 
-pub memory_meant : (fault : StoreFault) → (refused fault ≡ refused stores.Disk) ⊎ (refused fault ≡ refused stores.NoMemory)
+memory_meant : (fault : StoreFault) → (refused fault ≡ refused stores.Disk) ⊎ (refused fault ≡ refused stores.NoMemory)
     → end_of (refused fault) ≡ NotBegun → fault ≡ stores.NoMemory
 memory_meant stores.Disk only is = absurd cc
 memory_meant (stores.Full live) (inl only) is = absurd cc

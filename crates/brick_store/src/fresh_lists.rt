@@ -1,9 +1,7 @@
 //! A store that was read is made ready for the count of its opening: a list of frames that ended early, or that has no room for
 //! one more, is written anew before anything is appended to it.
 
-ghost use Rattle.std.specs.Prelude.{◌≡◌, ◌⊎◌, ◌≤◌, if◌then◌else◌, true, None, Err, IsTrue, IsOk, OnOk, OnErr};
-ghost use Rattle.fab_disk.specs.Disk.{IsUntouched, LeavesOnly, Kept};
-ghost use Rattle.fab_disk.specs.Plan.{IsRun};
+ghost use Rattle.std.specs.Prelude.{◌≡◌, ◌≤◌, if◌then◌else◌, true, None, IsTrue, OnOk};
 ghost use Rattle.frame_store.specs.Images.{KeepsSlots};
 ghost use Rattle.frame_store.specs.Listed.{Fits};
 ghost use Rattle.brick_state.specs.States.{empty};
@@ -14,7 +12,7 @@ ghost use Rattle.brick_store.specs.Standing.{Leads};
 ghost use Rattle.brick_store.specs.Calls.{is_appendable};
 ghost use Rattle.brick_store.specs.Ends.{end_of};
 ghost use Rattle.brick_store.specs.Steps.{CanChange, IsReadAs, HasAppendRoom};
-ghost use Rattle.brick_store.specs.Openings.{IsKeptIn, IsAllowedOr, Readies, StopsReadying};
+ghost use Rattle.brick_store.specs.Openings.{Readies};
 
 use crate::faults::StoreFault;
 use crate::rewrites::live_frames;
@@ -23,8 +21,8 @@ use fab_disk::Disk;
 use frame_store::FrameStore;
 use std::alloc::Global;
 
-// Syncs the disk and puts the frames of what the index keeps in the place of the list. At each moment each image opens as frames
-// of this state, where a closed gate stood after the list, or was allowed before the sync.
+/// Syncs the disk and puts the frames of what the index keeps in the place of the list. At each moment each image opens as frames
+/// of this state, where a closed gate stood after the list, or was allowed before the sync.
 fn renew<D: Disk>(
     alloc: Global,
     frames: &mut FrameStore<D>,
@@ -36,18 +34,9 @@ fn renew<D: Disk>(
     ensures may { OnOk result (CanChange D.Disk (state_of index.now) frames.new) }
     ensures shape { frames.new.shape ≡ frames.old.shape }
     ensures slots { D.tells → OnOk result (KeepsSlots frames.old.shape None (D.seen frames.old.disk) (D.seen frames.new.disk)) }
-    ensures moments { D.tells → frames.old.closed ≡ true → LeavesOnly D.moment D.left_since frames.old.disk frames.new.disk
-        (IsAllowedOr (D.may_leave frames.old.disk) (IsKeptIn frames.old.shape (state_of index.now) (D.seen frames.old.disk))) }
-    ensures only { OnErr result ((result ≡ Err StoreFault.Disk) ⊎ (result ≡ Err StoreFault.NoMemory)) }
-    ensures no_memory { result ≡ Err StoreFault.NoMemory → IsUntouched D.seen D.may_leave D.moment D.left_since frames.old.disk frames.new.disk }
     ensures fits { OnOk result (Fits frames.new.shape frames.new.frames body) }
     ensures room { OnOk result (HasAppendRoom D.has_room frames.new body) }
-    ensures cut { D.tells → D.unlisted frames.old.disk → frames.old.closed ≡ true → result ≡ Err StoreFault.Disk
-        → StopsReadying D.seen D.certain D.moment 8 frames.old.disk frames.new.disk
-        (IsKeptIn frames.old.shape (state_of index.now) (D.seen frames.old.disk)) }
-    ensures run { IsRun D.tells D.moment D.plan D.unlisted 8 frames.old.disk frames.new.disk (IsOk result) (result ≡ Err StoreFault.Disk) }
-    ensures cause { Kept (D.faults frames.old.disk) (D.faults frames.new.disk) (D.sound frames.old.disk) (D.sound frames.new.disk)
-        (result ≡ Err StoreFault.Disk) }
+    ensures readies { Readies D.Disk 8 (state_of index.now) frames.old frames.new.disk (end_of result) }
 {
     let live = live_frames(alloc, index)?;
     frames.reserve(&live, body)?;

@@ -1,5 +1,5 @@
 -- A list that can be appended to needs nothing but room in memory and a sync.
-use Rattle.std.proofs.Common.{rules, ◌≡◌, ◌+◌, ◌≤◌, ◌∙◌, ℕ, Bool, true, false, if◌then◌else◌, Ok, length, ap, arith}
+use Rattle.std.proofs.Common.{rules, ◌≡◌, ◌+◌, ◌≤◌, ◌∙◌, ℕ, Bool, true, false, if◌then◌else◌, Ok, length, sym, ap, subst, arith}
 use Rattle.std.specs.Prelude.{IsOk}
 use Rattle.std.proofs.lemmas.Result.{err_from_is_err_and}
 use Rattle.frame_store.specs.declared.faults.FrameFault.{FrameFault}
@@ -8,6 +8,8 @@ use Rattle.brick_state.specs.Indexes.{state_of}
 use Rattle.brick_store.specs.declared.faults.StoreFault.TheVariants.{Disk}
 use Rattle.brick_store.specs.Bricks.{fault_of}
 use Rattle.brick_store.specs.Calls.{is_appendable}
+use Rattle.brick_store.specs.Ends.{end_of}
+use Rattle.brick_store.specs.Openings.{Readies}
 use Rattle.brick_store.proofs.OpeningLaws.{ready_by}
 use Rattle.brick_store.proofs.Cutting.{disk_meant}
 use Rattle.brick_store.proofs.CutOpenings.{run_clock, sync_cut}
@@ -69,8 +71,7 @@ returns-in_err-sync-clause-readies g c =
 
 pub returns-clause-readies : goal.returns-clause-readies
 returns-clause-readies g c =
-    let d = g.D.Disk in
-    let here = c.renew.ensures in
-    let calls : ℕ = if is_appendable c.args.whole c.args.frames.now c.args.body then 1 else 8 in
-    ready_by d g.met.D.Disk.only_now calls (state_of c.args.index.now) c.args.frames.now c.renew.new.frames.disk c.renew.result
-    here.only here.moments (search rules) (search rules) here.no_memory here.cause
+    let old = c.args.frames.now in
+    let never : is_appendable c.args.whole old c.args.body ≡ false = search rules in
+    subst (λ (b : Bool). Readies g.D.Disk (if b then 1 else 8) (state_of c.args.index.now) old c.renew.new.frames.disk (end_of c.renew.result)) (sym never)
+    c.renew.ensures.readies

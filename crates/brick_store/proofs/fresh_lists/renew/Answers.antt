@@ -21,11 +21,28 @@ use Rattle.brick_store.specs.declared.faults.StoreFault.{StoreFault}
 use Rattle.brick_store.proofs.Counting.{disk_failed}
 use Rattle.brick_store.proofs.Stepping.{memory_refused, refused, room_less}
 use Rattle.brick_store.proofs.Cutting.{disk_meant}
+use Rattle.brick_store.proofs.OpeningLaws.{ready_by}
 use Rattle.brick_store.proofs.CutOpenings.{run_clock, sync_cut, rewrite_cut}
 use Rattle.brick_store.proofs.fresh_lists.renew.Goals as goal
 
-pub returns-in_err-sync-clause-cut : goal.returns-in_err-sync-clause-cut
-returns-in_err-sync-clause-cut g c =
+pub returns-in_err-live-clause-readies : goal.returns-in_err-live-clause-readies
+returns-in_err-live-clause-readies g c =
+    let d = g.D.Disk in
+    let old = c.args.frames.now in
+    let p = err_from_is_err_and c.from_residual.result c.from_residual.ensures.1 in
+    rw (p.1, p.2) (ready_by d g.met.D.Disk.only_now 8 (state_of c.args.index.now) old old.disk (refused NoMemory)
+    (search rules) (search rules) (search rules) (search rules) (search rules) (search rules))
+
+pub returns-in_err-reserve-clause-readies : goal.returns-in_err-reserve-clause-readies
+returns-in_err-reserve-clause-readies g c =
+    let d = g.D.Disk in
+    let f = c.in_err-reserve.field-0.0 in
+    let p = err_from_is_err_and c.from_residual-in_err-reserve.result c.from_residual-in_err-reserve.ensures.1 in
+    rw (p.1, p.2) (ready_by d g.met.D.Disk.only_now 8 (state_of c.args.index.now) c.args.frames.now c.reserve.new.self.disk (refused (fault_of f))
+    (search rules) (search rules) (search rules) (search rules) (search rules) (search rules))
+
+pub returns-in_err-sync-clause-readies : goal.returns-in_err-sync-clause-readies
+returns-in_err-sync-clause-readies g c =
     let d = g.D.Disk in
     let old = c.args.frames.now in
     let f = c.in_err-sync.field-0.0 in
@@ -33,84 +50,54 @@ returns-in_err-sync-clause-cut g c =
     let call = c.in_err-sync.ensures in
     let meant = λ (is : refused (fault_of f) ≡ refused Disk). ap (refused {E = FrameFault}) (disk_meant f is) in
     let p = err_from_is_err_and c.from_residual-in_err-sync.result c.from_residual-in_err-sync.ensures.1 in
-    rw (p.1, p.2) (λ told free closed is. sync_cut d.seen d.certain d.may_leave d.moment d.left_since 8 old
+    rw (p.1, p.2) (ready_by d g.met.D.Disk.only_now 8 (state_of c.args.index.now) old c.sync.new.self.disk (refused (fault_of f))
+    (search rules) (search rules) (search rules)
+    (λ told free closed is. sync_cut d.seen d.certain d.may_leave d.moment d.left_since 8 old
     c.reserve.new.self.disk c.sync.new.self.disk (state_of c.args.index.now) (c.requires.held.read told c.requires.held.runs) closed c.requires.held.found made.still.untouched
     call.content made.certain call.certain (omega (arith, run_clock {whole = IsOk (refused f)} {cut = refused f ≡ refused frames.Disk} call.run told (made.still.plan.stays free) (meant is))))
+    (search rules) (search rules))
 
-pub returns-in_err-rewrite-clause-cut : goal.returns-in_err-rewrite-clause-cut
-returns-in_err-rewrite-clause-cut g c =
+pub returns-in_err-rewrite-clause-readies : goal.returns-in_err-rewrite-clause-readies
+returns-in_err-rewrite-clause-readies g c =
     let d = g.D.Disk in
     let old = c.args.frames.now in
     let st = state_of c.args.index.now in
     let f = c.in_err-rewrite.field-0.0 in
-    let made = c.in_ok-reserve.ensures in
-    let call = c.in_ok-sync.ensures in
-    let meant = λ (is : refused (fault_of f) ≡ refused Disk). ap (refused {E = FrameFault}) (disk_meant f is) in
-    let leads = live_lead (limits_of old.shape) c.in_ok-live.live.items st c.requires.held.kept c.in_ok-live.ensures.read in
-    let held = c.sync.new.self in
-    let words = words_of d 7 held c.rewrite.new.self c.in_ok-live.live.items None (refused f) call.read tt c.in_err-rewrite.ensures.change in
-    let p = err_from_is_err_and c.from_residual-in_err-rewrite.result c.from_residual-in_err-rewrite.ensures.1 in
-    rw (p.1, p.2) (λ told free closed is. rewrite_cut d.seen d.certain d.may_leave d.moment d.left_since old c.sync.new.self c.reserve.new.self.disk
-    c.rewrite.new.self.disk c.in_ok-live.live.items st made.still.untouched call.content (call.run.counted told refl) (call.same.shape ∙ made.same.shape)
-    (call.same.frames ∙ made.same.frames) c.requires.held.found leads
-    (words.cut (call.durable told) (call.same.closed ∙ made.same.closed ∙ closed) (meant is)))
-
-pub returns-in_err-rewrite-clause-moments : goal.returns-in_err-rewrite-clause-moments
-returns-in_err-rewrite-clause-moments g c = λ told closed.
-    let d = g.D.Disk in
-    let old = c.args.frames.now in
-    let st = state_of c.args.index.now in
-    let made = c.in_ok-reserve.ensures in
-    let call = c.in_ok-sync.ensures in
-    let leads = live_lead (limits_of old.shape) c.in_ok-live.live.items st c.requires.held.kept c.in_ok-live.ensures.read in
-    let held = c.sync.new.self in
-    let words = words_of d 7 held c.rewrite.new.self c.in_ok-live.live.items None (refused c.in_err-rewrite.field-0.0) call.read tt c.in_err-rewrite.ensures.change in
-    renewed d.tells d.seen d.may_leave d.moment d.left_since g.met.D.Disk.only_now old c.sync.new.self c.reserve.new.self.disk c.rewrite.new.self.disk c.in_ok-live.live.items st made.still.untouched
-    call.time call.crash call.content (call.same.shape ∙ made.same.shape) (call.same.frames ∙ made.same.frames) c.requires.held.found leads
-    (words.any_moment (call.durable told) (call.same.closed ∙ made.same.closed ∙ closed))
-
-pub returns-in_err-rewrite-clause-no_memory : goal.returns-in_err-rewrite-clause-no_memory
-returns-in_err-rewrite-clause-no_memory g c =
-    let d = g.D.Disk in
-    let made = c.in_ok-reserve.ensures in
-    let synced = c.in_ok-sync.ensures in
-    let held = c.sync.new.self in
-    let f = c.in_err-rewrite.field-0.0 in
-    let are : c.deref.result.now ≡ c.in_ok-live.live.items = c.deref.ensures.value in
-    let p = err_from_is_err_and c.from_residual-in_err-rewrite.result c.from_residual-in_err-rewrite.ensures.1 in
-    let never = λ (is : refused (fault_of f) ≡ refused NoMemory).
-    absurd (c.in_err-rewrite.ensures.room (room_less d.has_room g.met.D.Disk.room_for_less held _ _ _ _ _ _ _ _ _ _ (omega arith)
-    (omega (arith, ap size_of are)) (omega (arith, ap size_of are)) (omega (arith, ap length are)) (omega arith)
-    (synced.left 12 _ _ _ _ made.room)) (ap (refused {E = FrameFault}) (memory_refused f is))) in
-    rw (p.1, p.2) never
-
-pub returns-in_err-rewrite-clause-run : goal.returns-in_err-rewrite-clause-run
-returns-in_err-rewrite-clause-run g c =
-    let d = g.D.Disk in
-    let old = c.args.frames.now in
     let made = c.in_ok-reserve.ensures in
     let synced = c.in_ok-sync.ensures in
     let held = c.sync.new.self in
     let new = c.rewrite.new.self.disk in
-    let f = c.in_err-rewrite.field-0.0 in
     let call = c.in_err-rewrite.ensures in
+    let meant = λ (is : refused (fault_of f) ≡ refused Disk). ap (refused {E = FrameFault}) (disk_meant f is) in
+    let leads = live_lead (limits_of old.shape) c.in_ok-live.live.items st c.requires.held.kept c.in_ok-live.ensures.read in
+    let words = words_of d 7 held c.rewrite.new.self c.in_ok-live.live.items None (refused f) synced.read tt call.change in
     let are : c.deref.result.now ≡ c.in_ok-live.live.items = c.deref.ensures.value in
-    let p = err_from_is_err_and c.from_residual-in_err-rewrite.result c.from_residual-in_err-rewrite.ensures.1 in
     let never = call.room (room_less d.has_room g.met.D.Disk.room_for_less held _ _ _ _ _ _ _ _ _ _ (omega arith)
     (omega (arith, ap size_of are)) (omega (arith, ap size_of are)) (omega (arith, ap length are)) (omega arith)
     (synced.left 12 _ _ _ _ made.room)) in
     let runs : held.halted ≡ false = synced.answer.halts ∙ made.answer.halts ∙ c.requires.held.runs in
     let is : f ≡ frames.Disk = disk_failed f held.halted runs call.answer.only_then never in
-    rw (p.1, p.2)
+    let cause = cause_by d 7 _ _ _ held.disk new (refused f) call.change in
+    let p = err_from_is_err_and c.from_residual-in_err-rewrite.result c.from_residual-in_err-rewrite.ensures.1 in
+    rw (p.1, p.2) (ready_by d g.met.D.Disk.only_now 8 st old new (refused (fault_of f)) (search rules)
+    (λ told closed. renewed d.tells d.seen d.may_leave d.moment d.left_since g.met.D.Disk.only_now old held c.reserve.new.self.disk new
+    c.in_ok-live.live.items st made.still.untouched
+    synced.time synced.crash synced.content (synced.same.shape ∙ made.same.shape) (synced.same.frames ∙ made.same.frames) c.requires.held.found leads
+    (words.any_moment (synced.durable told) (synced.same.closed ∙ made.same.closed ∙ closed)))
     (run_as d.tells d.moment d.plan d.unlisted 8 old.disk new _ _ _ _ (λ whole. absurd cc) (λ cut. ap Err is)
     (λ not_whole not_cut. absurd (not_cut (ap (refused {E = StoreFault}) (ap fault_of is))))
     (run_after d.tells d.moment d.plan d.unlisted 8 old.disk c.reserve.new.self.disk new _ _ _ made.still.plan made.still.untouched.clock
     (run_both d.tells d.moment d.plan d.unlisted 1 7 8 c.reserve.new.self.disk held.disk new _ _ _ _ refl refl
     (λ not_whole not_cut. not_cut (ap Err is)) synced.run
     (run_by d 7 _ _ _ held.disk new (refused f) call.change))))
+    (λ told free closed cut. rewrite_cut d.seen d.certain d.may_leave d.moment d.left_since old held c.reserve.new.self.disk
+    new c.in_ok-live.live.items st made.still.untouched synced.content (synced.run.counted told refl) (synced.same.shape ∙ made.same.shape)
+    (synced.same.frames ∙ made.same.frames) c.requires.held.found leads
+    (words.cut (synced.durable told) (synced.same.closed ∙ made.same.closed ∙ closed) (meant cut)))
+    (λ no. absurd (never (ap (refused {E = FrameFault}) (memory_refused f no)))) (search rules))
 
-pub returns-clause-moments : goal.returns-clause-moments
-returns-clause-moments g c = λ told closed.
+pub returns-clause-readies : goal.returns-clause-readies
+returns-clause-readies g c =
     let d = g.D.Disk in
     let old = c.args.frames.now in
     let st = state_of c.args.index.now in
@@ -118,10 +105,15 @@ returns-clause-moments g c = λ told closed.
     let call = c.in_ok-sync.ensures in
     let leads = live_lead (limits_of old.shape) c.in_ok-live.live.items st c.requires.held.kept c.in_ok-live.ensures.read in
     let held = c.sync.new.self in
-    let words = words_of d 7 held c.rewrite.new.self c.in_ok-live.live.items None (Ok tt) call.read (c.in_ok-rewrite.ensures.answer.halts ∙ call.answer.halts ∙ made.answer.halts ∙ c.requires.held.runs) c.in_ok-rewrite.ensures.change in
-    renewed d.tells d.seen d.may_leave d.moment d.left_since g.met.D.Disk.only_now old c.sync.new.self c.reserve.new.self.disk c.rewrite.new.self.disk c.in_ok-live.live.items st made.still.untouched
+    let change = c.in_ok-rewrite.ensures.change in
+    let words = words_of d 7 held c.rewrite.new.self c.in_ok-live.live.items None (Ok tt) call.read (c.in_ok-rewrite.ensures.answer.halts ∙ call.answer.halts ∙ made.answer.halts ∙ c.requires.held.runs) change in
+    let run = run_by d 7 _ _ _ held.disk c.rewrite.new.self.disk (Ok tt) change in
+    let cause = cause_by d 7 _ _ _ held.disk c.rewrite.new.self.disk (Ok tt) change in
+    ready_by d g.met.D.Disk.only_now 8 st old c.rewrite.new.self.disk (Ok tt) tt
+    (λ told closed. renewed d.tells d.seen d.may_leave d.moment d.left_since g.met.D.Disk.only_now old held c.reserve.new.self.disk c.rewrite.new.self.disk c.in_ok-live.live.items st made.still.untouched
     call.time call.crash call.content (call.same.shape ∙ made.same.shape) (call.same.frames ∙ made.same.frames) c.requires.held.found leads
-    (words.any_moment (call.durable told) (call.same.closed ∙ made.same.closed ∙ closed))
+    (words.any_moment (call.durable told) (call.same.closed ∙ made.same.closed ∙ closed)))
+    (search rules) (λ told free closed is. absurd cc) (λ is. absurd cc) (search rules)
 
 pub returns-clause-may : goal.returns-clause-may
 returns-clause-may g c =
@@ -168,28 +160,6 @@ returns-clause-room g c =
     let listed = ap length call.ok.frames in
     room_less d.has_room g.met.D.Disk.room_for_less new _ _ _ _ _ _ _ _ _ _ (omega arith) (omega (arith, block new.shape mid.shape call.ok.shape))
     (omega arith) (omega (arith, listed)) (omega arith) after
-
-pub returns-in_err-live : goal.returns-in_err-live
-returns-in_err-live g c = search rules
-
-pub returns-in_err-reserve : goal.returns-in_err-reserve
-returns-in_err-reserve g c = search rules
-
-pub returns-in_err-rewrite-clause-cause : goal.returns-in_err-rewrite-clause-cause
-returns-in_err-rewrite-clause-cause g c =
-    let cause = cause_by g.D.Disk 7 _ _ _ c.sync.new.self.disk c.rewrite.new.self.disk (refused c.in_err-rewrite.field-0.0)
-    c.in_err-rewrite.ensures.change in
-    search (rules, cause)
-
-pub returns-clause-cause : goal.returns-clause-cause
-returns-clause-cause g c =
-    let cause = cause_by g.D.Disk 7 _ _ _ c.sync.new.self.disk c.rewrite.new.self.disk (Ok tt) c.in_ok-rewrite.ensures.change in
-    search (rules, cause)
-
-pub returns-clause-run : goal.returns-clause-run
-returns-clause-run g c =
-    let run = run_by g.D.Disk 7 _ _ _ c.sync.new.self.disk c.rewrite.new.self.disk (Ok tt) c.in_ok-rewrite.ensures.change in
-    search (rules, run)
 
 pub returns-clause-slots : goal.returns-clause-slots
 returns-clause-slots g c =
