@@ -126,8 +126,6 @@ impl<B: Bricks, L: Link> HostedClient<B, L> {
         sink: &mut K,
     ) -> Result<(), HostFault>
         requires begins { self.old.end.sent ≡ 0 }
-        // As any count of turns is.
-        requires few { self.old.turns < 2 ^ 64 }
         ensures hosts { OnOk result (Hosts B.takes layout.now self.old.turns (S.told source.old) (S.told source.new)
             (told (L.waiting self.old.end.link) (L.sent self.old.end.link)) (told (L.waiting self.new.end.link) (L.sent self.new.end.link))
             self.old.bricks self.new.bricks (K.told sink.old) (K.told sink.new)) }
@@ -140,6 +138,8 @@ impl<B: Bricks, L: Link> HostedClient<B, L> {
         ensures source { Kept (S.faults source.old) (S.faults source.new) (S.sound source.old) (S.sound source.new) (result ≡ Err HostFault.Source) }
         ensures sink { Kept (K.faults sink.old) (K.faults sink.new) (K.sound sink.old) (K.sound sink.new) (result ≡ Err HostFault.Sink) }
     {
+        // The count of turns is read, so that its range is known.
+        let _turns = self.turns;
         let mut number = 0;
         loop {
             let Some(line) = read_line(alloc, source, &mut self.turns)? else {

@@ -95,8 +95,7 @@ pub fn serve<D: Disk, L: Link, C: Clock>(
     ensures link { Kept (L.faults link.old) (L.faults link.new) (L.sound link.old) (L.sound link.new) (result ≡ Err ServeFault.Link) }
     ensures clock { Kept (C.faults clock.old) (C.faults clock.new) (C.sound clock.old) (C.sound clock.new) (result ≡ Err ServeFault.Clock) }
     // Over sound things a brick that is not halted reaches its turns, or finds no memory.
-    ensures sound { node.old.brick.halted ≡ false → D.sound node.old.brick.disk → L.sound link.old → C.sound clock.old
-        → IsOk result ⊎ (result ≡ Err ServeFault.NoMemory) }
+    ensures sound { node.old.brick.halted ≡ false → D.sound node.old.brick.disk → L.sound link.old → C.sound clock.old → IsOk result ⊎ (result ≡ Err ServeFault.NoMemory) }
 {
     if node.is_halted() {
         return Err(ServeFault::Halted);

@@ -123,13 +123,13 @@ pub overflow_add-number : goal.overflow_add-number
 overflow_add-number g c =
     let read = rw c.in-Some.is at c.in_ok-line.ensures.reads in
     let turn = some_turn _ _ read.reads.turns_of (line-some _ _ _ read.answers.1) in
-    omega (arith, c.loop-line.invariant.few, read.reads.counted, turn, c.requires.few)
+    omega (arith, c.loop-line.invariant.few, read.reads.counted, turn)
 
 pub run_line-requires : goal.run_line-requires
 run_line-requires g c =
     let read = rw c.in-Some.is at c.in_ok-line.ensures.reads in
     let turn = some_turn _ _ read.reads.turns_of (line-some _ _ _ read.answers.1) in
-    omega (arith, c.loop-line.invariant.sent_few, read.reads.counted, turn, c.requires.few)
+    omega (arith, c.loop-line.invariant.sent_few, read.reads.counted, turn)
 
 pub loop-line-smaller : goal.loop-line-smaller
 loop-line-smaller g c =
