@@ -8,8 +8,8 @@ use Rattle.fab_io.specs.Ends.{Rose}
 use Rattle.frame_store.specs.Images.{IsNoStore}
 use Rattle.version_log.specs.Versions.{Version}
 use Rattle.brick_state.specs.States.{StateOf}
-use Rattle.brick_store.specs.declared.faults.StoreFault.{StoreFault}
-use Rattle.brick_store.specs.declared.faults.StoreFault.TheVariants as stores
+use Rattle.brick_store.specs.declared.faults.OpenFault.{OpenFault}
+use Rattle.brick_store.specs.declared.faults.OpenFault.TheVariants as stores
 use Rattle.brick_store.specs.Images.{IsFound}
 use Rattle.replica.specs.Parts.{IsFirstView}
 use Rattle.node.specs.Running.{shape_at}
@@ -59,7 +59,7 @@ unharmed v moment left_since disk back untouched = record { content = untouched.
 
 -- each cause of a store that is not opened
 pub refuses : {D L C : Type 0} (v : Views D L C) (layout : Layout) (me : BrickId) (moment : D → ℕ) (left_since : D → ℕ → List ℕ → Type 0) (disk back : D)
-    (fault : StoreFault) → (fault ≡ stores.Disk → Rose (v.disk.faults disk) (v.disk.faults back))
+    (fault : OpenFault) → (fault ≡ stores.Disk → Rose (v.disk.faults disk) (v.disk.faults back))
     → (fault ≡ stores.NotAStore → v.disk.tells
     → (IsNoStore (shape_at layout me) (v.disk.seen disk) × IsUntouched v.disk.seen v.disk.may_leave moment left_since disk back)
     ⊎ ((st : StateOf Version) × IsFound (shape_at layout me) st (v.disk.seen disk) × (IsFirstView st → ⊥)))
@@ -67,8 +67,6 @@ pub refuses : {D L C : Type 0} (v : Views D L C) (layout : Layout) (me : BrickId
     → ((fault ≡ stores.Worn) ⊎ (fault ≡ stores.NoMemory) → IsUntouched v.disk.seen v.disk.may_leave moment left_since disk back)
     → RefusesStore v layout me disk back (refusal_of fault)
 refuses v layout me moment left_since disk back stores.Disk at_disk none worn untouched = at_disk refl
-refuses v layout me moment left_since disk back (stores.Full live) at_disk none worn untouched = tt
-refuses v layout me moment left_since disk back stores.Halted at_disk none worn untouched = tt
 refuses v layout me moment left_since disk back stores.NotAStore at_disk none worn untouched =
     λ tells. elim (none refl tells) [ inl gone ↦ inl (gone.0, unharmed v moment left_since disk back gone.1) | inr later ↦ inr later ]
 refuses v layout me moment left_since disk back stores.Worn at_disk none worn untouched =
@@ -76,19 +74,15 @@ refuses v layout me moment left_since disk back stores.Worn at_disk none worn un
 refuses v layout me moment left_since disk back stores.NoMemory at_disk none worn untouched = tt
 
 -- it is no fault of the sink
-pub refusal_not_sink : (fault : StoreFault) → status_of (refusal_of fault) ≡ 6 → ⊥
+pub refusal_not_sink : (fault : OpenFault) → status_of (refusal_of fault) ≡ 6 → ⊥
 refusal_not_sink stores.Disk e = absurd (omega arith)
-refusal_not_sink (stores.Full live) e = absurd (omega arith)
-refusal_not_sink stores.Halted e = absurd (omega arith)
 refusal_not_sink stores.NotAStore e = absurd (omega arith)
 refusal_not_sink stores.Worn e = absurd (omega arith)
 refusal_not_sink stores.NoMemory e = absurd (omega arith)
 
 -- where none of these causes is there, no memory was left
-pub refusal_done : (fault : StoreFault) → fault ≢ stores.Disk → fault ≢ stores.NotAStore → fault ≢ stores.Worn → IsDone (refusal_of fault)
+pub refusal_done : (fault : OpenFault) → fault ≢ stores.Disk → fault ≢ stores.NotAStore → fault ≢ stores.Worn → IsDone (refusal_of fault)
 refusal_done stores.Disk not_disk not_none not_worn = absurd (not_disk refl)
-refusal_done (stores.Full live) not_disk not_none not_worn = tt
-refusal_done stores.Halted not_disk not_none not_worn = tt
 refusal_done stores.NotAStore not_disk not_none not_worn = absurd (not_none refl)
 refusal_done stores.Worn not_disk not_none not_worn = absurd (not_worn refl)
 refusal_done stores.NoMemory not_disk not_none not_worn = tt

@@ -10,8 +10,8 @@ use Rattle.fab_host.specs.Holdings.{Holdings, with_disk, with_link, with_clock}
 use Rattle.frame_store.specs.Images.{IsNoStore}
 use Rattle.version_log.specs.Versions.{Version}
 use Rattle.brick_state.specs.States.{StateOf}
-use Rattle.brick_store.specs.declared.faults.StoreFault.{StoreFault}
-use Rattle.brick_store.specs.declared.faults.StoreFault.TheVariants as stores
+use Rattle.brick_store.specs.declared.faults.OpenFault.{OpenFault}
+use Rattle.brick_store.specs.declared.faults.OpenFault.TheVariants as stores
 use Rattle.brick_store.specs.Images.{IsFound}
 use Rattle.replica.specs.Parts.{IsFirstView}
 use Rattle.protocol.specs.Nodes as machine
@@ -118,7 +118,7 @@ pub record ServesStarted {S D L C : Type 0} (v : Views D L C) (layout : Layout) 
   pub left : IsLeft v layout me node_after back (ending ≢ Disk)
 
 -- how a store that is not opened ends the program
-abbrev pub refusal_of : StoreFault → Ending
+abbrev pub refusal_of : OpenFault → Ending
 refusal_of stores.Disk = Disk
 refusal_of stores.NotAStore = NotAStore
 refusal_of stores.Worn = Worn

@@ -10,7 +10,6 @@ ghost use Rattle.brick.specs.Layouts.{brick_of};
 
 use crate::endings::Ending;
 use crate::layout_texts::brick_of;
-use brick_store::StoreFault;
 use fab_base::BrickId;
 use fab_host::Host;
 use fab_io::IoFault;
@@ -64,8 +63,7 @@ fn make_store<H: Host>(
     host.keep_disk(name, disk);
     match made {
         Ok(()) => Ending::Formatted(me),
-        Err(StoreFault::Disk) => Ending::Disk,
-        // A format answers no other fault but that of memory.
-        Err(_) => Ending::Memory,
+        Err(IoFault::Failed) => Ending::Disk,
+        Err(IoFault::NoMemory) => Ending::Memory,
     }
 }

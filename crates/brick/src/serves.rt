@@ -12,7 +12,7 @@ ghost use Rattle.brick.specs.Views.{views};
 
 use crate::endings::{Ending, say_serving};
 use crate::layout_texts::brick_of;
-use brick_store::StoreFault;
+use brick_store::OpenFault;
 use fab_base::BrickId;
 use fab_disk::Disk;
 use fab_host::Host;
@@ -142,15 +142,14 @@ pub(crate) fn port_of(layout: &Layout, me: BrickId) -> u16
 }
 
 /// How a store that is not opened ends the program.
-fn refusal_of(fault: StoreFault) -> Ending
+fn refusal_of(fault: OpenFault) -> Ending
     ensures { result ≡ refusal_of fault }
 {
     match fault {
-        StoreFault::Disk => Ending::Disk,
-        StoreFault::NotAStore => Ending::NotAStore,
-        StoreFault::Worn => Ending::Worn,
-        // An opening answers no other fault but that of memory.
-        StoreFault::Halted | StoreFault::Full { .. } | StoreFault::NoMemory => Ending::Memory,
+        OpenFault::Disk => Ending::Disk,
+        OpenFault::NotAStore => Ending::NotAStore,
+        OpenFault::Worn => Ending::Worn,
+        OpenFault::NoMemory => Ending::Memory,
     }
 }
 

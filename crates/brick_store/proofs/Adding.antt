@@ -248,8 +248,6 @@ module _ {D : Type 0} (d : on_disk.Ghosts D) where
         full = λ runs add at. absurd (not_full (indexes.limits_of index) (state_of index) free
             (at ∙ sym (ap (λ (l : Limits). l.records) standing.indexed.limits_are)));
         only_full = λ n h. absurd cc;
-        a_store = λ h. absurd cc;
-        not_worn = λ h. absurd cc;
         halts = refl;
       }
 

@@ -28,7 +28,7 @@ use Rattle.brick_state.specs.Indexes.{state_of}
 use Rattle.brick_state.specs.Indexes as indexes
 use Rattle.brick_state.specs.KeptStates.{IsKeptState}
 use Rattle.brick_store.specs.declared.faults.StoreFault.{StoreFault}
-use Rattle.brick_store.specs.declared.faults.StoreFault.TheVariants.{Disk, Full, Halted, NotAStore, Worn, NoMemory}
+use Rattle.brick_store.specs.declared.faults.StoreFault.TheVariants.{Disk, Full, Halted, NoMemory}
 use Rattle.brick_store.specs.Blocks.{resolved, cached}
 use Rattle.brick_store.specs.Bricks.{Brick, Keeps, IsAnswer, halted_after}
 use Rattle.brick_store.specs.Images.{records_of, limits_of, block_at, StandsFor}
@@ -117,8 +117,6 @@ tried_answer records live adds halted_now result free only halts = record {
   only_then = λ h. absurd (⊎_elim (λ e. halted_disk e) (λ e. halted_memory e) (answers_of result Halted only h));
   full = λ runs add at. absurd (free add at);
   only_full = λ n h. absurd (⊎_elim (λ e. full_disk n e) (λ e. full_memory n e) (answers_of result (Full n) only h));
-  a_store = λ h. absurd (⊎_elim (λ e. store_disk e) (λ e. store_memory e) (answers_of result NotAStore only h));
-  not_worn = λ h. absurd (⊎_elim (λ e. worn_disk e) (λ e. worn_memory e) (answers_of result Worn only h));
   halts = halts;
 }
   where
@@ -134,18 +132,6 @@ tried_answer records live adds halted_now result free only halts = record {
     full_memory : (n : ℕ) → Full n ≡ NoMemory → ⊥
     full_memory n e = cc
 
-    store_disk : NotAStore ≡ Disk → ⊥
-    store_disk e = cc
-
-    store_memory : NotAStore ≡ NoMemory → ⊥
-    store_memory e = cc
-
-    worn_disk : Worn ≡ Disk → ⊥
-    worn_disk e = cc
-
-    worn_memory : Worn ≡ NoMemory → ⊥
-    worn_memory e = cc
-
 -- and of one that was not
 refused_answer : (records live : ℕ) (adds halted : Bool) (fault : StoreFault) → IsRefused halted adds records live (Err fault)
     → IsAnswer records live adds halted halted (Err fault)
@@ -156,8 +142,6 @@ refused_answer records live adds halted fault (inl is) =
       only_then = λ h. is.0;
       full = λ runs add at. absurd (differ (sym is.0 ∙ runs));
       only_full = λ n h. absurd cc;
-      a_store = λ h. absurd cc;
-      not_worn = λ h. absurd cc;
       halts = refl;
     })
   where
@@ -170,8 +154,6 @@ refused_answer records live adds halted fault (inr is) =
       only_then = λ h. absurd cc;
       full = λ runs add at. refl;
       only_full = λ n h. (is.0, is.1, is.2, same n live h);
-      a_store = λ h. absurd cc;
-      not_worn = λ h. absurd cc;
       halts = refl;
     })
   where

@@ -18,6 +18,7 @@ pub mod Versions
 pub mod Adding
 pub mod Opened
 pub mod CutOpenings
+pub mod OpeningLaws
 pub mod HeldLogs
 pub mod Counting
 pub mod KeptLogs

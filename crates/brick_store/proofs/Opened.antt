@@ -1,5 +1,5 @@
 -- What an opening makes of what the disk held.
-use Rattle.std.proofs.Common.{◌≡◌, inl, inr, ⊎_elim, ℕ, ◌+◌, ◌<◌, Bool, true, false, cond, eqb, None, List, length, refl, sym, ap, subst, ◌∙◌, arith}
+use Rattle.std.proofs.Common.{◌≡◌, inl, inr, ⊎_elim, ℕ, ◌+◌, ◌<◌, Bool, true, cond, eqb, None, List, length, refl, sym, ap, subst, ◌∙◌, arith}
 use Rattle.std.specs.Prelude.{replicate}
 use Rattle.std.specs.List.{AllByRecursion}
 use Rattle.std.specs.BTreeMap.{BTreeMap}
@@ -11,18 +11,16 @@ use Rattle.frame_store.specs.Images.{OpensAs, KeepsSlots}
 use Rattle.frame_store.specs.Stores.{Held, Shows}
 use Rattle.frame_store.proofs.Openings.{opens_once}
 use Rattle.version_log.specs.Versions.{Version}
-use Rattle.brick_state.specs.declared.indexes.Index.{Index}
 use Rattle.brick_state.specs.Entries.{Entry}
-use Rattle.brick_state.specs.Indexes.{state_of}
 use Rattle.brick_state.specs.Slots.{slots_of}
 use Rattle.brick_state.specs.States.{StateOf, booted, empty}
 use Rattle.brick_state.proofs.Keeping.{empty_kept, folded_keeps}
 use Rattle.brick_state.proofs.UsedSlots.{each_slot}
 use Rattle.brick_store.specs.Blocks.{cached, resolved}
-use Rattle.brick_store.specs.Images.{records_of, limits_of, block_at, state_in, IsFound, StandsFor, StandsForEither, LeavesState}
-use Rattle.brick_store.specs.Standing.{AllSlots, IsStored, Standing}
-use Rattle.brick_store.specs.Openings.{found_in, IsInside, IsKeptIn, IsKeptInEither, IsAllowedOr}
-use Rattle.brick_store.proofs.Changing.{stands_for, stored_same}
+use Rattle.brick_store.specs.Images.{records_of, limits_of, block_at, state_in, IsFound, StandsFor, StandsForEither}
+use Rattle.brick_store.specs.Standing.{AllSlots, IsStored}
+use Rattle.brick_store.specs.Openings.{found_in, IsCounted, IsWornOut, IsInside, IsKeptIn, IsKeptInEither, IsAllowedOr}
+use Rattle.brick_store.proofs.Changing.{stored_same}
 use Rattle.brick_store.proofs.Loads.{none_outside}
 use Rattle.brick_store.proofs.Resolving.{resolved_same, slots_imply, booted-resolved, boot-resolved}
 use Rattle.brick_store.proofs.Starting.{then_allowed}
@@ -35,6 +33,9 @@ finds : (shape : Shape) (st : StateOf Version) (content : List ℕ) (frames : Li
 finds shape st content frames closed opens stands =
     let once = opens_once shape content frames stands.frames closed true opens stands.opens in
     (once.1, ap (λ (fs : List Frame). state_in shape fs content) once.0 ∙ stands.state)
+
+pub found_is : (shape : Shape) (found st : StateOf Version) (content : List ℕ) → IsFound shape found content → StandsFor shape st content → found ≡ st
+found_is shape found st content was stands = sym was.state ∙ (finds shape st content was.frames was.closed was.opens stands).1
 
 -- what lies in a slot that is kept is what lay there
 kept_at : (shape : Shape) (content image : List ℕ) → KeepsSlots shape None content image → (slot : ℕ) → IsInside shape (length content) slot
@@ -93,17 +94,6 @@ module _ {D : Type 0} (seen : D → List ℕ) (held : Held D) (shows : Shows see
       ap (λ (n : ℕ). resolved (cached n blocks) now) size_is ∙ ap (resolved in_memory) is ∙ counted_seen in_memory st
       ∙ ap (λ (x : StateOf Version). booted (x.boot + 1) x) (sym same)
 
-  -- where the disk held a store of this state
-  pub state_counted : (content : List ℕ) → seen held.disk ≡ content → (st : StateOf Version) → StandsFor held.shape st content
-      → (blocks : BTreeMap ℕ (List ℕ)) (size : ℕ) (now : StateOf Entry) → size ≡ held.shape.block
-      → AllSlots (IsStored held.shape blocks (seen held.disk)) (found_in held.shape held.frames)
-      → now ≡ booted ((found_in held.shape held.frames).boot + 1) (found_in held.shape held.frames) → resolved (cached size blocks) now ≡ booted
-      (st.boot + 1) st
-  state_counted content content_is st stands blocks size now size_is stored is =
-      let here : StandsFor held.shape st (seen held.disk) = subst (λ (x : List ℕ). StandsFor held.shape st x) (sym content_is) stands in
-      found_counted blocks size now size_is stored is
-      ∙ ap (λ (x : StateOf Version). booted (x.boot + 1) x) (finds held.shape st (seen held.disk) held.frames held.closed shows.opens here).1
-
   -- the disk held a store, and this state was found
   is_found : (content : List ℕ) → seen held.disk ≡ content → IsFound held.shape found content
   is_found content content_is = subst (λ (x : List ℕ). IsFound held.shape found x) content_is
@@ -118,15 +108,18 @@ module _ {D : Type 0} (seen : D → List ℕ) (held : Held D) (shows : Shows see
       → AllSlots (IsStored held.shape blocks (seen held.disk)) (found_in held.shape held.frames)
       → now ≡ booted ((found_in held.shape held.frames).boot + 1) (found_in held.shape held.frames)
       → (found_in held.shape held.frames).boot < 4294967295
-      → (st : StateOf Version) × IsFound held.shape st content × (st.boot < 4294967295)
-      × (resolved (cached size blocks) now ≡ booted (st.boot + 1) st)
-  found_there content content_is blocks size now size_is stored is few =
-      (found, is_found content content_is, omega (arith, few, found_boot), found_counted blocks size now size_is stored is)
+      → IsCounted held.shape content (resolved (cached size blocks) now)
+  found_there content content_is blocks size now size_is stored is few = record {
+    before = found;
+    found = is_found content content_is;
+    not_worn = omega (arith, few, found_boot);
+    counted = found_counted blocks size now size_is stored is;
+  }
 
   -- a store that is worn
-  pub worn_there : (content : List ℕ) → seen held.disk ≡ content → (found_in held.shape held.frames).boot ≡ 4294967295 → (st : StateOf Version)
-      × IsFound held.shape st content × (st.boot ≡ 4294967295)
-  worn_there content content_is worn = (found, is_found content content_is, found_boot ∙ worn)
+  pub worn_there : (content : List ℕ) → seen held.disk ≡ content → (found_in held.shape held.frames).boot ≡ 4294967295
+      → IsWornOut held.shape content
+  worn_there content content_is worn = record { before = found; found = is_found content content_is; worn = found_boot ∙ worn }
 
   -- the list did not end early where the disk held a store
   pub closed_there : (st : StateOf Version) → StandsFor held.shape st (seen held.disk) → held.closed ≡ true
@@ -185,31 +178,3 @@ module _ {D : Type 0} (seen : D → List ℕ) (may_leave : D → List ℕ → Ty
       (λ image at. ⊎_elim (λ had. inl had) (λ now. inr
       (either_stands seen held shows st here image (subst (λ (x : List ℕ). either x image) (sym untouched.content) now))) at)
       (then_allowed seen may_leave moment left_since only_now disk held.disk new either untouched (run (closed_there seen held shows st here)))
-
-  -- where each image that the disk allowed stands for the state, each image does
-  pub synced_moments : (seen_is_left : may_leave disk (seen disk))
-      → (held.closed ≡ true → LeavesOnly moment left_since held.disk new (IsAllowedOr (may_leave held.disk)
-      (IsKeptInEither held.shape (found_in held.shape held.frames)
-      (booted ((found_in held.shape held.frames).boot + 1) (found_in held.shape held.frames)) (seen held.disk))))
-      → (st : StateOf Version) → LeavesState held.shape st (may_leave disk) → LeavesOnly moment left_since disk new
-      (StandsForEither held.shape st (booted (st.boot + 1) st))
-  synced_moments seen_is_left run st stands =
-      let either = StandsForEither held.shape st (booted (st.boot + 1) st) in
-      widened moment left_since disk new (IsAllowedOr (may_leave disk) either) either
-      (λ image at. ⊎_elim (λ had. inl (stands image had)) (λ now. now) at)
-      (opening_moments run st (stands (seen disk) seen_is_left))
-
--- ---- afterwards
-
--- A crash leaves what stands for the state of an open store.
-pub standing_leaves : {D : Type 0} (tells : Type 0) (seen : D → List ℕ) (may_leave : D → List ℕ → Type 0) (held : Held D) (index : Index)
-    (blocks : BTreeMap ℕ (List ℕ)) (zero_block : List ℕ)
-    → Standing tells seen may_leave held index blocks zero_block → tells → held.halted ≡ false
-    → LeavesState held.shape (resolved (cached held.shape.block blocks) (state_of index)) (may_leave held.disk)
-standing_leaves tells seen may_leave held index blocks zero_block standing told runs image left =
-    let was = standing.on_disk told runs in
-    let opens : OpensAs held.shape held.frames true (seen held.disk) = subst
-    (λ (b : Bool). OpensAs held.shape held.frames b (seen held.disk)) was.closed was.shows.opens in
-    subst (λ (x : List ℕ). StandsFor held.shape (resolved (cached held.shape.block blocks) (state_of index)) x) (sym (was.durable.only image left))
-    (stands_for held.shape blocks (state_of index) (seen held.disk)
-    (record { frames = held.frames; opens = opens; leads = standing.indexed.leads }) was.stored)

@@ -1,10 +1,8 @@
 -- A change of what a list of frames leads to, as one change of the disk.
-use Rattle.std.proofs.Common.{◌≡◌, ◌≢◌, ◌⊎◌, inl, inr, ⊎_elim, ℕ, ◌+◌, ◌≤◌, Bool, true, Option, Some, None, List, [], ◌∷◌, ◌++◌, Result, Ok, Err, refl, sym, ap, subst, ◌∙◌, arith}
+use Rattle.std.proofs.Common.{◌≡◌, ◌≢◌, ◌⊎◌, inl, inr, ⊎_elim, ℕ, ◌+◌, ◌≤◌, Bool, Option, Some, None, List, [], ◌∷◌, ◌++◌, Result, Ok, Err, refl, sym, subst}
 use Rattle.std.specs.Option.{IsSome}
 use Rattle.std.specs.Result.{OnOk}
 use Rattle.fab_disk.specs.declared.disk.Disk as on_disk
-use Rattle.fab_disk.specs.Disk.{IsUntouched, Kept}
-use Rattle.fab_disk.specs.Plan.{KeepsPlan}
 use Rattle.fab_disk.specs.Changing.{End, Whole, Cut, NotBegun, Stands, Still, Run, Change}
 use Rattle.fab_disk.proofs.Changing.{widen, then, cut_first, idle, behind, same, none, refused_any}
 use Rattle.frame_store.specs.declared.frames.Frame.{Frame}
@@ -70,8 +68,6 @@ pub not_whole : (fault : StoreFault) → end_of (refused fault) ≡ Whole → �
 not_whole StoreFaults.Disk is = cc
 not_whole (StoreFaults.Full n) is = cc
 not_whole StoreFaults.Halted is = cc
-not_whole StoreFaults.NotAStore is = cc
-not_whole StoreFaults.Worn is = cc
 not_whole StoreFaults.NoMemory is = cc
 
 -- the disk failed where the change was cut short

@@ -1,17 +1,19 @@
 -- What a clause sees of a brick's store, and of the answers of its calls.
-use Rattle.std.specs.Prelude.{◌≡◌, ◌≢◌, ℕ, Bool, true, false, Result, Ok, Err}
+use Rattle.std.specs.Prelude.{◌≡◌, ℕ, Bool, true, false, Result, Ok, Err}
 use Rattle.std.specs.List.Sorted.{IsStrictlySortedBy}
 use Rattle.std.specs.Map.{keys_of}
 use Rattle.version_log.specs.Versions.{Version, IsRising}
 use Rattle.frame_store.specs.declared.faults.FrameFault.{FrameFault}
 use Rattle.frame_store.specs.declared.faults.FrameFault.TheVariants as frames
-use Rattle.frame_store.specs.declared.faults.OpenFault.{OpenFault}
-use Rattle.frame_store.specs.declared.faults.OpenFault.TheVariants as opens
+use Rattle.frame_store.specs.declared.faults.OpenFault.{OpenFault as ListFault}
+use Rattle.frame_store.specs.declared.faults.OpenFault.TheVariants as lists
 use Rattle.frame_store.specs.declared.shapes.Shape.{Shape}
 use Rattle.brick_state.specs.States.{Place, StateOf, place_cmp}
 use Rattle.brick_store.specs.declared.faults.StoreFault.{StoreFault}
 use Rattle.brick_store.specs.Blocks.{log_at}
-use Rattle.brick_store.specs.declared.faults.StoreFault.TheVariants.{Disk, Full, Halted, NotAStore, Worn, NoMemory}
+use Rattle.brick_store.specs.declared.faults.StoreFault.TheVariants.{Disk, Full, Halted, NoMemory}
+use Rattle.brick_store.specs.declared.faults.OpenFault.{OpenFault}
+use Rattle.brick_store.specs.declared.faults.OpenFault.TheVariants as opens
 
 -- a store over a disk: what it was made for, what it keeps, how many bytes its list of frames takes, and whether a call of it
 -- answered Disk
@@ -39,14 +41,12 @@ halted_after halted (Err other) = halted
 halted_after halted (Ok value) = halted
 
 -- The answers of a change: Halted exactly where the store was halted, Full exactly where it was not, the change adds a record
--- and there are as many as there may be, and then with their number; never what an opening answers.
+-- and there are as many as there may be, and then with their number.
 pub record IsAnswer (records live_before : ℕ) (adds : Bool) (halted halted_now : Bool) (result : Result (Unit {0}) StoreFault) : Type 0 where
   pub refused : halted ≡ true → result ≡ Err Halted
   pub only_then : result ≡ Err Halted → halted ≡ true
   pub full : halted ≡ false → adds ≡ true → live_before ≡ records → result ≡ Err (Full live_before)
   pub only_full : (n : ℕ) → result ≡ Err (Full n) → (halted ≡ false) × (adds ≡ true) × (live_before ≡ records) × (n ≡ live_before)
-  pub a_store : result ≢ Err NotAStore
-  pub not_worn : result ≢ Err Worn
   pub halts : halted_now ≡ halted_after halted result
 
 -- a fault of the list of frames is one of the store
@@ -55,8 +55,17 @@ fault_of frames.Disk = Disk
 fault_of frames.Halted = Halted
 fault_of frames.NoMemory = NoMemory
 
--- and so is one of its opening
-abbrev pub open_fault_of : OpenFault → StoreFault
-open_fault_of opens.Disk = Disk
-open_fault_of opens.NotAStore = NotAStore
-open_fault_of opens.NoMemory = NoMemory
+-- a fault of the opening of the list is one of the store's, and so is one of a reading or a change that the opening makes
+abbrev pub open_fault_of : ListFault → OpenFault
+open_fault_of lists.Disk = opens.Disk
+open_fault_of lists.NotAStore = opens.NotAStore
+open_fault_of lists.NoMemory = opens.NoMemory
+
+abbrev pub read_fault_of : FrameFault → OpenFault
+read_fault_of frames.Disk = opens.Disk
+read_fault_of frames.Halted = opens.Disk
+read_fault_of frames.NoMemory = opens.NoMemory
+
+abbrev pub start_fault_of : StoreFault → OpenFault
+start_fault_of Disk = opens.Disk
+start_fault_of fault = opens.NoMemory

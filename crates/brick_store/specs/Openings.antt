@@ -1,18 +1,32 @@
 -- What an opening reads.
-use Rattle.std.specs.Prelude.{◌≡◌, ◌⊎◌, ℕ, ◌+◌, ◌-◌, ◌<◌, ◌≤◌, ◌^◌, ◌==◌, Bool, ◌&&◌, true, false, Option, Some, None, IsSome, option_and_then, List, [], ◌∷◌, length}
+use Rattle.std.specs.Prelude.{Result, Ok, Err, ◌≡◌, ◌⊎◌, ℕ, ◌+◌, ◌-◌, ◌<◌, ◌≤◌, ◌^◌, ◌==◌, Bool, ◌&&◌, true, false, Option, Some, None, IsSome, option_and_then, List, [], ◌∷◌, length}
 use Rattle.std.specs.Ordering.{nat_cmp}
 use Rattle.std.specs.BTreeMap.{BTreeMap, get}
+use Rattle.fab_base.specs.declared.faults.IoFault.{IoFault}
+use Rattle.fab_base.specs.declared.faults.IoFault.TheVariants.{Failed}
+use Rattle.fab_base.specs.declared.faults.IoFault.TheVariants as writes
+use Rattle.fab_disk.specs.declared.disk.Disk as on_disk
+use Rattle.fab_disk.specs.Disk.{IsUntouched, LeavesOnly, Kept}
+use Rattle.fab_disk.specs.Plan.{IsRun}
+use Rattle.fab_disk.specs.Changing.{End, Whole, Cut, NotBegun}
 use Rattle.frame_store.specs.declared.shapes.Shape.{Shape}
 use Rattle.frame_store.specs.Listed.{size_of}
-use Rattle.brick_store.specs.Calls.{has_room_for}
+use Rattle.version_log.specs.Versions.{Version}
+use Rattle.brick_store.specs.declared.faults.OpenFault.{OpenFault}
+use Rattle.brick_store.specs.declared.faults.OpenFault.TheVariants.{Disk}
+use Rattle.brick_store.specs.Bricks.{Brick}
+use Rattle.brick_store.specs.Calls.{has_room_for, is_appendable, opening_calls}
+use Rattle.frame_store.specs.declared.faults.FrameFault.{FrameFault}
+use Rattle.frame_store.specs.declared.faults.FrameFault.TheVariants as lists
+use Rattle.frame_store.specs.Stores.{Held}
 use Rattle.frame_store.specs.Images.{HasSlot, OpensAs, KeepsSlots, block_in}
 use Rattle.frame_store.specs.declared.frames.Frame.{Frame}
 use Rattle.brick_state.specs.declared.records.Record.{Record}
 use Rattle.brick_state.specs.Entries.{Entry}
-use Rattle.brick_state.specs.States.{StateOf, empty}
+use Rattle.brick_state.specs.States.{StateOf, empty, booted}
 use Rattle.brick_state.specs.Folds.{Limits, applied, folded}
 use Rattle.brick_state.specs.KeptStates.{IsKeptState}
-use Rattle.brick_store.specs.Images.{record_of, records_of, limits_of}
+use Rattle.brick_store.specs.Images.{record_of, records_of, limits_of, IsFound, StandsFor, StandsForEither}
 use Rattle.brick_store.specs.Standing.{AllSlots, GroupHasMembers, IsCached, IsStored, Leads}
 use Rattle.std.specs.List.{AllByRecursion}
 
@@ -110,3 +124,76 @@ found_in shape frames = folded (limits_of shape) (records_of frames) empty
 -- has room for the count of an opening.
 abbrev pub opens_appendable : Shape → List Frame → Bool → Bool
 opens_appendable shape frames closed = (is_whole (limits_of shape) frames empty && closed) && has_room_for shape (size_of frames) 4
+
+-- the disk that is in the answer of an opening
+abbrev pub disk_in : {D : Type 0} → Result (Brick D) (OpenFault × D) → D
+disk_in (Ok store) = store.disk
+disk_in (Err refused) = refused.1
+
+-- how an opening ended, by its fault or its answer: a fault of the disk cut it short, and any other came before the first call
+abbrev pub stopped_by : OpenFault → End
+stopped_by Disk = Cut
+stopped_by fault = NotBegun
+
+abbrev pub opening_end : {T : Type 0} → Result T OpenFault → End
+opening_end (Ok value) = Whole
+opening_end (Err fault) = stopped_by fault
+
+abbrev pub end_in : {D : Type 0} → Result (Brick D) (OpenFault × D) → End
+end_in (Ok store) = Whole
+end_in (Err refused) = stopped_by refused.0
+
+-- how a format ended, by its answer, and its fault by that of its list
+abbrev pub making_end : Result (Unit {0}) IoFault → End
+making_end (Ok value) = Whole
+making_end (Err Failed) = Cut
+making_end (Err writes.NoMemory) = NotBegun
+
+abbrev pub write_fault_of : FrameFault → IoFault
+write_fault_of lists.NoMemory = writes.NoMemory
+write_fault_of fault = Failed
+
+-- The image held a store that was not worn, and this is its state with the opening counted.
+pub record IsCounted (shape : Shape) (image : List ℕ) (now : StateOf Version) : Type 0 where
+  pub before : StateOf Version
+  pub found : IsFound shape before image
+  pub not_worn : before.boot < 2 ^ 32 - 1
+  pub counted : now ≡ booted (before.boot + 1) before
+
+-- The image held a store that was opened as often as it can be.
+pub record IsWornOut (shape : Shape) (image : List ℕ) : Type 0 where
+  pub before : StateOf Version
+  pub found : IsFound shape before image
+  pub worn : before.boot ≡ 2 ^ 32 - 1
+
+module _ {D : Type 0} (d : on_disk.Ghosts D) where
+  -- An opening of a store that was read, by how it ended: its list makes this state, and whole says whether each frame of it counts.
+  pub record Starts (whole : Bool) (st : StateOf Entry) (old : Held D) (new : D) (end : End) : Type 0 where
+    pub moments : d.tells → old.closed ≡ true → LeavesOnly d.moment d.left_since old.disk new
+        (IsAllowedOr (d.may_leave old.disk) (IsKeptInEither old.shape st (booted (st.boot + 1) st) (d.seen old.disk)))
+    pub run : IsRun d.tells d.moment d.plan d.unlisted (opening_calls (is_appendable whole old 4)) old.disk new (end ≡ Whole) (end ≡ Cut)
+    pub not_worn : end ≡ Cut → d.unlisted old.disk → st.boot < 2 ^ 32 - 1
+    pub cut : end ≡ Cut → d.tells → d.unlisted old.disk → old.closed ≡ true
+        → StopsOpening d.seen d.certain d.moment (opening_calls (is_appendable whole old 4)) old.disk new
+        (IsKeptIn old.shape st (d.seen old.disk)) (IsKeptIn old.shape (booted (st.boot + 1) st) (d.seen old.disk))
+    pub not_begun : end ≡ NotBegun → IsUntouched d.seen d.may_leave d.moment d.left_since old.disk new
+    pub cause : Kept (d.faults old.disk) (d.faults new) (d.sound old.disk) (d.sound new) (end ≡ Cut)
+
+  -- An opening of a disk, by how it ended. What its images show is told of a list with a closed gate behind it, as each list has that a store wrote:
+  -- while another one is rewritten the file grows, and what a crash leaves behind the old end may count as frames.
+  pub record Opens (shape : Shape) (old new : D) (end : End) : Type 0 where
+    -- At each moment each image is one that the disk allowed before, or opens as the state before or after.
+    pub moments : d.tells → (st : StateOf Version) → StandsFor shape st (d.seen old) → LeavesOnly d.moment d.left_since old new
+        (IsAllowedOr (d.may_leave old) (StandsForEither shape st (booted (st.boot + 1) st)))
+    -- Five calls of `write_at` and `sync`, or twelve, as the list of frames is that the disk holds.
+    pub run : d.tells → (frames : List Frame) (closed : Bool) → OpensAs shape frames closed (d.seen old) → IsRun d.tells d.moment d.plan d.unlisted
+        (opening_calls (opens_appendable shape frames closed)) old new (end ≡ Whole) (end ≡ Cut)
+    -- Cut short where no fault is listed, there was a store that was not worn. An opening reads first, and a listed call may fail it before it writes.
+    pub not_worn : end ≡ Cut → d.tells → d.unlisted old → (st : StateOf Version) → StandsFor shape st (d.seen old) → st.boot < 2 ^ 32 - 1
+    -- What a read gives is then as it was until the last call but one, and then the store with the opening counted.
+    pub cut : end ≡ Cut → d.tells → d.unlisted old → (frames : List Frame) (closed : Bool) → OpensAs shape frames closed (d.seen old)
+        → (st : StateOf Version) → StandsFor shape st (d.seen old)
+        → StopsOpening d.seen d.certain d.moment (opening_calls (opens_appendable shape frames closed)) old new
+        (StandsFor shape st) (StandsFor shape (booted (st.boot + 1) st))
+    pub not_begun : end ≡ NotBegun → IsUntouched d.seen d.may_leave d.moment d.left_since old new
+    pub cause : Kept (d.faults old) (d.faults new) (d.sound old) (d.sound new) (end ≡ Cut)

@@ -9,7 +9,7 @@ ghost use Rattle.frame_store.specs.Stores.{IsRead, IsSame};
 ghost use Rattle.brick_store.specs.Standing.{IsCached, IsStored};
 ghost use Rattle.brick_store.specs.Openings.{IsHeld, AreRead, IsInside};
 
-use crate::faults::StoreFault;
+use crate::faults::OpenFault;
 use brick_state::ZERO_SLOT;
 use fab_base::Bytes;
 use fab_disk::Disk;
@@ -23,7 +23,7 @@ fn read_block<D: Disk>(
     frames: &mut FrameStore<D>,
     block: u16,
     slot: u32,
-) -> Result<Bytes, StoreFault>
+) -> Result<Bytes, OpenFault>
     requires block { block ≡ frames.old.shape.block }
     requires runs { frames.old.halted ≡ false }
     ensures has { IfOk result (λ bytes. HasSlot frames.old.shape frames.old.size slot) }
@@ -33,16 +33,14 @@ fn read_block<D: Disk>(
     ensures untouched { IsUntouched D.seen D.may_leave D.moment D.left_since frames.old.disk frames.new.disk }
     ensures certain { D.certain frames.new.disk ≡ D.certain frames.old.disk }
     ensures still_runs { IsOk result → frames.new.halted ≡ false }
-    ensures no_slot { result ≡ Err StoreFault.NotAStore → HasSlot frames.old.shape frames.old.size slot → ⊥ }
-    ensures not_halted { result ≢ Err StoreFault.Halted }
-    ensures not_full { (n : ℕ) → result ≢ Err (StoreFault.Full n) }
-    ensures not_worn { result ≢ Err StoreFault.Worn }
-    ensures plan { KeepsPlan D.plan D.unlisted frames.old.disk frames.new.disk (result ≡ Err StoreFault.Disk) }
+    ensures no_slot { result ≡ Err OpenFault.NotAStore → HasSlot frames.old.shape frames.old.size slot → ⊥ }
+    ensures not_worn { result ≢ Err OpenFault.Worn }
+    ensures plan { KeepsPlan D.plan D.unlisted frames.old.disk frames.new.disk (result ≡ Err OpenFault.Disk) }
     ensures cause { Kept (D.faults frames.old.disk) (D.faults frames.new.disk) (D.sound frames.old.disk) (D.sound frames.new.disk)
-        (result ≡ Err StoreFault.Disk) }
+        (result ≡ Err OpenFault.Disk) }
 {
     if !frames.has_slot(slot) {
-        return Err(StoreFault::NotAStore);
+        return Err(OpenFault::NotAStore);
     }
     let mut bytes = vec![in alloc; 0u8; block as usize]?;
     frames.read_slot(slot, &mut bytes)?;
@@ -56,7 +54,7 @@ fn hold_block<D: Disk>(
     blocks: &mut BTreeMap<u32, Bytes>,
     block: u16,
     slot: u32,
-) -> Result<(), StoreFault>
+) -> Result<(), OpenFault>
     requires block { block ≡ frames.old.shape.block }
     requires runs { frames.old.halted ≡ false }
     ensures held { OnOk result (IsHeld blocks.new slot) }
@@ -67,13 +65,11 @@ fn hold_block<D: Disk>(
     ensures untouched { IsUntouched D.seen D.may_leave D.moment D.left_since frames.old.disk frames.new.disk }
     ensures certain { D.certain frames.new.disk ≡ D.certain frames.old.disk }
     ensures still_runs { IsOk result → frames.new.halted ≡ false }
-    ensures no_slot { result ≡ Err StoreFault.NotAStore → IsInside frames.old.shape frames.old.size slot → ⊥ }
-    ensures not_halted { result ≢ Err StoreFault.Halted }
-    ensures not_full { (n : ℕ) → result ≢ Err (StoreFault.Full n) }
-    ensures not_worn { result ≢ Err StoreFault.Worn }
-    ensures plan { KeepsPlan D.plan D.unlisted frames.old.disk frames.new.disk (result ≡ Err StoreFault.Disk) }
+    ensures no_slot { result ≡ Err OpenFault.NotAStore → IsInside frames.old.shape frames.old.size slot → ⊥ }
+    ensures not_worn { result ≢ Err OpenFault.Worn }
+    ensures plan { KeepsPlan D.plan D.unlisted frames.old.disk frames.new.disk (result ≡ Err OpenFault.Disk) }
     ensures cause { Kept (D.faults frames.old.disk) (D.faults frames.new.disk) (D.sound frames.old.disk) (D.sound frames.new.disk)
-        (result ≡ Err StoreFault.Disk) }
+        (result ≡ Err OpenFault.Disk) }
 {
     if slot == ZERO_SLOT || blocks.contains_key(&slot) {
         return Ok(());
@@ -89,7 +85,7 @@ pub(crate) fn read_blocks<D: Disk>(
     frames: &mut FrameStore<D>,
     slots: &[u32],
     block: u16,
-) -> Result<BTreeMap<u32, Bytes>, StoreFault>
+) -> Result<BTreeMap<u32, Bytes>, OpenFault>
     requires block { block ≡ frames.old.shape.block }
     requires runs { frames.old.halted ≡ false }
     ensures held { IfOk result (λ blocks. AllByRecursion (IsHeld blocks) slots.now) }
@@ -98,13 +94,11 @@ pub(crate) fn read_blocks<D: Disk>(
     ensures untouched { IsUntouched D.seen D.may_leave D.moment D.left_since frames.old.disk frames.new.disk }
     ensures certain { D.certain frames.new.disk ≡ D.certain frames.old.disk }
     ensures still_runs { IsOk result → frames.new.halted ≡ false }
-    ensures no_slot { result ≡ Err StoreFault.NotAStore → AllByRecursion (IsInside frames.old.shape frames.old.size) slots.now → ⊥ }
-    ensures not_halted { result ≢ Err StoreFault.Halted }
-    ensures not_full { (n : ℕ) → result ≢ Err (StoreFault.Full n) }
-    ensures not_worn { result ≢ Err StoreFault.Worn }
-    ensures plan { KeepsPlan D.plan D.unlisted frames.old.disk frames.new.disk (result ≡ Err StoreFault.Disk) }
+    ensures no_slot { result ≡ Err OpenFault.NotAStore → AllByRecursion (IsInside frames.old.shape frames.old.size) slots.now → ⊥ }
+    ensures not_worn { result ≢ Err OpenFault.Worn }
+    ensures plan { KeepsPlan D.plan D.unlisted frames.old.disk frames.new.disk (result ≡ Err OpenFault.Disk) }
     ensures cause { Kept (D.faults frames.old.disk) (D.faults frames.new.disk) (D.sound frames.old.disk) (D.sound frames.new.disk)
-        (result ≡ Err StoreFault.Disk) }
+        (result ≡ Err OpenFault.Disk) }
 {
     let mut blocks = BTreeMap::new(alloc);
     for slot in slots {

@@ -1,38 +1,46 @@
 //! Making a store.
 
-ghost use Rattle.std.specs.Prelude.{◌≡◌, ◌⊎◌, ◌+◌, ◌≤◌, Err, IsOk, OnOk, OnErr};
-ghost use Rattle.fab_disk.specs.Disk.{IsUntouched, Kept};
-ghost use Rattle.fab_disk.specs.Plan.{IsRun};
+ghost use Rattle.std.specs.Prelude.{◌≡◌, ◌≤◌};
+ghost use Rattle.fab_disk.specs.Changing.{IsAny, Run};
 ghost use Rattle.frame_store.specs.Layouts.{shape_of};
 ghost use Rattle.brick_state.specs.States.{empty};
-ghost use Rattle.brick_store.specs.Images.{StandsFor, LeavesState};
+ghost use Rattle.brick_store.specs.Images.{StandsFor};
+ghost use Rattle.brick_store.specs.Openings.{making_end, write_fault_of};
 
-use crate::faults::StoreFault;
-use fab_base::BrickId;
+use fab_base::{BrickId, IoFault};
 use fab_disk::Disk;
+use frame_store::FrameFault;
 use std::alloc::Global;
 
 /// Makes an empty store of these blocks and records for a brick, in the place of whatever the disk holds. It makes five calls of
 /// `write_at` and `sync`. What the disk opens as after a format that did not succeed is not told.
 ///
 /// # Errors
-/// [`StoreFault::Disk`]: the disk failed. [`StoreFault::NoMemory`]: memory was refused, and the disk is as it was.
+/// [`IoFault::Failed`]: the disk failed. [`IoFault::NoMemory`]: memory was refused, and the disk is as it was.
 pub fn format<D: Disk>(
     alloc: Global,
     disk: &mut D,
     me: BrickId,
     block: u16,
     records: u32,
-) -> Result<(), StoreFault>
+) -> Result<(), IoFault>
     requires block_range { (1 ≤ block) × (block ≤ 4096) }
     requires records_range { (1 ≤ records) × (records ≤ 1048576) }
-    ensures empty { D.tells → OnOk result (StandsFor (shape_of me.0 block records) empty (D.seen disk.new)) }
-    ensures durable { D.tells → OnOk result (LeavesState (shape_of me.0 block records) empty (D.may_leave disk.new)) }
-    ensures run { IsRun D.tells D.moment D.plan D.unlisted 5 disk.old disk.new (IsOk result) (result ≡ Err StoreFault.Disk) }
-    ensures only { OnErr result ((result ≡ Err StoreFault.Disk) ⊎ (result ≡ Err StoreFault.NoMemory)) }
-    ensures no_memory { result ≡ Err StoreFault.NoMemory → IsUntouched D.seen D.may_leave D.moment D.left_since disk.old disk.new }
-    ensures cause { Kept (D.faults disk.old) (D.faults disk.new) (D.sound disk.old) (D.sound disk.new) (result ≡ Err StoreFault.Disk) }
+    // After it the disk stands for a brick that keeps nothing, and so does whatever a crash leaves.
+    ensures change { Run D.Disk 5 IsAny IsAny (StandsFor (shape_of me.0 block records) empty) disk.old disk.new (making_end result) }
 {
-    frame_store::format(alloc, disk, me.0, block, records)?;
-    Ok(())
+    match frame_store::format(alloc, disk, me.0, block, records) {
+        Ok(()) => Ok(()),
+        Err(fault) => Err(write_fault(fault)),
+    }
+}
+
+// The fault of a format, by that of its list: the disk failed, or memory was refused.
+fn write_fault(fault: FrameFault) -> IoFault
+    ensures { result ≡ write_fault_of fault }
+{
+    match fault {
+        FrameFault::Disk | FrameFault::Halted => IoFault::Failed,
+        FrameFault::NoMemory => IoFault::NoMemory,
+    }
 }

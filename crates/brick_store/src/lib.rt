@@ -21,7 +21,7 @@ pub mod states;
 pub mod stores;
 mod taking_up;
 
-pub use faults::StoreFault;
+pub use faults::{OpenFault, StoreFault};
 pub use formats::format;
 pub use openings::open_store;
 pub use states::State;

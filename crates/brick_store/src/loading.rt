@@ -13,7 +13,7 @@ ghost use Rattle.brick_store.specs.Images.{records_of, limits_of};
 ghost use Rattle.brick_store.specs.Openings.{IsLoaded};
 
 use crate::caches::read_blocks;
-use crate::faults::StoreFault;
+use crate::faults::OpenFault;
 use crate::readings::{Folded, fold};
 use fab_base::Bytes;
 use fab_disk::Disk;
@@ -35,7 +35,7 @@ pub(crate) fn load<D: Disk>(
     list: &[Frame],
     block: u16,
     records: u32,
-) -> Result<Loaded, StoreFault>
+) -> Result<Loaded, OpenFault>
     requires list { list.now ≡ frames.old.frames }
     requires shape { IsShape frames.old.shape }
     requires block { block ≡ frames.old.shape.block }
@@ -48,17 +48,15 @@ pub(crate) fn load<D: Disk>(
     ensures untouched { IsUntouched D.seen D.may_leave D.moment D.left_since frames.old.disk frames.new.disk }
     ensures certain { D.certain frames.new.disk ≡ D.certain frames.old.disk }
     ensures still_runs { IsOk result → frames.new.halted ≡ false }
-    ensures worn { result ≡ Err StoreFault.Worn → (folded (limits_of frames.old.shape) (records_of frames.old.frames) empty).boot ≡ 2 ^ 32 - 1 }
-    ensures not_halted { result ≢ Err StoreFault.Halted }
-    ensures not_full { (n : ℕ) → result ≢ Err (StoreFault.Full n) }
-    ensures no_slot { D.tells → result ≢ Err StoreFault.NotAStore }
-    ensures plan { KeepsPlan D.plan D.unlisted frames.old.disk frames.new.disk (result ≡ Err StoreFault.Disk) }
+    ensures worn { result ≡ Err OpenFault.Worn → (folded (limits_of frames.old.shape) (records_of frames.old.frames) empty).boot ≡ 2 ^ 32 - 1 }
+    ensures no_slot { D.tells → result ≢ Err OpenFault.NotAStore }
+    ensures plan { KeepsPlan D.plan D.unlisted frames.old.disk frames.new.disk (result ≡ Err OpenFault.Disk) }
     ensures cause { Kept (D.faults frames.old.disk) (D.faults frames.new.disk) (D.sound frames.old.disk) (D.sound frames.new.disk)
-        (result ≡ Err StoreFault.Disk) }
+        (result ≡ Err OpenFault.Disk) }
 {
     let folded = fold(alloc, list, records)?;
     if folded.index.boot() == 4294967295 {
-        return Err(StoreFault::Worn);
+        return Err(OpenFault::Worn);
     }
     let slots = folded.index.slots()?;
     match read_blocks(alloc, frames, &slots, block) {

@@ -1,9 +1,6 @@
 //! Making a store go on once it was read.
 
-ghost use Rattle.std.specs.Prelude.{◌≡◌, ◌≢◌, ◌⊎◌, ◌+◌, ◌-◌, ◌<◌, ◌^◌, true, false, Some, None, IsSome, Err, IsOk, OnOk, OnErr, length};
-ghost use Rattle.fab_disk.specs.Disk.{IsUntouched, LeavesOnly};
-ghost use Rattle.fab_disk.specs.Disk as disks;
-ghost use Rattle.fab_disk.specs.Plan.{IsRun};
+ghost use Rattle.std.specs.Prelude.{◌≡◌, ◌≢◌, ◌+◌, ◌-◌, ◌<◌, ◌^◌, true, false, Some, None, IsSome, Err, OnOk, length};
 ghost use Rattle.frame_store.specs.Images.{KeepsSlots};
 ghost use Rattle.frame_store.specs.Listed.{Fits};
 ghost use Rattle.brick_state.specs.States.{empty, booted};
@@ -12,10 +9,9 @@ ghost use Rattle.brick_state.specs.Indexes.{state_of, IsReady};
 ghost use Rattle.brick_state.specs.Indexes as indexes;
 ghost use Rattle.brick_store.specs.Images.{record_of, limits_of};
 ghost use Rattle.brick_store.specs.Standing.{Leads};
-ghost use Rattle.brick_store.specs.Calls.{is_appendable, opening_calls};
 ghost use Rattle.brick_store.specs.Ends.{end_of, StateChange};
 ghost use Rattle.brick_store.specs.Steps.{IsSettled, Step, CanChange, IsReadAs, changed, HasAppendRoom};
-ghost use Rattle.brick_store.specs.Openings.{IsAllowedOr, IsKeptIn, IsKeptInEither, StopsOpening};
+ghost use Rattle.brick_store.specs.Openings.{Starts};
 
 use crate::faults::StoreFault;
 use crate::fresh_lists::make_appendable;
@@ -48,9 +44,6 @@ fn append_count<D: Disk>(
     ensures made { OnOk result (state_of index.new ≡ changed (indexes.limits_of index.old) item.now (state_of index.old)) }
     ensures limits { indexes.limits_of index.new ≡ indexes.limits_of index.old }
     ensures no_memory { result ≢ Err StoreFault.NoMemory }
-    ensures run { IsRun D.tells D.moment D.plan D.unlisted 4 frames.old.disk frames.new.disk (IsOk result) (result ≡ Err StoreFault.Disk) }
-    ensures cause { disks.Kept (D.faults frames.old.disk) (D.faults frames.new.disk) (D.sound frames.old.disk) (D.sound frames.new.disk)
-        (result ≡ Err StoreFault.Disk) }
 {
     frames.append(frame.kind, frame.body.as_slice())?;
     apply(index, item);
@@ -76,19 +69,7 @@ pub fn start<D: Disk>(
     ensures runs { OnOk result (frames.new.halted ≡ false) }
     ensures settled { D.tells → OnOk result (IsSettled D.Disk frames.new) }
     ensures slots { D.tells → OnOk result (KeepsSlots frames.old.shape None (D.seen frames.old.disk) (D.seen frames.new.disk)) }
-    ensures moments { D.tells → frames.old.closed ≡ true → LeavesOnly D.moment D.left_since frames.old.disk frames.new.disk
-        (IsAllowedOr (D.may_leave frames.old.disk) (IsKeptInEither frames.old.shape (state_of index.old)
-        (booted ((state_of index.old).boot + 1) (state_of index.old)) (D.seen frames.old.disk))) }
-    ensures only { OnErr result ((result ≡ Err StoreFault.Disk) ⊎ (result ≡ Err StoreFault.NoMemory)) }
-    ensures no_memory { result ≡ Err StoreFault.NoMemory → IsUntouched D.seen D.may_leave D.moment D.left_since frames.old.disk frames.new.disk }
-    ensures cut { D.tells → D.unlisted frames.old.disk → frames.old.closed ≡ true → result ≡ Err StoreFault.Disk
-        → StopsOpening D.seen D.certain D.moment (opening_calls (is_appendable whole frames.old 4)) frames.old.disk frames.new.disk
-        (IsKeptIn frames.old.shape (state_of index.old) (D.seen frames.old.disk))
-        (IsKeptIn frames.old.shape (booted ((state_of index.old).boot + 1) (state_of index.old)) (D.seen frames.old.disk)) }
-    ensures run { IsRun D.tells D.moment D.plan D.unlisted (opening_calls (is_appendable whole frames.old 4)) frames.old.disk frames.new.disk
-        (IsOk result) (result ≡ Err StoreFault.Disk) }
-    ensures cause { disks.Kept (D.faults frames.old.disk) (D.faults frames.new.disk) (D.sound frames.old.disk) (D.sound frames.new.disk)
-        (result ≡ Err StoreFault.Disk) }
+    ensures starts { Starts D.Disk whole (state_of index.old) frames.old frames.new.disk (end_of result) }
 {
     let item = Record::Kept(Kept::Boot(index.boot() + 1));
     let frame = frame_of(alloc, &item)?;

@@ -14,4 +14,4 @@ pub mod Stills
 pub mod Requests
 pub mod Starts
 pub mod Sent
-pub mod Runs
+pub mod Shown

@@ -10,7 +10,7 @@ use Rattle.frame_store.specs.declared.shapes.Shape.{Shape}
 use Rattle.version_log.specs.Versions.{Version}
 use Rattle.brick_state.specs.States.{StateOf}
 use Rattle.brick_store.specs.Bricks.{Brick}
-use Rattle.brick_store.specs.Images.{StandsFor, LeavesState}
+use Rattle.brick_store.specs.Images.{StandsFor}
 use Rattle.fab_base.specs.Layouts.{Layout}
 use Rattle.protocol.specs.Nodes.{Node, view_at}
 use Rattle.protocol.specs.Views.{Learnt, first_learnt}
@@ -18,7 +18,7 @@ use Rattle.replica.specs.Parts.{IsFirstView, part_in, learnt_or}
 use Rattle.node.specs.declared.open_calls.OpenCalls.{OpenCalls}
 use Rattle.node.specs.Operations.{coordinator_of}
 use Rattle.node.specs.States.{state_with, parts_in}
-use Rattle.node.specs.Running.{running, state_of, shape_at, IsKept, IsBrickOf, ImageShows, LeavesBrick}
+use Rattle.node.specs.Running.{running, state_of, shape_at, IsKept, IsBrickOf, ImageShows}
 use Rattle.node.proofs.States.{same_states}
 use Rattle.node.proofs.Tables.{map_cond}
 
@@ -92,9 +92,3 @@ pub shows_so : {D : Type 0} (layout : Layout) (me : BrickId) (node : Node) (stor
     → IsKept layout store.state node → StandsFor store.shape store.state image → ImageShows layout me node image
 shows_so layout me node store image shape kept stands =
     record { st = store.state; stands = subst (λ (s : Shape). StandsFor s store.state image) shape stands; parts = kept.parts; first = kept.first }
-
--- so does all that a crash leaves
-pub leaves_so : {D : Type 0} (layout : Layout) (me : BrickId) (node : Node) (store : Brick D) (left : List ℕ → Type 0)
-    → store.shape ≡ shape_at layout me
-    → IsKept layout store.state node → LeavesState store.shape store.state left → LeavesBrick layout me node left
-leaves_so layout me node store left shape kept leaves = λ image is. shows_so layout me node store image shape kept (leaves image is)

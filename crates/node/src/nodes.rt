@@ -2,14 +2,14 @@
 
 ghost use Rattle.std.specs.Prelude.{◌≡◌, ◌≢◌, ◌⊎◌, ◌+◌, ◌-◌, ◌^◌, ◌<◌, ◌≤◌, ℕ, List, true, false, Some, None, Ok, Err, IsOk, IfOk, IfErr, OnOk, OnErr, length, vec_len};
 ghost use Rattle.std.specs.Option.{SomeIff};
-ghost use Rattle.fab_disk.specs.Disk.{IsUntouched, LeavesOnly, StopsEarly, Kept, KeepsRoom};
-ghost use Rattle.fab_disk.specs.Plan.{IsRun};
+ghost use Rattle.fab_disk.specs.Disk.{IsUntouched, KeepsRoom};
+ghost use Rattle.fab_disk.specs.Changing.{Stands};
 ghost use Rattle.frame_store.specs.Images.{IsNoStore};
-ghost use Rattle.version_log.specs.Versions.{Version};
-ghost use Rattle.brick_state.specs.States.{StateOf, booted};
 ghost use Rattle.brick_store.specs.Bricks.{Brick};
+ghost use Rattle.version_log.specs.Versions.{Version};
+ghost use Rattle.brick_state.specs.States.{StateOf};
 ghost use Rattle.brick_store.specs.Images.{IsFound};
-ghost use Rattle.brick_store.specs.Openings.{IsAllowedOr};
+ghost use Rattle.brick_store.specs.Openings.{IsCounted, IsWornOut};
 ghost use Rattle.protocol.specs.Nodes as machine;
 ghost use Rattle.protocol.specs.Nodes.{view_at, refusal_of, invoked, replied, received, absorbed, ticked, restarted};
 ghost use Rattle.messages.specs.declared.packets.Message.TheVariants as message;
@@ -18,17 +18,19 @@ ghost use Rattle.replica.specs.Parts.{IsFirstView, part_seen};
 ghost use Rattle.replica.specs.Reactions.{member_step};
 ghost use Rattle.replica.specs.Calls.{message_calls};
 ghost use Rattle.coord_phase.specs.Messages.{packets_from};
-ghost use Rattle.node.specs.Calls.{packet_calls, RunsAsOpening, StopsAsOpening};
+ghost use Rattle.node.specs.Calls.{packet_calls};
+ghost use Rattle.node.specs.Ends.{end_of, IsShown, StepChange};
 ghost use Rattle.node.specs.Faults.{halted_after, RefusesAs};
 ghost use Rattle.node.specs.States.{BeginsAs, StepsAs};
-ghost use Rattle.node.specs.Running.{shape_at, state_of, IsKept, ImageShows, ShowsEither, LeavesBrick, KeepsUnseen, IsSameBrick, reopened};
+ghost use Rattle.node.specs.Openings.{OpensBrick, disk_in, end_in};
+ghost use Rattle.node.specs.Running.{shape_at, state_of, IsKept, ImageShows, KeepsUnseen, IsSameBrick};
 
 use crate::faults::NodeFault;
 use crate::open_calls::OpenCalls;
 use crate::operations::first_view;
 use crate::outs::{Begun, Outs};
 use crate::sending::answer_messages;
-use brick_store::{BrickStore, State, StoreFault};
+use brick_store::{BrickStore, OpenFault, State};
 use fab_base::{Ask, BrickId, GroupId, Refusal, StripeNo, ViewNo};
 use fab_disk::{Armed, Disk, Plan};
 use layout::Layout;
@@ -74,59 +76,29 @@ impl<D: Disk> Node<D> {
     ///
     /// # Errors
     ///
-    /// Each hands the disk back, and is a fault of [`open_store`](brick_store::open_store). [`StoreFault::NotAStore`] also where the store
+    /// Each hands the disk back, and is a fault of [`open_store`](brick_store::open_store). [`OpenFault::NotAStore`] also where the store
     /// was opened, and has learnt a later view of a group: later views are not built yet.
     pub fn start(
         alloc: Global,
         layout: Layout,
         me: BrickId,
         disk: D,
-    ) -> Result<Node<D>, (StoreFault, D)>
+    ) -> Result<Node<D>, (OpenFault, D)>
         ensures layout { IfOk result (λ node. node.layout ≡ layout) }
         ensures me { IfOk result (λ node. node.me ≡ me) }
         ensures runs { IfOk result (λ node. node.brick.halted ≡ false) }
         ensures state { IfOk result (λ node. D.tells → (before : machine.Node) → ImageShows layout me before (D.seen disk)
             → state_of node ≡ restarted 1 before) }
         // There was a store that was not worn, and it is the one that was counted.
-        ensures found { IfOk result (λ node. D.tells → (st : StateOf Version) × IsFound (shape_at layout me) st (D.seen disk) × (st.boot < 2 ^ 32 - 1)
-            × (node.brick.state ≡ booted (st.boot + 1) st)) }
-        ensures seen { IfOk result (λ node. D.tells → ImageShows layout me (state_of node) (D.seen node.brick.disk)) }
-        ensures durable { IfOk result (λ node. D.tells → LeavesBrick layout me (state_of node) (D.may_leave node.brick.disk)) }
-        // At each moment each image is one that the disk allowed before, or shows the brick as it was, or opened once more.
-        ensures moments { IfOk result (λ node. D.tells → (before : machine.Node) → ImageShows layout me before (D.seen disk)
-            → LeavesOnly D.moment D.left_since disk node.brick.disk
-            (IsAllowedOr (D.may_leave disk) (ShowsEither layout me before (reopened before)))) }
-        ensures moments_err { IfErr result (λ e. D.tells → (before : machine.Node) → ImageShows layout me before (D.seen disk)
-            → LeavesOnly D.moment D.left_since disk e.1 (IsAllowedOr (D.may_leave disk) (ShowsEither layout me before (reopened before)))) }
-        // Where all that it allowed shows the brick, all shows one of the two.
-        ensures any_moment { IfOk result (λ node. D.tells → (before : machine.Node) → LeavesBrick layout me before (D.may_leave disk)
-            → LeavesOnly D.moment D.left_since disk node.brick.disk (ShowsEither layout me before (reopened before))) }
-        ensures any_moment_err { IfErr result (λ e. D.tells → (before : machine.Node) → LeavesBrick layout me before (D.may_leave disk)
-            → LeavesOnly D.moment D.left_since disk e.1 (ShowsEither layout me before (reopened before))) }
-        // Under a plan, the call that it names is reached exactly where the opening makes so many.
-        ensures run { IfOk result (λ node. RunsAsOpening D.tells D.seen D.moment D.plan D.unlisted (shape_at layout me) disk node.brick.disk (Unit {0}) ⊥) }
-        // A store that was there is opened whole before it is found to have learnt a later view.
-        ensures run_err { IfErr result (λ e. RunsAsOpening D.tells D.seen D.moment D.plan D.unlisted (shape_at layout me) disk e.1
-            (e.0 ≡ StoreFault.NotAStore) (e.0 ≡ StoreFault.Disk)) }
-        // Cut short where no fault is listed, its store was not worn.
-        ensures not_worn { IfErr result (λ e. e.0 ≡ StoreFault.Disk → D.tells → D.unlisted disk → (before : machine.Node)
-            → ImageShows layout me before (D.seen disk) → before.boot < 2 ^ 32 - 1) }
-        ensures cut { IfErr result (λ e. e.0 ≡ StoreFault.Disk
-            → StopsAsOpening D.tells D.seen D.certain D.moment D.unlisted layout me disk e.1) }
+        ensures found { IfOk result (λ node. D.tells → IsCounted (shape_at layout me) (D.seen disk) node.brick.state) }
+        ensures stands { IfOk result (λ node. D.tells → Stands D.Disk (ImageShows layout me (state_of node)) node.brick.disk) }
+        // What each moment leaves, how many calls it makes, and what is left where it is cut short.
+        ensures opens { OpensBrick D.Disk layout me disk (disk_in result) (end_in result) }
         // There is no store, and nothing has changed; or its store has learnt a later view.
-        ensures not_a_store { IfErr result (λ e. e.0 ≡ StoreFault.NotAStore → D.tells
+        ensures not_a_store { IfErr result (λ e. e.0 ≡ OpenFault.NotAStore → D.tells
             → (IsNoStore (shape_at layout me) (D.seen disk) × IsUntouched D.seen D.may_leave D.moment D.left_since disk e.1)
             ⊎ ((st : StateOf Version) × IsFound (shape_at layout me) st (D.seen disk) × (IsFirstView st → ⊥))) }
-        // There was a store, and it was opened as often as it can be.
-        ensures worn { IfErr result (λ e. e.0 ≡ StoreFault.Worn → D.tells → (st : StateOf Version) × IsFound (shape_at layout me) st (D.seen disk)
-            × (st.boot ≡ 2 ^ 32 - 1)) }
-        ensures unchanged { IfErr result (λ e. (e.0 ≡ StoreFault.Worn) ⊎ (e.0 ≡ StoreFault.NoMemory)
-            → IsUntouched D.seen D.may_leave D.moment D.left_since disk e.1) }
-        // No other fault is answered.
-        ensures not_halted { IfErr result (λ e. e.0 ≢ StoreFault.Halted) }
-        ensures not_full { IfErr result (λ e. (n : ℕ) → e.0 ≢ StoreFault.Full n) }
-        ensures cause { IfOk result (λ node. Kept (D.faults disk) (D.faults node.brick.disk) (D.sound disk) (D.sound node.brick.disk) ⊥) }
-        ensures cause_err { IfErr result (λ e. Kept (D.faults disk) (D.faults e.1) (D.sound disk) (D.sound e.1) (e.0 ≡ StoreFault.Disk)) }
+        ensures worn { IfErr result (λ e. e.0 ≡ OpenFault.Worn → D.tells → IsWornOut (shape_at layout me) (D.seen disk)) }
     {
         let store = match brick_store::open_store(
             alloc,
@@ -140,7 +112,7 @@ impl<D: Disk> Node<D> {
         };
         // In a later view the brick would not know whom it serves.
         if !is_first_view(&store) {
-            return Err((StoreFault::NotAStore, store.into_disk()));
+            return Err((OpenFault::NotAStore, store.into_disk()));
         }
         let calls = OpenCalls::new(alloc, me, store.boot());
         Ok(Node {
@@ -215,28 +187,13 @@ impl<D: Disk> Node<D> {
         // A message that makes no call of the disk changes nothing that is kept, and does not touch the disk. None is made where no stripe's part changes.
         ensures still { packet_calls self.old.layout self.old.me (state_of self.old) packet.now self.old.brick.listed ≡ 0 → OnOk result
             ((self.new.brick.state ≡ self.old.brick.state) × IsUntouched D.seen D.may_leave D.moment D.left_since self.old.brick.disk self.new.brick.disk) }
-        // After it a crash leaves only what shows the brick as it is now.
-        ensures durable { D.tells → OnOk result (LeavesBrick self.old.layout self.old.me (state_of self.new) (D.may_leave self.new.brick.disk)) }
-        // At each moment of the call each image shows the brick as it was, or with what the request makes it keep.
-        ensures moments { D.tells → self.old.brick.halted ≡ false → LeavesOnly D.moment D.left_since self.old.brick.disk self.new.brick.disk
-            (ShowsEither self.old.layout self.old.me (state_of self.old)
-            (absorbed (coding self.old.layout) self.old.me (state_of self.old) packet.now)) }
-        // Where the disk failed, what the last sync left shows the brick as it was. So does what a read gives, until the last call but one was made;
-        // from then on that shows the brick with what the request makes it keep.
-        ensures cut { D.tells → result ≡ Err NodeFault.Disk → StopsEarly D.seen D.certain D.moment (packet_calls self.old.layout self.old.me (state_of self.old) packet.now self.old.brick.listed)
-            self.old.brick.disk self.new.brick.disk (ImageShows self.old.layout self.old.me (state_of self.old))
-            (ImageShows self.old.layout self.old.me (absorbed (coding self.old.layout) self.old.me (state_of self.old) packet.now)) }
-        // Under a plan, the call that it names is reached exactly where the message makes so many.
-        ensures run { IsRun D.tells D.moment D.plan D.unlisted (packet_calls self.old.layout self.old.me (state_of self.old) packet.now self.old.brick.listed) self.old.brick.disk self.new.brick.disk
-            (IsOk result) (result ≡ Err NodeFault.Disk) }
+        // At each moment each image shows the brick as it was, or with what the request makes it keep. The calls are those of the packet.
+        ensures change { StepChange D.Disk (packet_calls self.old.layout self.old.me (state_of self.old) packet.now self.old.brick.listed)
+            (absorbed (coding self.old.layout) self.old.me (state_of self.old) packet.now) self.old self.new (end_of result) }
         ensures halted { self.old.brick.halted ≡ true → result ≡ Err NodeFault.Halted }
         ensures only_halted { result ≡ Err NodeFault.Halted → self.old.brick.halted ≡ true }
         ensures halts { self.new.brick.halted ≡ halted_after self.old.brick.halted result }
         ensures not_refused { (reason : Refusal) → result ≢ Err (NodeFault.Refused reason) }
-        ensures no_call { OnErr result (result ≢ Err NodeFault.Disk
-            → IsUntouched D.seen D.may_leave D.moment D.left_since self.old.brick.disk self.new.brick.disk) }
-        ensures cause { Kept (D.faults self.old.brick.disk) (D.faults self.new.brick.disk) (D.sound self.old.brick.disk) (D.sound self.new.brick.disk)
-            (result ≡ Err NodeFault.Disk) }
     {
         if self.is_halted() {
             return Err(NodeFault::Halted);
@@ -255,7 +212,7 @@ impl<D: Disk> Node<D> {
     /// group does not have in its view, one that would store what is no block, and each message that is no request.
     fn serve(&mut self, from: BrickId, message: &Message) -> Result<Outs, NodeFault>
         requires runs { self.old.brick.halted ≡ false }
-        requires durable { D.tells → LeavesBrick self.old.layout self.old.me (state_of self.old) (D.may_leave self.old.brick.disk) }
+        requires stands { IsShown D.Disk self.old }
         ensures step { IfOk result (StepsAs self.old.me (state_of self.new)
             (member_step self.old.layout self.old.me from (state_of self.old) message.now)) }
         ensures few { IfOk result (λ outs. length outs.messages ≤ 32) }
@@ -265,24 +222,12 @@ impl<D: Disk> Node<D> {
         ensures still { message_calls self.old.layout self.old.me from (shape_at self.old.layout self.old.me) self.old.brick.listed (state_of self.old) message.now ≡ 0
             → OnOk result
             ((self.new.brick.state ≡ self.old.brick.state) × IsUntouched D.seen D.may_leave D.moment D.left_since self.old.brick.disk self.new.brick.disk) }
-        ensures durable { D.tells → OnOk result (LeavesBrick self.old.layout self.old.me (state_of self.new) (D.may_leave self.new.brick.disk)) }
-        ensures moments { D.tells → LeavesOnly D.moment D.left_since self.old.brick.disk self.new.brick.disk
-            (ShowsEither self.old.layout self.old.me (state_of self.old)
-            (member_step self.old.layout self.old.me from (state_of self.old) message.now).node) }
-        ensures cut { D.tells → result ≡ Err NodeFault.Disk → StopsEarly D.seen D.certain D.moment
+        ensures change { StepChange D.Disk
             (message_calls self.old.layout self.old.me from (shape_at self.old.layout self.old.me) self.old.brick.listed (state_of self.old) message.now)
-            self.old.brick.disk self.new.brick.disk (ImageShows self.old.layout self.old.me (state_of self.old))
-            (ImageShows self.old.layout self.old.me (member_step self.old.layout self.old.me from (state_of self.old) message.now).node) }
-        ensures run { IsRun D.tells D.moment D.plan D.unlisted
-            (message_calls self.old.layout self.old.me from (shape_at self.old.layout self.old.me) self.old.brick.listed (state_of self.old) message.now)
-            self.old.brick.disk self.new.brick.disk (IsOk result) (result ≡ Err NodeFault.Disk) }
+            (member_step self.old.layout self.old.me from (state_of self.old) message.now).node self.old self.new (end_of result) }
         ensures not_halted { result ≢ Err NodeFault.Halted }
         ensures halts { self.new.brick.halted ≡ halted_after false result }
         ensures not_refused { (reason : Refusal) → result ≢ Err (NodeFault.Refused reason) }
-        ensures no_call { OnErr result (result ≢ Err NodeFault.Disk
-            → IsUntouched D.seen D.may_leave D.moment D.left_since self.old.brick.disk self.new.brick.disk) }
-        ensures cause { Kept (D.faults self.old.brick.disk) (D.faults self.new.brick.disk) (D.sound self.old.brick.disk) (D.sound self.new.brick.disk)
-            (result ≡ Err NodeFault.Disk) }
     {
         // The answer has its room before anything is kept: after that nothing can fail.
         let Ok(room) = Vec::with_capacity(self.alloc, 1) else {
@@ -317,8 +262,7 @@ impl<D: Disk> Node<D> {
     /// Gives the disk back. Where the brick is not halted, the disk shows it, and so does whatever a crash leaves.
     pub fn into_disk(self) -> D
         ensures disk { result ≡ self.brick.disk }
-        ensures seen { D.tells → self.brick.halted ≡ false → ImageShows self.layout self.me (state_of self) (D.seen result) }
-        ensures durable { D.tells → self.brick.halted ≡ false → LeavesBrick self.layout self.me (state_of self) (D.may_leave result) }
+        ensures stands { D.tells → self.brick.halted ≡ false → Stands D.Disk (ImageShows self.layout self.me (state_of self)) result }
     {
         let Node {
             alloc: _,
@@ -335,8 +279,7 @@ impl<D: Disk> Node<D> {
     /// Whether a call of this brick answered [`NodeFault::Disk`]. While none did, a crash leaves only what shows the brick.
     pub fn is_halted(&self) -> bool
         ensures value { result ≡ self.now.brick.halted }
-        ensures durable { D.tells → self.now.brick.halted ≡ false → LeavesBrick self.now.layout self.now.me (state_of self.now)
-            (D.may_leave self.now.brick.disk) }
+        ensures stands { IsShown D.Disk self.now }
         ensures kept { IsKept self.now.layout self.now.brick.state (state_of self.now) }
         ensures shape { self.now.brick.shape ≡ shape_at self.now.layout self.now.me }
     {

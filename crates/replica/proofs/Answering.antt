@@ -205,8 +205,6 @@ module _ {D : Type 0} (d : on_disk.Ghosts D) (Follows : Option Reply → StateOf
         (run.not_begun refl) (λ h. absurd cc) (λ h. absurd cc)
         (subst (λ (m : ℕ). Follows (Some (Full m)) old.state) (sym was.3) (none was.1 was.2))
     handles_change (Err faults.Halted) run change = differ (sym runs.runs ∙ change.answer.only_then refl)
-    handles_change (Err faults.NotAStore) run change = absurd (change.answer.a_store refl)
-    handles_change (Err faults.Worn) run change = absurd (change.answer.not_worn refl)
     handles_change (Err faults.NoMemory) run change =
         handles_untouched d Follows old new (Err NoMemory) runs change.refused.shape change.refused.state change.answer.halts (run.not_begun refl)
         (λ h. absurd cc) (λ h. absurd cc) tt
@@ -228,8 +226,6 @@ module _ {D : Type 0} (d : on_disk.Ghosts D) (Follows : Option Reply → StateOf
         subst (λ (m : ℕ). NextChange d m old Follows new.disk Whole) (sym (zero was.1 was.2))
         (next_none d only_now Follows old new.disk (still_of d calls old after new.disk run) runs.stands (Some (Full n)) follows)
     change_next only_now given some zero (Err faults.Halted) run change = differ (sym runs.runs ∙ change.answer.only_then refl)
-    change_next only_now given some zero (Err faults.NotAStore) run change = absurd (change.answer.a_store refl)
-    change_next only_now given some zero (Err faults.Worn) run change = absurd (change.answer.not_worn refl)
     change_next only_now given some zero (Err faults.NoMemory) run change =
         next_refused d only_now Follows old new.disk (still_of d calls old after new.disk run) given
 

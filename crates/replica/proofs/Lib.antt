@@ -9,4 +9,3 @@ pub mod Runs
 pub mod Sharing
 pub mod Stepping
 pub mod Decided
-pub mod Words

@@ -22,7 +22,7 @@ use Rattle.replica.proofs.Dropping.{dropped, shorter}
 differ : {A : Type 0} → false ≡ true → A
 differ h = absurd cc
 
--- ---- runs of no calls, and runs that are not begun
+-- ---- runs of no calls
 
 module _ {D : Type 0} (tells : Type 0) (moment : D → ℕ) (plan : D → Plan) (unlisted : D → Type 0) (old new : D)
     (planned : plan new ≡ plan old) (listed : unlisted old → unlisted new) (W C : Type 0) where
@@ -35,19 +35,6 @@ module _ {D : Type 0} (tells : Type 0) (moment : D → ℕ) (plan : D → Plan) 
     counted = λ told is. omega (arith, clock);
     spared = λ is. never_within;
     later = λ is. planned ∙ sym (sooner_none (plan old));
-    named = λ free is. absurd (not_cut is);
-    stopped = λ told free is. absurd (not_cut is);
-    used_up = λ free is. absurd (not_cut is);
-    waits = λ a b. planned;
-    stays = listed;
-  }
-
-  -- nothing was called
-  pub run_refused : (calls : ℕ) → (W → ⊥) → (C → ⊥) → IsRun tells moment plan unlisted calls old new W C
-  run_refused calls not_whole not_cut = record {
-    counted = λ told is. absurd (not_whole is);
-    spared = λ is. absurd (not_whole is);
-    later = λ is. absurd (not_whole is);
     named = λ free is. absurd (not_cut is);
     stopped = λ told free is. absurd (not_cut is);
     used_up = λ free is. absurd (not_cut is);

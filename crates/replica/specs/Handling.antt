@@ -76,8 +76,6 @@ answered reply (Ok done) = Ok reply
 answered reply (Err faults.Disk) = Err Disk
 answered reply (Err (faults.Full live)) = Ok (Some (Full live))
 answered reply (Err faults.Halted) = Err Halted
-answered reply (Err faults.NotAStore) = Err NoMemory
-answered reply (Err faults.Worn) = Err NoMemory
 answered reply (Err faults.NoMemory) = Err NoMemory
 
 -- an answer, seen as another

@@ -1,7 +1,6 @@
 //! Messages to a brick's part of a stripe.
 
 ghost use Rattle.std.specs.Prelude.{◌≡◌, ◌≢◌, ◌<◌, ◌≤◌, true, Option, Err, IsSome, IfSome, IsTrue, length, option_map};
-ghost use Rattle.brick_store.specs.declared.faults.StoreFault.TheVariants as faults;
 ghost use Rattle.brick_state.specs.States.{live};
 ghost use Rattle.frame_store.specs.Layouts.{shape_of};
 ghost use Rattle.fab_base.specs.Layouts.{seat_in};
@@ -30,8 +29,6 @@ const FIRST_VIEW: ViewNo = ViewNo(1);
 
 // The reply where the store refused a change.
 fn refused(fault: StoreFault) -> Result<Option<Reply>, ReplicaFault>
-    requires a_store { fault ≢ faults.NotAStore }
-    requires not_worn { fault ≢ faults.Worn }
     ensures { (reply : Option told.Reply) → result ≡ answered reply (Err fault) }
 {
     match fault {
@@ -39,7 +36,6 @@ fn refused(fault: StoreFault) -> Result<Option<Reply>, ReplicaFault>
         StoreFault::Disk => Err(ReplicaFault::Disk),
         StoreFault::Halted => Err(ReplicaFault::Halted),
         StoreFault::NoMemory => Err(ReplicaFault::NoMemory),
-        StoreFault::NotAStore | StoreFault::Worn => unreachable!(),
     }
 }
 
@@ -48,8 +44,6 @@ fn answered(
     reply: Option<Reply>,
     answer: Result<(), StoreFault>,
 ) -> Result<Option<Reply>, ReplicaFault>
-    requires a_store { answer ≢ Err faults.NotAStore }
-    requires not_worn { answer ≢ Err faults.Worn }
     ensures { result ≡ answered reply answer }
 {
     match answer {

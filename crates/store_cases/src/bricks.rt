@@ -6,7 +6,8 @@ ghost use Rattle.std.specs.Option.{ForSome};
 ghost use Rattle.fab_base.specs.Stamps.{stamp_below};
 ghost use Rattle.version_log.specs.Versions.{newest, has_stamp};
 
-use brick_store::{BrickStore, State, StoreFault, format, open_store};
+use anyhow::Result;
+use brick_store::{BrickStore, OpenFault, State, StoreFault, format, open_store};
 use fab_base::{Ballot, BrickId, Bytes, GroupId, Members, Stamp, StripeNo, View, ViewNo};
 use fab_disk::{Armed, Disk, MemDisk, Plan};
 use std::alloc::Global;
@@ -83,10 +84,13 @@ fn ballot(round: u32) -> Ballot {
     }
 }
 
+/// What is answered to a change that a store can't be asked for. No trial asks for one.
+const UNFIT: StoreFault = StoreFault::Halted;
+
 fn two() -> Result<Members, StoreFault>
     ensures { IfOk result (λ members. length members ≡ 2) }
 {
-    Members::new(&[ME, BrickId(6)]).ok_or(StoreFault::NotAStore)
+    Members::new(&[ME, BrickId(6)]).ok_or(UNFIT)
 }
 
 // Whether a stamp is above the versions of a stripe, of which there is one at least.
@@ -113,7 +117,7 @@ fn holds(state: &State<'_>, stamp: Stamp) -> bool
 
 impl<D: Disk + Drop> Brick<D> {
     /// The store on a disk, of so many records.
-    pub fn open(alloc: Global, disk: D, records: u32) -> Result<Brick<D>, (StoreFault, D)>
+    pub fn open(alloc: Global, disk: D, records: u32) -> Result<Brick<D>, (OpenFault, D)>
         requires { (1 ≤ records) × (records ≤ 1048576) }
     {
         match open_store(alloc, disk, ME, 2, records) {
@@ -123,7 +127,7 @@ impl<D: Disk + Drop> Brick<D> {
     }
 
     /// The same, where the disk is not wanted back from a refusal.
-    pub fn reopen(alloc: Global, disk: D, records: u32) -> Result<Brick<D>, StoreFault>
+    pub fn reopen(alloc: Global, disk: D, records: u32) -> Result<Brick<D>, OpenFault>
         requires { (1 ≤ records) × (records ≤ 1048576) }
     {
         match Brick::open(alloc, disk, records) {
@@ -133,12 +137,12 @@ impl<D: Disk + Drop> Brick<D> {
     }
 
     /// A store that is made on a disk, and opened.
-    pub fn make(alloc: Global, disk: D, records: u32) -> Result<Brick<D>, StoreFault>
+    pub fn make(alloc: Global, disk: D, records: u32) -> Result<Brick<D>>
         requires { (1 ≤ records) × (records ≤ 1048576) }
     {
         let mut disk = disk;
         format(alloc, &mut disk, ME, 2, records)?;
-        Brick::reopen(alloc, disk, records)
+        Ok(Brick::reopen(alloc, disk, records)?)
     }
 
     /// Asks these changes of the store, up to one that is refused.
@@ -165,7 +169,7 @@ impl<D: Disk + Drop> Brick<D> {
 
     fn order(&mut self, stamp: Stamp) -> Result<(), StoreFault> {
         if !self.store.serves(GROUP, VIEW) {
-            return Err(StoreFault::NotAStore);
+            return Err(UNFIT);
         }
         self.store.set_order(GROUP, VIEW, STRIPE, stamp)
     }
@@ -180,7 +184,7 @@ impl<D: Disk + Drop> Brick<D> {
     {
         let next = is_next(&self.store.state(GROUP, VIEW, STRIPE), stamp);
         if !next || !self.store.serves(GROUP, VIEW) {
-            return Err(StoreFault::NotAStore);
+            return Err(UNFIT);
         }
         self.store.add_version(GROUP, VIEW, STRIPE, stamp, block)
     }
@@ -188,7 +192,7 @@ impl<D: Disk + Drop> Brick<D> {
     fn collect(&mut self, stamp: Stamp) -> Result<(), StoreFault> {
         let held = holds(&self.store.state(GROUP, VIEW, STRIPE), stamp);
         if !held || !self.store.serves(GROUP, VIEW) {
-            return Err(StoreFault::NotAStore);
+            return Err(UNFIT);
         }
         self.store.collect(GROUP, VIEW, STRIPE, stamp)
     }
@@ -205,7 +209,7 @@ impl<D: Disk + Drop> Brick<D> {
 
     fn learn(&mut self, number: ViewNo) -> Result<(), StoreFault> {
         if self.store.learnt(GROUP).0 >= number.0 {
-            return Err(StoreFault::NotAStore);
+            return Err(UNFIT);
         }
         let view = View {
             number,
@@ -217,7 +221,7 @@ impl<D: Disk + Drop> Brick<D> {
 
     fn all_synced(&mut self) -> Result<(), StoreFault> {
         if self.store.known_view(GROUP).is_none() {
-            return Err(StoreFault::NotAStore);
+            return Err(UNFIT);
         }
         let learnt = self.store.learnt(GROUP);
         self.store.synced(GROUP, learnt)
@@ -286,16 +290,12 @@ pub fn empty_disk(alloc: Global) -> MemDisk {
 }
 
 /// What the store on a disk tells once it is opened.
-pub fn told_by<D: Disk + Drop>(alloc: Global, disk: D) -> Result<Picture, StoreFault> {
+pub fn told_by<D: Disk + Drop>(alloc: Global, disk: D) -> Result<Picture, OpenFault> {
     Ok(Brick::reopen(alloc, disk, ROOMY)?.close())
 }
 
 /// What a store tells that is made on a disk, once these changes were asked of it.
-pub fn told_after<D: Disk + Drop>(
-    alloc: Global,
-    disk: D,
-    changes: &[Change],
-) -> Result<Picture, StoreFault> {
+pub fn told_after<D: Disk + Drop>(alloc: Global, disk: D, changes: &[Change]) -> Result<Picture> {
     let mut brick = Brick::make(alloc, disk, ROOMY)?;
     let answer = brick.apply_all(alloc, changes);
     let told = brick.close();
@@ -304,11 +304,7 @@ pub fn told_after<D: Disk + Drop>(
 }
 
 /// The disk of a store that is made on it, once these changes were asked of the store.
-pub fn disk_after<D: Disk + Drop>(
-    alloc: Global,
-    disk: D,
-    changes: &[Change],
-) -> Result<D, StoreFault> {
+pub fn disk_after<D: Disk + Drop>(alloc: Global, disk: D, changes: &[Change]) -> Result<D> {
     let mut brick = Brick::make(alloc, disk, ROOMY)?;
     let answer = brick.apply_all(alloc, changes);
     let disk = brick.into_disk();

@@ -2,7 +2,7 @@
 
 use crate::bricks::{Brick, Change, Picture, ROOMY, told_after, told_by};
 use anyhow::Result;
-use brick_store::StoreFault;
+use brick_store::OpenFault;
 use fab_disk::{Disk, FileDisk};
 use std::alloc::Global;
 use std::fs::{File, OpenOptions};
@@ -23,14 +23,14 @@ fn reopened<R: Files<File = File>>(rt: &R) -> io::Result<FileDisk> {
 }
 
 /// Why a disk is not opened.
-fn refusal<D: Disk + Drop>(alloc: Global, disk: D) -> Option<StoreFault> {
+fn refusal<D: Disk + Drop>(alloc: Global, disk: D) -> Option<OpenFault> {
     Brick::reopen(alloc, disk, ROOMY).err()
 }
 
 /// What a store tells that is made in the file.
 fn told_by_made<R: Files<File = File> + AllocGlobal>(rt: &R) -> Result<Picture> {
     let changes = [Change::Order(9), Change::Version(9, 9), Change::Accept(9)];
-    Ok(told_after(rt.alloc(), reopened(rt)?, &changes)?)
+    told_after(rt.alloc(), reopened(rt)?, &changes)
 }
 
 /// What the store in the file tells once it is opened again.
@@ -41,7 +41,7 @@ fn told_by_kept<R: Files<File = File> + AllocGlobal>(rt: &R) -> Result<Picture> 
 /// What is told of the file.
 #[derive(Clone, Copy)]
 struct Told {
-    empty: Option<StoreFault>,
+    empty: Option<OpenFault>,
     made: Picture,
     kept: Picture,
 }

@@ -50,11 +50,11 @@ fn fill<D: Disk + Drop>(alloc: Global, brick: &mut Brick<D>) -> Result<Filled, S
 }
 
 /// What a store of three records tells that is made on a disk.
-fn told_when_filled<D: Disk + Drop>(alloc: Global, disk: D) -> Result<Filled, StoreFault> {
+fn told_when_filled<D: Disk + Drop>(alloc: Global, disk: D) -> anyhow::Result<Filled> {
     let mut brick = Brick::make(alloc, disk, 3)?;
     let told = fill(alloc, &mut brick);
     let _ = brick.into_disk();
-    told
+    Ok(told?)
 }
 
 /// Prints that a store of three records is full at the third, keeps the block of a version whose lower neighbour was dropped, and drops
@@ -66,7 +66,7 @@ fn print_filled(rt: &impl Print, told: &Filled) -> io::Result<()> {
 }
 
 /// The disk after many orders of one stripe.
-fn often_ordered(alloc: Global) -> Result<MemDisk, StoreFault> {
+fn often_ordered(alloc: Global) -> anyhow::Result<MemDisk> {
     let mut changes = Vec::new(alloc);
     for time in 1..12_001 {
         changes.push(Change::Order(time))?;

@@ -2,7 +2,7 @@
 
 use crate::bricks::{Brick, Change, Picture, ROOMY, disk_after, empty_disk, told_by};
 use anyhow::Result;
-use brick_store::StoreFault;
+use brick_store::OpenFault;
 use fab_disk::{Armed, MemDisk, Plan};
 use std::alloc::Global;
 use std::io;
@@ -72,7 +72,7 @@ impl End {
 }
 
 /// The bytes of the disk of a store that was made, and of which these changes were asked.
-fn image_after(alloc: Global, changes: &[Change]) -> Result<Vec<u8>, StoreFault> {
+fn image_after(alloc: Global, changes: &[Change]) -> Result<Vec<u8>> {
     let disk = disk_after(alloc, empty_disk(alloc), changes)?;
     Ok(disk.content(alloc)?)
 }
@@ -89,7 +89,7 @@ fn orders_that_fit<D: Armed + Drop>(alloc: Global, brick: &mut Brick<D>) -> u64 
 }
 
 /// The same of the store on a disk, once it is opened.
-fn orders_left<D: Armed + Drop>(alloc: Global, disk: D) -> Result<u64, StoreFault> {
+fn orders_left<D: Armed + Drop>(alloc: Global, disk: D) -> Result<u64, OpenFault> {
     let mut brick = Brick::reopen(alloc, disk, ROOMY)?;
     let count = orders_that_fit(alloc, &mut brick);
     let _ = brick.into_disk();
@@ -97,7 +97,7 @@ fn orders_left<D: Armed + Drop>(alloc: Global, disk: D) -> Result<u64, StoreFaul
 }
 
 /// The changes that make a prepared store, and as many orders more.
-fn with_orders(alloc: Global, count: u64) -> Result<Vec<Change>, StoreFault> {
+fn with_orders(alloc: Global, count: u64) -> Result<Vec<Change>> {
     let mut changes = PREPARED.to_vec(alloc)?;
     for _ in 0..count {
         changes.push(Change::Order(3))?;
@@ -106,19 +106,14 @@ fn with_orders(alloc: Global, count: u64) -> Result<Vec<Change>, StoreFault> {
 }
 
 /// The bytes of a prepared store that has no room for a further order once it is opened again.
-fn full_image(alloc: Global) -> Result<Vec<u8>, StoreFault> {
+fn full_image(alloc: Global) -> Result<Vec<u8>> {
     let disk = disk_after(alloc, empty_disk(alloc), &PREPARED)?;
     let count = orders_left(alloc, disk)?;
     image_after(alloc, &with_orders(alloc, count)?)
 }
 
 /// The disk after a change of its store under this plan.
-fn changed<D: Armed + Drop>(
-    alloc: Global,
-    disk: D,
-    change: Change,
-    plan: Plan,
-) -> Result<D, StoreFault> {
+fn changed<D: Armed + Drop>(alloc: Global, disk: D, change: Change, plan: Plan) -> Result<D> {
     let mut brick = Brick::reopen(alloc, disk, ROOMY)?;
     brick.arm(plan);
     let _ = brick.apply(alloc, change);
@@ -137,7 +132,7 @@ fn opened<D: Armed + Drop>(alloc: Global, disk: D, plan: Plan) -> D {
 
 impl Trial<'_> {
     /// What is told after the deed, whose disk has this plan, and is settled by this number.
-    fn told_after(&self, alloc: Global, plan: Plan, pick: u64) -> Result<Picture, StoreFault> {
+    fn told_after(&self, alloc: Global, plan: Plan, pick: u64) -> Result<Picture> {
         let disk = MemDisk::new(alloc, self.image.to_vec(alloc)?);
         let mut disk = match self.deed {
             Deed::Apply(change) => changed(alloc, disk, change, plan)?,
@@ -145,24 +140,18 @@ impl Trial<'_> {
         };
         disk.settle(pick);
         disk.arm(Plan::Never);
-        told_by(alloc, disk)
+        Ok(told_by(alloc, disk)?)
     }
 
     /// What is told before and after the deed.
-    fn told(&self, alloc: Global) -> Result<Told, StoreFault> {
+    fn told(&self, alloc: Global) -> Result<Told> {
         let before = self.told_after(alloc, Plan::Fail(1), 0)?;
         let after = self.told_after(alloc, Plan::Never, 0)?;
         Ok(Told { before, after })
     }
 
     /// Which of two pictures is told where a call of the disk ended so.
-    fn word(
-        &self,
-        alloc: Global,
-        told: &Told,
-        plan: Plan,
-        pick: u64,
-    ) -> Result<&'static str, StoreFault> {
+    fn word(&self, alloc: Global, told: &Told, plan: Plan, pick: u64) -> Result<&'static str> {
         let found = self.told_after(alloc, plan, pick)?;
         Ok(told.word_for(&found))
     }

@@ -23,7 +23,7 @@ use Rattle.replica.specs.Parts.{IsFirstView, part_of, part_in, learnt_or, learnt
 use Rattle.node.specs.Running.{Running, state_of, shape_at, ImageShows, LeavesBrick, IsSameBrick}
 use Rattle.fab_base.specs.Layouts.{Layout}
 use Rattle.protocol.specs.Nodes as machine
-use Rattle.world.specs.Disks.{ShowsDisk}
+use Rattle.world.specs.Disks.{ShowsDisk, IsUnwritten}
 use Rattle.world.specs.Shown.{IsRunning, unopened}
 
 -- an image is found as the one state that it stands for
@@ -62,18 +62,13 @@ stopped_shows layout me state image shows = record {
   first = shows.first;
 }
 
--- a disk after which a crash leaves only what shows the brick keeps it
-pub kept_by : (layout : Layout) (me : BrickId) (state : machine.Node) (disk : MemDisk) → LeavesBrick layout me state (may_be_left disk)
-    → ShowsDisk layout me state disk
-kept_by layout me state disk durable = record {
-  seen = durable (content_of disk) (content_is_image (past_of_disk disk) (content_of disk) (fits_shown disk.medium));
-  durable = durable;
-}
-
 -- a disk that was left alone
-pub kept_still : (layout : Layout) (me : BrickId) (state : machine.Node) (disk new : MemDisk)
-    → ((image : List ℕ) → may_be_left new image → may_be_left disk image) → ShowsDisk layout me state disk → ShowsDisk layout me state new
-kept_still layout me state disk new crash kept = kept_by layout me state new (λ image left. kept.durable image (crash image left))
+pub kept_still : (layout : Layout) (me : BrickId) (state : machine.Node) (disk new : MemDisk) → IsUnwritten disk new → ShowsDisk layout me state disk
+    → ShowsDisk layout me state new
+kept_still layout me state disk new still kept = record {
+  only = λ image left. kept.only image (still.crash image left) ∙ sym still.content;
+  has = subst (ImageShows layout me state) (sym still.content) kept.has;
+}
 
 -- a brick whose store is as it was keeps what it kept, whatever its calls are now
 same_store : (layout : Layout) (me : BrickId) (node new : Running MemDisk) (image : List ℕ) → new.layout ≡ node.layout → new.brick ≡ node.brick
@@ -99,12 +94,14 @@ same_store layout me node new image same store shows = record {
 pub kept_same : (layout : Layout) (me : BrickId) (state next : machine.Node) (node new : Running MemDisk) → IsRunning layout me state node
     → new.layout ≡ node.layout → new.brick ≡ node.brick → state_of new ≡ next → ShowsDisk layout me next new.brick.disk
 kept_same layout me state next node new runs same store state_is =
-    kept_by layout me next new.brick.disk
-    (λ image left.
-    subst (λ (s : machine.Node). ImageShows layout me s image) state_is
-    (same_store layout me node new image same store
-    (subst (λ (s : machine.Node). ImageShows layout me s image) (sym runs.state_is)
-    (runs.kept.durable image (subst (λ (x : Store MemDisk). may_be_left x.disk image) store left)))))
+    subst (λ (x : Store MemDisk). ShowsDisk layout me next x.disk) (sym store)
+    (record {
+      only = runs.kept.only;
+      has =
+          subst (λ (s : machine.Node). ImageShows layout me s (content_of node.brick.disk)) state_is
+          (same_store layout me node new (content_of node.brick.disk) same store
+          (subst (λ (s : machine.Node). ImageShows layout me s (content_of node.brick.disk)) (sym runs.state_is) runs.kept.has));
+    })
 
 -- nothing is kept of any group of a fresh store
 none_of : (n g : ℕ) → slice_index_or (replicate n no_group) g no_group ≡ no_group

@@ -35,7 +35,7 @@ use Rattle.world.proofs.DiskLemmas.{disk_at, disk_set, unwritten_but}
 use Rattle.world.specs.declared.bricks.Brick.{Brick}
 use Rattle.world.specs.declared.bricks.Power.{Power}
 use Rattle.world.specs.declared.bricks.Power.TheVariants.{Up, Down}
-use Rattle.world.proofs.BrickLemmas.{kept_same, kept_still, still_runs}
+use Rattle.world.proofs.BrickLemmas.{kept_same, still_runs}
 use Rattle.world.proofs.Places.{grown, replaced, value_here, value_elsewhere}
 
 -- one brick changed, and no other
@@ -202,11 +202,10 @@ asked_begun bricks b old node new ask result within is on same store begins =
 
 -- a brick of which the machine sees the same
 pub same_shown : (bricks : List Brick) (b : ℕ) (old : Brick) (node new : Running MemDisk)
-    → b < length bricks → old ≡ get_or bricks b old → old.power ≡ Up node → IsSameBrick node new → new.brick.halted ≡ false → IsSound new.brick.disk
-    → ((image : List ℕ) → may_be_left new.brick.disk image → may_be_left node.brick.disk image) → state_of new ≡ state_of node
-    → (layout : Layout) (w : World) → ShowsBricks layout bricks w.nodes w.after w.up w.clocks
+    → b < length bricks → old ≡ get_or bricks b old → old.power ≡ Up node → IsSameBrick node new → new.brick ≡ node.brick
+    → state_of new ≡ state_of node → (layout : Layout) (w : World) → ShowsBricks layout bricks w.nodes w.after w.up w.clocks
     → ShowsBricks layout (set bricks b (with_power old (Up new))) w.nodes w.after w.up w.clocks
-same_shown bricks b old node new within is on same halted sound crash state layout w shows =
+same_shown bricks b old node new within is on same store state layout w shows =
     let at = brick_at layout bricks w b old within is shows in
     let up = runs_at layout bricks w b old node within is on shows in
     shows_after layout bricks b (with_power old (Up new)) w w
@@ -214,20 +213,20 @@ same_shown bricks b old node new within is on same halted sound crash state layo
       power = (
         up.0,
         still_runs layout (brick_of b) (w.nodes b) (w.nodes b) node new up.1 same (state ∙ up.1.state_is)
-            (kept_still layout (brick_of b) (w.nodes b) node.brick.disk new.brick.disk crash up.1.kept) halted sound,
+            (kept_same layout (brick_of b) (w.nodes b) (w.nodes b) node new up.1 same.layout store (state ∙ up.1.state_is))
+            (ap (λ (x : Store MemDisk). x.halted) store ∙ up.1.runs) (subst (λ (x : Store MemDisk). IsSound x.disk) (sym store) up.1.sound),
       );
       clock = at.clock;
     })
     (λ i other. (refl, refl, refl, refl)) shows
 
 pub asked_same : {T E : Type 0} (bricks : List Brick) (b : ℕ) (old : Brick) (node new : Running MemDisk) (result : Result T E)
-    → b < length bricks → old ≡ get_or bricks b old → old.power ≡ Up node → IsSameBrick node new → new.brick.halted ≡ false → IsSound new.brick.disk
-    → ((image : List ℕ) → may_be_left new.brick.disk image → may_be_left node.brick.disk image)
+    → b < length bricks → old ≡ get_or bricks b old → old.power ≡ Up node → IsSameBrick node new → new.brick ≡ node.brick
     → OnErr result (state_of new ≡ state_of node)
     → OnErr result ((layout : Layout) (w : World) → ShowsBricks layout bricks w.nodes w.after w.up w.clocks
     → ShowsBricks layout (set bricks b (with_power old (Up new))) w.nodes w.after w.up w.clocks)
-asked_same bricks b old node new result within is on same halted sound crash err =
-    on_err_weaker result (same_shown bricks b old node new within is on same halted sound crash) err
+asked_same bricks b old node new result within is on same store err =
+    on_err_weaker result (same_shown bricks b old node new within is on same store) err
 
 -- a brick took a message
 module _ (layout : Layout) (bricks : List Brick) (number : BrickId) (old : Brick) (node : Running MemDisk) (power : Power) (packet : Packet)

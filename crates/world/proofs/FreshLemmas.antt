@@ -34,15 +34,15 @@ same_found layout After = refl
 never_opened : (layout : Layout) (me : BrickId) (disk : MemDisk) (openings : ℕ) (node : machine.Node) → node ≡ unopened layout
     → ShowsDisk layout me (unopened layout) disk → ImageShows layout me (opened_more openings node) (content_of disk) → openings ≡ 0
 never_opened layout me disk openings node is kept shows =
-    let st : StateOf Version = kept.seen.st in
+    let st : StateOf Version = kept.has.st in
     let found : IsFound (shape_at layout me) st (content_of disk) = record {
-      frames = kept.seen.stands.frames;
+      frames = kept.has.stands.frames;
       closed = true;
-      opens = kept.seen.stands.opens;
-      state = kept.seen.stands.state;
+      opens = kept.has.stands.opens;
+      state = kept.has.stands.state;
     } in
     let one : node.boot + openings ≡ st.boot = found_boot layout me (opened_more openings node) st (content_of disk) found shows in
-    let two : 0 ≡ st.boot = kept.seen.parts.boot in
+    let two : 0 ≡ st.boot = kept.has.parts.boot in
     let none : node.boot ≡ 0 = ap (λ (n : machine.Node). n.boot) is in
     omega (arith, one, two, none)
 

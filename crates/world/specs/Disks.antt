@@ -5,18 +5,18 @@ use Rattle.fab_base.specs.Layouts.{Layout}
 use Rattle.fab_disk.specs.MemDisk.{content_of, may_be_left}
 use Rattle.fab_disk.specs.declared.mem_disk.MemDisk.{MemDisk}
 use Rattle.messages.specs.declared.packets.Packet.{Packet}
-use Rattle.node.specs.Running.{ImageShows, LeavesBrick}
+use Rattle.fab_disk.specs.Changing.{Stands}
+use Rattle.node.specs.Running.{ImageShows}
 use Rattle.protocol.specs.Nodes.{Node}
 use Rattle.protocol.specs.Settings.{Setting}
 use Rattle.protocol.specs.Worlds.{World, Event, Invokes, Delivers, Sets, Ticks, Stops, Starts, is_up, packet_of, happens}
 use Rattle.world.specs.Runs.{Run, world_of, brick_of}
 use Rattle.world.specs.EventCalls.{MakesNoCall, is_down}
-use Rattle.world.specs.Faults.{HoldsOne}
+use Rattle.world.specs.Faults.{in_memory, HoldsOne}
 
--- a disk keeps just what this brick of the layout keeps: so says what a read gives, and whatever a crash may leave
-pub record ShowsDisk (layout : Layout) (me : BrickId) (node : Node) (disk : MemDisk) : Type 0 where
-  pub seen : ImageShows layout me node (content_of disk)
-  pub durable : LeavesBrick layout me node (may_be_left disk)
+-- a disk keeps just what this brick of the layout keeps: a crash leaves what a read gives, and that shows the brick
+abbrev pub ShowsDisk : Layout → BrickId → Node → MemDisk → Type 0
+ShowsDisk layout me node disk = Stands in_memory (ImageShows layout me node) disk
 
 -- so it does while the brick is up; while it is down, its disk holds one of the two that its stop left possible
 abbrev pub ShowsDiskOf : Bool → Layout → BrickId → Node → Node → MemDisk → Type 0

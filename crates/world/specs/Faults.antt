@@ -2,13 +2,15 @@
 use Rattle.std.specs.Prelude.{◌≡◌, ◌⊎◌, ℕ, ◌+◌, ◌<◌, ◌≤◌, Bool, true, false, List, [], ◌∷◌, map, Option, Some, None, slice_get}
 use Rattle.fab_base.specs.declared.identities.BrickId.{BrickId}
 use Rattle.fab_base.specs.Layouts.{Layout}
+use Rattle.fab_disk.specs.declared.disk.Disk as on_disk
 use Rattle.fab_disk.specs.declared.disk.Plan.{Plan}
 use Rattle.fab_disk.specs.declared.disk.Plan.TheVariants.{Never, Stop}
 use Rattle.fab_disk.specs.declared.disk.Plan.TheVariants as plan
 use Rattle.fab_disk.specs.Disk.{Only}
 use Rattle.fab_disk.specs.Plan.{IsWithin, calls_made}
 use Rattle.fab_disk.specs.Settled.{settled_at}
-use Rattle.fab_disk.specs.MemDisk.{content_of, past_of_disk, may_be_left, certain_of}
+use Rattle.fab_disk.specs.MemDisk.{content_of, past_of_disk, may_be_left, certain_of, was_left_since, moment_of, is_unlisted, room_of, IsSound}
+use Rattle.fab_disk.specs.MemDisk.{plan_of as plan_in}
 use Rattle.fab_disk.specs.declared.mem_disk.MemDisk.{MemDisk}
 use Rattle.frame_store.specs.declared.frames.Frame.{Frame}
 use Rattle.frame_store.specs.Images.{OpensAs}
@@ -28,6 +30,22 @@ use Rattle.protocol.specs.Worlds.{World, Event, Delivers, Stops, Starts, Found, 
 use Rattle.world.specs.Runs.{brick_of, events_of}
 use Rattle.world.specs.Calms.{IsCalmRun}
 use Rattle.world.specs.EventCalls.{is_down}
+
+-- what a disk in memory tells of itself
+abbrev pub in_memory : on_disk.Ghosts MemDisk
+in_memory = record {
+  tells = Unit {0};
+  seen = content_of;
+  may_leave = may_be_left;
+  moment = moment_of;
+  certain = certain_of;
+  left_since = was_left_since;
+  faults = λ disk. disk.faults;
+  sound = IsSound;
+  plan = plan_in;
+  unlisted = is_unlisted;
+  has_room = room_of;
+}
 
 -- what is to befall a call of the disk
 abbrev pub plan_of : Option Fault → Plan

@@ -16,8 +16,8 @@ ghost use Rattle.world.specs.Faults.{LeftBy, plan_of};
 ghost use Rattle.world.specs.Disks.{ShowsDisk, KeepsOthers};
 ghost use Rattle.world.specs.Shown.{Rests, IsRunning, ShowsBrick, ShowsBricks, StartsAs, Takes, HandledAs, TurnsOn, FindsUp, IsUp, AreNodesOf, disk_in, disks_of, unopened};
 
-use brick_store::StoreFault;
-use fab_base::{Ask, BrickId, NoMem};
+use brick_store::OpenFault;
+use fab_base::{Ask, BrickId, IoFault, NoMem};
 use fab_disk::{Armed, MemDisk, Plan};
 use layout::Layout;
 use lines::Fault;
@@ -164,18 +164,16 @@ fn open_over(
             node.arm(Plan::Never);
             (Power::Up(node), Ok(true))
         }
-        Err((StoreFault::Disk, left)) => (Power::Down(left_by(left, fault)), Ok(false)),
-        Err((StoreFault::Worn, mut left)) => {
+        Err((OpenFault::Disk, left)) => (Power::Down(left_by(left, fault)), Ok(false)),
+        Err((OpenFault::Worn, mut left)) => {
             left.arm(Plan::Never);
             (Power::Down(left), Ok(false))
         }
-        Err((StoreFault::NoMemory, mut left)) => {
+        Err((OpenFault::NoMemory, mut left)) => {
             left.arm(Plan::Never);
             (Power::Down(left), Err(NoMem::NoMemory))
         }
-        Err((StoreFault::NotAStore | StoreFault::Halted | StoreFault::Full { .. }, _)) => {
-            unreachable!()
-        }
+        Err((OpenFault::NotAStore, _)) => unreachable!(),
     }
 }
 
@@ -186,14 +184,8 @@ fn fresh_disk(alloc: Global, layout: &Layout, me: BrickId) -> Result<MemDisk, No
     let mut disk = MemDisk::new(alloc, Vec::new(alloc));
     match brick_store::format(alloc, &mut disk, me, layout.block(), layout.records()) {
         Ok(()) => Ok(disk),
-        Err(StoreFault::NoMemory) => Err(NoMem::NoMemory),
-        Err(
-            StoreFault::Disk
-            | StoreFault::NotAStore
-            | StoreFault::Worn
-            | StoreFault::Halted
-            | StoreFault::Full { .. },
-        ) => unreachable!(),
+        Err(IoFault::NoMemory) => Err(NoMem::NoMemory),
+        Err(IoFault::Failed) => unreachable!(),
     }
 }
 

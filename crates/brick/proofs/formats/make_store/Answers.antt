@@ -1,4 +1,5 @@
 use Rattle.std.proofs.Common.{arith, inr, refl, ◌∙◌}
+use Rattle.brick_store.proofs.Words.{leaves}
 use Rattle.brick.proofs.Found.{fresh}
 use Rattle.brick.proofs.Hosts.{fresh_returned}
 use Rattle.brick.proofs.formats.make_store.Goals as goal
@@ -13,7 +14,9 @@ returns-in-Ok-made-clause-makes g c = (
       later = rw (c.keep_disk.ensures.faults) c.in-Ok.ensures.kept.later;
       told = fresh_returned _ _ _ _ _ _ _ (c.in-Ok.ensures.makes refl) c.keep_disk.ensures.holds;
     },
-    λ tells. fresh _ _ _ _ _ _ _ c.block.ensures c.records.ensures.value (c.in-Ok-made.ensures.empty tells) (c.in-Ok-made.ensures.durable tells),
+    λ tells.
+        let stands = c.in-Ok-made.ensures.change.whole refl tells in
+        fresh _ _ _ _ _ _ _ c.block.ensures c.records.ensures.value stands.has (leaves _ _ _ stands),
   ),
 )
 
@@ -27,7 +30,7 @@ returns-in-Err g c = record {
       told = fresh_returned _ _ _ _ _ _ _ (c.in-Ok.ensures.makes refl) c.keep_disk.ensures.holds;
     },
   );
-  stays = λ s. c.keep_disk.ensures.sound (c.in-Err.ensures.cause.stays (c.in-Ok.ensures.gives s)) (c.in-Ok.ensures.kept.stays s);
+  stays = λ s. c.keep_disk.ensures.sound (c.in-Err.ensures.change.cause.stays (c.in-Ok.ensures.gives s)) (c.in-Ok.ensures.kept.stays s);
   sink = λ e. absurd (omega arith);
   disk = λ s e. cc;
   taken = λ s e. cc;

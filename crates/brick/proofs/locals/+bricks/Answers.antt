@@ -8,6 +8,7 @@ use Rattle.fab_host.specs.Holdings.{with_disk, with_link}
 use Rattle.fab_base.proofs.Keeping.{Kept-refl, Kept-narrower}
 use Rattle.hosting.specs.Hosted.{IsSound}
 use Rattle.serving.specs.Ports.{ports_of, port_of}
+use Rattle.node.proofs.Shown.{leaves_shown}
 use Rattle.brick.specs.declared.endings.Ending.TheVariants.{Memory, Disk}
 use Rattle.brick.specs.Endings.{status_of, IsDone}
 use Rattle.brick.specs.Hosts.{host_seen, Told, IsRefused}
@@ -165,8 +166,9 @@ host_store-returns-in-Ok g t c =
         hosts = linked.hosts;
         left = record {
           disk = disk.disk;
-          shows = λ tells whole. shown_as _ _ _ _ _ _ layouts bricks (disk.seen tells (runs whole));
-          durable = λ tells whole image may. shown_as _ _ _ _ _ _ layouts bricks (disk.durable tells (runs whole) image may);
+          shows = λ tells whole. shown_as _ _ _ _ _ _ layouts bricks (disk.stands tells (runs whole)).has;
+          durable = λ tells whole image may. shown_as _ _ _ _ _ _ layouts bricks
+              (leaves_shown d _ _ _ _ (disk.stands tells (runs whole)) image may);
         };
       });
       same = linked.same;

@@ -1,6 +1,8 @@
 -- A store was opened, and the brick is what the disk showed, started once more; or it was refused.
-use Rattle.std.proofs.Common.{sym, ap, ◌∙◌, subst}
+use Rattle.std.proofs.Common.{⊎_elim, sym, ap, ◌∙◌, subst}
 use Rattle.fab_base.specs.Layouts.{Layout}
+use Rattle.node.specs.Openings.{stopped_by}
+use Rattle.node.proofs.Shown.{leaves_shown}
 use Rattle.brick.specs.Endings.{status_of, IsDone}
 use Rattle.brick.specs.Serves.{IsStarted, RefusesStore, MayStart}
 use Rattle.brick.specs.Views.{views}
@@ -15,15 +17,16 @@ returns-in-Ok-start-clause-starts g c =
       layout_is = said.layout;
       me_is = said.me;
       runs = said.runs;
-      found = λ tells. (let found = said.found tells in (found.0, found.1, found.2));
+      found = λ tells. (let found = said.found tells in (found.before, found.found, found.not_worn));
       state = said.state;
-      shows = said.seen;
-      later = said.cause.later;
+      shows = λ tells. (said.stands tells).has;
+      later = said.opens.cause.later;
     })
 
 pub returns-in-Ok-start-clause-durable : goal.returns-in-Ok-start-clause-durable
 returns-in-Ok-start-clause-durable g c = λ tells image may.
-    shown_as _ _ _ _ _ _ (sym c.in-Ok-start.ensures.layout) (sym c.in-Ok-start.ensures.me) (c.in-Ok-start.ensures.durable tells image may)
+    shown_as _ _ _ _ _ _ (sym c.in-Ok-start.ensures.layout) (sym c.in-Ok-start.ensures.me)
+    (leaves_shown g.H.Disk.Disk _ _ _ _ (c.in-Ok-start.ensures.stands tells) image may)
 
 pub returns-in-Err-start-clause-refuses : goal.returns-in-Err-start-clause-refuses
 returns-in-Err-start-clause-refuses g c =
@@ -32,8 +35,9 @@ returns-in-Err-start-clause-refuses g c =
     let said = c.in-Err-start.ensures in
     subst (λ (l : Layout). RefusesStore v l c.args.me c.args.disk c.in-Err-start.disk c.refusal_of.result) c.in-Ok.ensures
     (subst (RefusesStore v c.in-Ok.copied c.args.me c.args.disk c.in-Err-start.disk) (sym c.refusal_of.ensures)
-    (refuses v c.in-Ok.copied c.args.me d.moment d.left_since c.args.disk c.in-Err-start.disk c.in-Err-start.fault said.cause_err.rose said.not_a_store
-    said.worn said.unchanged))
+    (refuses v c.in-Ok.copied c.args.me d.moment d.left_since c.args.disk c.in-Err-start.disk c.in-Err-start.fault
+    (λ is. said.opens.cause.rose (ap stopped_by is)) said.not_a_store (λ is told. let worn = said.worn is told in (worn.before, worn.found, worn.worn))
+    (⊎_elim (λ is. said.opens.not_begun (ap stopped_by is)) (λ is. said.opens.not_begun (ap stopped_by is)))))
 
 pub returns-in-Err-start-clause-done : goal.returns-in-Err-start-clause-done
 returns-in-Err-start-clause-done g c = λ sound may.
@@ -41,9 +45,10 @@ returns-in-Err-start-clause-done g c = λ sound may.
     let said = c.in-Err-start.ensures in
     let store = subst (λ (l : Layout). MayStart d.tells d.seen l c.args.me c.args.disk) (sym c.in-Ok.ensures) may in
     subst IsDone (sym c.refusal_of.ensures)
-    (refusal_done c.in-Err-start.fault (λ e. said.cause_err.never sound e)
+    (refusal_done c.in-Err-start.fault (λ e. said.opens.cause.never sound (ap stopped_by e))
     (λ e. is_a_store d.tells d.seen c.in-Ok.copied c.args.me c.args.disk _ store (said.not_a_store e))
-    (λ e. is_not_worn d.tells d.seen c.in-Ok.copied c.args.me c.args.disk store (said.worn e)))
+    (λ e. is_not_worn d.tells d.seen c.in-Ok.copied c.args.me c.args.disk store
+    (λ told. let worn = said.worn e told in (worn.before, worn.found, worn.worn))))
 
 pub returns-in-Err-start-clause-sink : goal.returns-in-Err-start-clause-sink
 returns-in-Err-start-clause-sink g c = λ e. refusal_not_sink c.in-Err-start.fault (ap status_of (sym c.refusal_of.ensures) ∙ e)

@@ -1,13 +1,11 @@
 -- The append with a block, after room was made for it.
-use Rattle.std.proofs.Common.{◌≡◌, ◌+◌, ◌++◌, ◌∷◌, [], ℕ, ⊎_elim, List, Option, Some, None, length, Ok, Err, refl, sym, ap, subst, ◌∙◌, arith}
+use Rattle.std.proofs.Common.{◌≡◌, ◌++◌, ◌∷◌, [], ℕ, ⊎_elim, Some, None, length, Ok, sym, ap, ◌∙◌, arith}
 use Rattle.std.proofs.lemmas.Result.{err_from_is_err_and}
 use Rattle.fab_disk.specs.Changing.{Whole}
-use Rattle.frame_store.specs.Listed.{size_of, frame_of}
+use Rattle.frame_store.specs.Listed.{size_of}
 use Rattle.frame_store.specs.Ends.{end_of}
 use Rattle.frame_store.specs.declared.faults.FrameFault.{FrameFault}
 use Rattle.brick_state.specs.Indexes.{state_of, limits_of}
-use Rattle.brick_store.specs.Images.{record_of}
-use Rattle.brick_store.specs.Bricks.{fault_of}
 use Rattle.brick_store.specs.Calls.{calls_with}
 use Rattle.brick_store.specs.Steps.{changed, HasAppendRoom}
 use Rattle.brick_store.proofs.Counting.{room_then}

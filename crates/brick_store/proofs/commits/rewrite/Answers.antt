@@ -1,5 +1,5 @@
 -- Room is made in memory, and then the list is rewritten.
-use Rattle.std.proofs.Common.{◌≡◌, ◌+◌, None, length, Ok, Err, refl, sym, ap, subst, ◌∙◌, arith}
+use Rattle.std.proofs.Common.{◌≡◌, ◌+◌, None, length, Ok, sym, ap, subst, ◌∙◌, arith}
 use Rattle.std.proofs.lemmas.Result.{err_from_is_err_and}
 use Rattle.fab_disk.specs.Changing.{Whole}
 use Rattle.frame_store.specs.declared.shapes.Shape.{Shape}

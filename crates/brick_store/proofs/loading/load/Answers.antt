@@ -5,7 +5,7 @@ use Rattle.brick_state.specs.States.{empty}
 use Rattle.brick_state.specs.Folds.{folded}
 use Rattle.brick_state.specs.Indexes.{state_of}
 use Rattle.brick_state.specs.Indexes as indexes
-use Rattle.brick_store.specs.declared.faults.StoreFault.TheVariants.{NotAStore}
+use Rattle.brick_store.specs.declared.faults.OpenFault.TheVariants.{NotAStore}
 use Rattle.brick_store.specs.Images.{records_of, limits_for}
 use Rattle.brick_store.specs.Standing.{Leads}
 use Rattle.brick_store.specs.Openings.{is_whole}

@@ -1,11 +1,10 @@
 -- The append of a frame for which there is room.
-use Rattle.std.proofs.Common.{rules, ◌≡◌, ◌++◌, ◌∷◌, [], ℕ, Some, None, List, length, Ok, sym, ap, subst, arith}
+use Rattle.std.proofs.Common.{rules, ◌≡◌, ◌++◌, ◌∷◌, [], ℕ, Some, None, List, length, sym, ap, subst, arith}
 use Rattle.std.proofs.lemmas.Result.{err_from_is_err_and}
 use Rattle.frame_store.specs.declared.faults.FrameFault.{FrameFault}
 use Rattle.frame_store.specs.Listed.{frame_of}
 use Rattle.fab_disk.specs.Changing.{Whole}
 use Rattle.frame_store.specs.Ends.{end_of}
-use Rattle.frame_store.proofs.Words.{run_by, cause_by}
 use Rattle.brick_state.specs.Indexes.{state_of, limits_of}
 use Rattle.brick_store.specs.Images.{record_of}
 use Rattle.brick_store.specs.Images as images
@@ -82,16 +81,4 @@ returns g c =
     (frame_of frame.kind bytes) c.args.item.now st c.requires.limits may.leads read c.requires.can in
     let step = call_made d st next (old.frames ++ frame_of frame.kind bytes ∷ []) old new may leads call.ok call.read call.answer.halts in
     let change = state_change d 4 None st next (old.frames ++ frame_of frame.kind bytes ∷ []) old new.disk Whole may leads call.change in
-    let run = run_by d 4 _ _ _ old.disk new.disk (Ok tt) call.change in
-    let cause = cause_by d 4 _ _ _ old.disk new.disk (Ok tt) call.change in
-    search (rules, step, change, run, cause)
-
-pub returns-in_err-append-clause-run : goal.returns-in_err-append-clause-run
-returns-in_err-append-clause-run g c =
-    let run = run_by g.D.Disk 4 _ _ _ c.args.frames.now.disk c.append.new.self.disk (refused c.in_err-append.field-0.0) c.in_err-append.ensures.change in
-    search (rules, run)
-
-pub returns-in_err-append-clause-cause : goal.returns-in_err-append-clause-cause
-returns-in_err-append-clause-cause g c =
-    let cause = cause_by g.D.Disk 4 _ _ _ c.args.frames.now.disk c.append.new.self.disk (refused c.in_err-append.field-0.0) c.in_err-append.ensures.change in
-    search (rules, cause)
+    search (rules, step, change)

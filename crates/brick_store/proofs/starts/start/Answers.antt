@@ -1,7 +1,10 @@
 -- The opening is counted.
-use Rattle.std.proofs.Common.{rules, ◌≡◌, ◌+◌, ℕ, None, OnOk, if◌then◌else◌, refl, sym, ap, subst, ◌∙◌}
+use Rattle.std.proofs.Common.{◌≡◌, ◌+◌, ℕ, None, OnOk, if◌then◌else◌, refl, sym, ap, subst, ◌∙◌, arith}
 use Rattle.std.proofs.lemmas.Result.{err_from_is_err_and}
-use Rattle.fab_disk.specs.Disk.{LeavesOnly, StopsEarly}
+use Rattle.fab_disk.specs.Changing.{Change, NotBegun, Stands}
+use Rattle.fab_disk.proofs.Moments.{kept_both}
+use Rattle.fab_disk.proofs.Plans.{run_as, run_both, run_cut}
+use Rattle.frame_store.proofs.Stills.{still_none}
 use Rattle.stamp_store.specs.declared.kept_records.Kept.TheVariants.{Boot}
 use Rattle.frame_store.specs.declared.shapes.Shape.{Shape}
 use Rattle.brick_state.specs.declared.records.Record.TheVariants as forms
@@ -15,8 +18,10 @@ use Rattle.brick_store.specs.Ends.{end_of}
 use Rattle.brick_store.specs.Openings.{IsKeptIn, StopsOpening}
 use Rattle.brick_store.proofs.Counting.{start_sum}
 use Rattle.brick_store.proofs.CutOpenings.{readying_cut, count_cut}
-use Rattle.brick_store.proofs.Starting.{Between, counted, counted_moments}
-use Rattle.brick_store.proofs.StateChanges.{stands_before, settled_after, slots_after}
+use Rattle.brick_store.proofs.Stepping.{refused}
+use Rattle.brick_store.proofs.OpeningLaws.{cut_meant, kept_for, memory_meant, refused_starts, tried_ends}
+use Rattle.brick_store.proofs.Starting.{counted, counted_moments, settled_moments}
+use Rattle.brick_store.proofs.StateChanges.{not_whole, stands_before, settled_after, slots_after}
 use Rattle.brick_store.proofs.starts.start.Goals as goal
 
 pub returns-clause-made : goal.returns-clause-made
@@ -26,59 +31,74 @@ returns-clause-made g c =
     counted (indexes.limits_of c.args.index.now) (c.boot.result + 1) st ∙ ap (λ (n : ℕ). booted (n + 1) st) c.boot.ensures in
     subst (λ (s : StateOf Entry). OnOk c.append_count.result (state_of c.append_count.new.index ≡ s)) is c.append_count.ensures.made
 
-pub returns-clause-moments : goal.returns-clause-moments
-returns-clause-moments g c = λ told closed.
-    let d = g.D.Disk in
-    let st = state_of c.args.index.now in
-    let old = c.args.frames.now in
-    let mid = c.make_appendable.new.frames in
-    let new = c.append_count.new.frames in
-    let is : changed (indexes.limits_of c.args.index.now) (forms.Kept (Boot (c.boot.result + 1))) st ≡ booted (c.args.index.now.boot + 1) st =
-    counted (indexes.limits_of c.args.index.now) (c.boot.result + 1) st ∙ ap (λ (n : ℕ). booted (n + 1) st) c.boot.ensures in
-    let step = subst (λ (s : Shape). LeavesOnly d.moment d.left_since mid.disk new.disk
-    (Between s st (changed (indexes.limits_of c.args.index.now) (forms.Kept (Boot (c.boot.result + 1))) st) (d.seen mid.disk)))
-    c.make_appendable.ensures.shape (c.append_count.ensures.change.moments told (stands_before d None st mid c.in_ok-make_appendable.ensures.may told)) in
-    counted_moments d.moment d.left_since (d.may_leave old.disk) old.shape st (booted (c.args.index.now.boot + 1) st)
-    (d.seen old.disk) old.disk mid.disk new.disk (d.seen mid.disk) (c.in_ok-make_appendable.ensures.slots told) (c.make_appendable.ensures.moments told closed)
-    (subst (λ (s : StateOf Entry). LeavesOnly d.moment d.left_since mid.disk new.disk (Between old.shape st s (d.seen mid.disk))) is step)
-
-pub returns-in_err-frame : goal.returns-in_err-frame
-returns-in_err-frame g c = search rules
-
-pub returns-in_err-make_appendable-clause-cut : goal.returns-in_err-make_appendable-clause-cut
-returns-in_err-make_appendable-clause-cut g c =
+pub returns-in_err-frame-clause-starts : goal.returns-in_err-frame-clause-starts
+returns-in_err-frame-clause-starts g c =
     let d = g.D.Disk in
     let old = c.args.frames.now in
+    let p = err_from_is_err_and c.from_residual.result c.from_residual.ensures.1 in
+    rw (p.1, p.2) (refused_starts d g.met.D.Disk.only_now c.args.whole (state_of c.args.index.now) old old.disk NotBegun ⊥ (λ is. absurd cc)
+    (λ is. absurd cc) (still_none d old.disk))
+
+pub returns-in_err-make_appendable-clause-starts : goal.returns-in_err-make_appendable-clause-starts
+returns-in_err-make_appendable-clause-starts g c =
+    let d = g.D.Disk in
+    let old = c.args.frames.now in
+    let new = c.make_appendable.new.frames.disk in
     let st = state_of c.args.index.now in
+    let fault = c.in_err-make_appendable.field-0.0 in
+    let here = c.in_err-make_appendable.ensures in
     let len : c.len.result ≡ 4 = c.len.ensures ∙ c.in_ok-frame.ensures.length in
-    let calls = sym (start_sum (is_appendable c.args.whole old 4) ∙ ap (λ (n : ℕ). (if is_appendable c.args.whole old n then 1 else 8) + 4) (sym len)) in
+    let sum = start_sum (is_appendable c.args.whole old 4) ∙ ap (λ (n : ℕ). (if is_appendable c.args.whole old n then 1 else 8) + 4) (sym len) in
     let p = err_from_is_err_and c.from_residual-in_err-make_appendable.result c.from_residual-in_err-make_appendable.ensures.1 in
-    rw (p.1, p.2) (λ told free closed is. subst (λ (n : ℕ). StopsOpening d.seen d.certain d.moment n old.disk c.make_appendable.new.frames.disk
-    (IsKeptIn old.shape st (d.seen old.disk)) (IsKeptIn old.shape (booted (st.boot + 1) st) (d.seen old.disk))) calls
-    (readying_cut d.seen d.certain d.may_leave d.moment d.left_since _ old.disk c.make_appendable.new.frames.disk _ _
-    (c.in_err-make_appendable.ensures.cut told free closed is)))
+    rw (p.1, p.2) (record {
+      moments = λ told closed. settled_moments d.moment d.left_since (d.may_leave old.disk) old.shape st (booted (st.boot + 1) st) (d.seen old.disk)
+          old.disk new (here.moments told closed);
+      run = run_cut d.tells d.moment d.plan d.unlisted _ _ old.disk new _ _ (omega (arith, sum)) (not_whole fault)
+          (λ not. here.run.waits (λ ok. absurd cc) (λ is. not (ap end_of is)))
+          (run_as d.tells d.moment d.plan d.unlisted _ old.disk new _ _ _ _ (λ never. absurd never) (λ is. ap refused (cut_meant fault is))
+          (λ a b. here.run.waits (λ ok. absurd cc) (λ is. b (ap end_of is))) here.run);
+      not_worn = λ is free. c.requires.boots;
+      cut = λ is told free closed. subst (λ (n : ℕ). StopsOpening d.seen d.certain d.moment n old.disk new
+          (IsKeptIn old.shape st (d.seen old.disk)) (IsKeptIn old.shape (booted (st.boot + 1) st) (d.seen old.disk))) (sym sum)
+          (readying_cut d.seen d.certain d.may_leave d.moment d.left_since _ old.disk new _ _
+          (here.cut told free closed (ap refused (cut_meant fault is))));
+      not_begun = λ is. here.no_memory (ap refused (memory_meant fault here.only is));
+      cause = kept_for _ _ _ _ _ _ (λ is. ap refused (cut_meant fault is)) here.cause;
+    })
 
-pub returns-clause-cut : goal.returns-clause-cut
-returns-clause-cut g c = λ told free closed is.
+pub returns-clause-starts : goal.returns-clause-starts
+returns-clause-starts g c =
     let d = g.D.Disk in
     let st = state_of c.args.index.now in
     let old = c.args.frames.now in
     let mid = c.make_appendable.new.frames in
     let new = c.append_count.new.frames in
     let made = c.in_ok-make_appendable.ensures in
-    let next : changed (indexes.limits_of c.args.index.now) (forms.Kept (Boot (c.boot.result + 1))) st ≡ booted (c.args.index.now.boot + 1) st =
+    let count = c.append_count.ensures in
+    let ends = tried_ends c.append_count.result count.step.only count.no_memory in
+    let next : changed (indexes.limits_of c.args.index.now) (forms.Kept (Boot (c.boot.result + 1))) st ≡ booted (st.boot + 1) st =
     counted (indexes.limits_of c.args.index.now) (c.boot.result + 1) st ∙ ap (λ (n : ℕ). booted (n + 1) st) c.boot.ensures in
     let len : c.len.result ≡ 4 = c.len.ensures ∙ c.in_ok-frame.ensures.length in
-    let calls = sym (start_sum (is_appendable c.args.whole old 4) ∙ ap (λ (n : ℕ). (if is_appendable c.args.whole old n then 1 else 8) + 4) (sym len)) in
-    let moved = subst (λ (s : Shape). StopsEarly d.seen d.certain d.moment 4 mid.disk new.disk (IsUnchanged s None st (d.seen mid.disk))
-    (IsChanged s None (changed (indexes.limits_of c.args.index.now) (forms.Kept (Boot (c.boot.result + 1))) st) (d.seen mid.disk)))
-    c.make_appendable.ensures.shape (c.append_count.ensures.change.cut (ap end_of is) told (stands_before d None st mid made.may told)) in
-    let stops = subst (λ (s : StateOf Entry). StopsEarly d.seen d.certain d.moment 4 mid.disk new.disk (IsUnchanged old.shape None st (d.seen mid.disk))
-    (IsChanged old.shape None s (d.seen mid.disk))) next moved in
-    subst (λ (n : ℕ). StopsOpening d.seen d.certain d.moment n old.disk new.disk
-    (IsKeptIn old.shape st (d.seen old.disk)) (IsKeptIn old.shape (booted (st.boot + 1) st) (d.seen old.disk))) calls
-    (count_cut d.seen d.certain d.may_leave d.moment d.left_since _ old.shape st (booted (st.boot + 1) st) old.disk mid.disk new.disk
-    (made.run.counted told refl) (made.slots told) stops)
+    let sum = start_sum (is_appendable c.args.whole old 4) ∙ ap (λ (n : ℕ). (if is_appendable c.args.whole old n then 1 else 8) + 4) (sym len) in
+    let change = subst (λ (s : StateOf Entry). Change d 4 (IsUnchanged old.shape None st (d.seen mid.disk)) (IsChanged old.shape None s (d.seen mid.disk))
+    mid.disk new.disk (end_of c.append_count.result)) next
+    (subst (λ (s : Shape). Change d 4 (IsUnchanged s None st (d.seen mid.disk))
+    (IsChanged s None (changed (indexes.limits_of c.args.index.now) (forms.Kept (Boot (c.boot.result + 1))) st) (d.seen mid.disk)) mid.disk new.disk
+    (end_of c.append_count.result)) c.make_appendable.ensures.shape count.change) in
+    let stands = λ (told : d.tells). subst (λ (s : Shape). Stands d (IsUnchanged s None st (d.seen mid.disk)) mid.disk) c.make_appendable.ensures.shape
+    (stands_before d None st mid made.may told) in
+    record {
+      moments = λ told closed. counted_moments d.moment d.left_since (d.may_leave old.disk) old.shape st (booted (st.boot + 1) st) (d.seen old.disk)
+          old.disk mid.disk new.disk (d.seen mid.disk) (made.slots told) (c.make_appendable.ensures.moments told closed) (change.moments told (stands told));
+      run = run_both d.tells d.moment d.plan d.unlisted _ 4 _ old.disk mid.disk new.disk _ _ _ _ sum refl ends.0 made.run change.run;
+      not_worn = λ is free. c.requires.boots;
+      cut = λ is told free closed. subst (λ (n : ℕ). StopsOpening d.seen d.certain d.moment n old.disk new.disk
+          (IsKeptIn old.shape st (d.seen old.disk)) (IsKeptIn old.shape (booted (st.boot + 1) st) (d.seen old.disk))) (sym sum)
+          (count_cut d.seen d.certain d.may_leave d.moment d.left_since _ old.shape st (booted (st.boot + 1) st) old.disk mid.disk new.disk
+          (made.run.counted told refl) (made.slots told) (change.cut is told (stands told)));
+      not_begun = λ is. absurd (ends.1 is);
+      cause = kept_both (d.faults old.disk) (d.faults mid.disk) (d.faults new.disk) _ _ _ _ _ c.make_appendable.ensures.cause change.cause;
+    }
 
 pub returns-clause-settled : goal.returns-clause-settled
 returns-clause-settled g c =

@@ -1,9 +1,11 @@
 -- How a brick that is not halted ends, and what its disk shows.
+use Rattle.node.proofs.Shown.{leaves_shown}
 use Rattle.serving.proofs.Runs.{not_halted, sound_end}
 use Rattle.serving.proofs.turns.serve.Goals as goal
 
 pub returns-clause-durable : goal.returns-clause-durable
-returns-clause-durable g c = λ told not_disk not. c.is_halted-2.ensures.durable told (c.serve_turns-served.ensures.runs not_disk)
+returns-clause-durable g c = λ told not_disk not.
+    leaves_shown g.D.Disk _ _ _ _ (c.is_halted-2.ensures.stands told (c.serve_turns-served.ensures.runs not_disk))
 
 pub returns-clause-runs : goal.returns-clause-runs
 returns-clause-runs g c = λ runs not_disk. c.serve_turns-served.ensures.runs not_disk

@@ -1,6 +1,5 @@
 -- The brick of the number does what the machine's does.
-use Rattle.std.proofs.Common.{◌≡◌, true, false, ap, ◌∙◌, subst, sym}
-use Rattle.fab_disk.specs.MemDisk.{may_be_left, IsSound}
+use Rattle.std.proofs.Common.{◌≡◌, true, false, ap, ◌∙◌, sym}
 use Rattle.fab_disk.specs.declared.mem_disk.MemDisk.{MemDisk}
 use Rattle.brick_store.specs.Bricks.{Brick as Store}
 use Rattle.world.specs.Shown.{disk_in}
@@ -24,14 +23,8 @@ returns-clause-begun c =
 
 pub returns-clause-err : goal.returns-clause-err
 returns-clause-err c =
-    let on =
-    on_at c.requires.0 c.args.bricks.now.items c.args.number c.index_mut-brick.result.now _ c.index_mut-brick.ensures.value c.in-Up.is c.requires.1
-    in
     asked_same c.args.bricks.now.items c.args.number.0 c.index_mut-brick.result.now c.in-Up.node c.invoke.new.self c.invoke.result
-    c.requires.1.within c.index_mut-brick.ensures.value c.in-Up.is c.invoke.ensures.same
-    (ap (λ (x : Store MemDisk). x.halted) c.invoke.ensures.brick ∙ on.0)
-    (subst (λ (x : Store MemDisk). IsSound x.disk) (sym c.invoke.ensures.brick) on.1)
-    (λ image left. subst (λ (x : Store MemDisk). may_be_left x.disk image) c.invoke.ensures.brick left) c.invoke.ensures.err
+    c.requires.1.within c.index_mut-brick.ensures.value c.in-Up.is c.invoke.ensures.same c.invoke.ensures.brick c.invoke.ensures.err
 
 pub returns-clause-disks : goal.returns-clause-disks
 returns-clause-disks c =

@@ -1,11 +1,10 @@
 -- A brick takes a message whole or in part, as the machine's does.
-use Rattle.std.proofs.Common.{◌≡◌, false, Err, refl, ap, ◌∙◌}
+use Rattle.std.proofs.Common.{◌≡◌, false, refl, ◌∙◌}
 use Rattle.node.specs.Outcomes.{Outcome}
-use Rattle.node.specs.declared.faults.NodeFault.{NodeFault}
 use Rattle.stripe_code.specs.Codes.{coding}
 use Rattle.world.specs.Faults.{plan_of}
 use Rattle.world.proofs.MachineSteps.{absorbed_boot}
-use Rattle.world.proofs.DownLemmas.{IsArmed, took_whole, took_part, took_nothing, halted_as}
+use Rattle.world.proofs.DownLemmas.{IsArmed, took_whole, took_part, took_nothing, step_by, halted_as}
 use Rattle.world.proofs.bricks.take_message.Goals as goal
 
 pub returns-in-Ok-clause-takes : goal.returns-in-Ok-clause-takes
@@ -19,9 +18,8 @@ returns-in-Ok-clause-takes c layout me state runs =
     let on : c.arm.new.self.brick.halted ≡ false = c.arm.ensures.halted ∙ runs.runs in
     took_whole layout me state c.args.time c.args.packet.now c.args.fault c.args.node c.arm.new.self runs c.arm.ensures.same c.arm.ensures.state arms
     c.look.ensures.shape (c.look.ensures.listed on) c.on_message.new.self c.arm-in-Ok.new.self c.in-Ok.outs c.on_message.ensures.same c.arm-in-Ok.ensures.same
-    c.in-Ok.ensures.step c.arm-in-Ok.ensures.state (c.in-Ok.ensures.durable tt) c.arm-in-Ok.ensures.content c.arm-in-Ok.ensures.crash (λ none. (c.in-Ok.ensures.still none).1)
-    _ _ c.in-Ok.ensures.run refl
-    (c.arm-in-Ok.ensures.halted ∙ c.in-Ok.ensures.halts ∙ on) (λ unlisted. c.arm-in-Ok.ensures.again refl unlisted)
+    c.in-Ok.ensures.step c.arm-in-Ok.ensures.state (record { content = c.arm-in-Ok.ensures.content; crash = c.arm-in-Ok.ensures.crash }) (λ none. (c.in-Ok.ensures.still none).1)
+    c.in-Ok.ensures.change (c.arm-in-Ok.ensures.halted ∙ c.in-Ok.ensures.halts ∙ on) (λ unlisted. c.arm-in-Ok.ensures.again refl unlisted)
 
 pub returns-in-Err-Disk-clause-takes : goal.returns-in-Err-Disk-clause-takes
 returns-in-Err-Disk-clause-takes c layout me state runs =
@@ -32,10 +30,10 @@ returns-in-Err-Disk-clause-takes c layout me state runs =
       listed = c.arm.ensures.listed;
     } in
     let on : c.arm.new.self.brick.halted ≡ false = c.arm.ensures.halted ∙ runs.runs in
+    let is = c.in-Err-Disk.field-0-is in
     took_part layout me state c.args.time c.args.packet.now c.args.fault c.args.node c.arm.new.self runs c.arm.ensures.same c.arm.ensures.state arms
     c.look.ensures.shape (c.look.ensures.listed on) c.on_message.new.self c.into_disk.result c.left_by.result c.into_disk.ensures.disk on
-    (c.on_message.ensures.moments tt on) _ _ c.in-Err-Disk.ensures.run (ap (λ (f : NodeFault). Err f) c.in-Err-Disk.field-0-is)
-    (c.in-Err-Disk.ensures.cut tt (ap (λ (f : NodeFault). Err f) c.in-Err-Disk.field-0-is))
+    (step_by Outcome _ _ c.arm.new.self c.on_message.new.self _ _ is c.in-Err-Disk.ensures.change)
     c.left_by.ensures.left c.left_by.ensures.crash c.left_by.ensures.sound (absorbed_boot (coding layout) me state c.args.packet.now)
 
 pub returns-in-Err-NoMemory-clause-takes : goal.returns-in-Err-NoMemory-clause-takes
@@ -47,14 +45,15 @@ returns-in-Err-NoMemory-clause-takes c layout me state runs after =
       listed = c.arm.ensures.listed;
     } in
     let on : c.arm.new.self.brick.halted ≡ false = c.arm.ensures.halted ∙ runs.runs in
-    let untouched = c.in-Err-NoMemory.ensures.no_call (λ e. (let is = c.in-Err-NoMemory.field-0-is in cc)) in
+    let is = c.in-Err-NoMemory.field-0-is in
     let halted : c.on_message.new.self.brick.halted ≡ c.arm.new.self.brick.halted =
-    halted_as Outcome c.arm.new.self.brick.halted c.on_message.new.self.brick.halted c.in-Err-NoMemory.field-0 c.in-Err-NoMemory.ensures.halts c.in-Err-NoMemory.field-0-is
+    halted_as Outcome c.arm.new.self.brick.halted c.on_message.new.self.brick.halted c.in-Err-NoMemory.field-0 c.in-Err-NoMemory.ensures.halts is
     in (
       refl,
       took_nothing layout me state c.args.time c.args.packet.now c.args.fault c.args.node c.arm.new.self runs c.arm.ensures.same c.arm.ensures.state arms
           c.look.ensures.shape (c.look.ensures.listed on) c.on_message.new.self c.arm-in-Err-NoMemory.new.self c.on_message.ensures.same
-          c.arm-in-Err-NoMemory.ensures.same c.in-Err-NoMemory.ensures.err c.arm-in-Err-NoMemory.ensures.state untouched.crash
-          c.arm-in-Err-NoMemory.ensures.crash _ _ c.in-Err-NoMemory.ensures.run
+          c.arm-in-Err-NoMemory.ensures.same c.in-Err-NoMemory.ensures.err c.arm-in-Err-NoMemory.ensures.state
+          (record { content = c.arm-in-Err-NoMemory.ensures.content; crash = c.arm-in-Err-NoMemory.ensures.crash })
+          (step_by Outcome _ _ c.arm.new.self c.on_message.new.self _ _ is c.in-Err-NoMemory.ensures.change)
           (c.arm-in-Err-NoMemory.ensures.halted ∙ halted ∙ on) (λ unlisted. c.arm-in-Err-NoMemory.ensures.again refl unlisted),
     )

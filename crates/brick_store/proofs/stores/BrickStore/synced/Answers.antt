@@ -10,7 +10,7 @@ use Rattle.brick_state.specs.States.{viewed, group_at, no_group}
 use Rattle.brick_state.specs.Indexes.{state_of, limits_of}
 use Rattle.brick_store.specs.Blocks.{resolved, cached}
 use Rattle.brick_store.specs.Bricks.{Brick}
-use Rattle.brick_store.specs.Sizes.{view_size, known_size}
+use Rattle.brick_store.specs.Sizes.{known_size}
 use Rattle.brick_store.specs.Images as images
 use Rattle.brick_store.specs.Calls.{calls_of, calls_with}
 use Rattle.brick_store.proofs.Changed.{can_from, view_applied, members_viewed, slots_viewed}

@@ -1,96 +1,64 @@
 -- What was opened is what the disk showed, restarted.
-use Rattle.std.proofs.Common.{◌≡◌, ◌+◌, ◌<◌, inr, Bool, List, refl, sym, ◌∙◌, ap, subst, arith}
+use Rattle.std.proofs.Common.{◌≡◌, ◌⊎◌, inl, inr, refl, sym, ◌∙◌, ap, subst, rules}
 use Rattle.fab_base.specs.declared.identities.BrickId.{BrickId}
-use Rattle.fab_disk.specs.Disk.{LeavesOnly}
-use Rattle.fab_disk.proofs.Plans.{run_as, run_whole}
+use Rattle.fab_disk.specs.Changing.{Whole, Stands}
+use Rattle.fab_disk.specs.Disk.{IsUntouched}
 use Rattle.frame_store.specs.declared.shapes.Shape.{Shape}
-use Rattle.frame_store.specs.declared.frames.Frame.{Frame}
-use Rattle.frame_store.specs.Images.{IsNoStore, OpensAs}
+use Rattle.frame_store.specs.Images.{IsNoStore}
 use Rattle.frame_store.specs.Layouts.{shape_of}
 use Rattle.version_log.specs.Versions.{Version}
-use Rattle.brick_state.specs.States.{StateOf, booted}
-use Rattle.brick_store.specs.declared.faults.StoreFault.{StoreFault}
-use Rattle.brick_store.specs.Images.{IsFound, StandsFor, StandsForEither}
-use Rattle.brick_store.specs.Calls.{opening_calls}
-use Rattle.brick_store.specs.Openings.{IsAllowedOr, StopsOpening, opens_appendable}
+use Rattle.brick_state.specs.States.{StateOf}
+use Rattle.brick_store.specs.Images.{IsFound}
+use Rattle.brick_store.specs.Openings.{IsCounted, IsWornOut, Opens}
+use Rattle.brick_store.specs.Openings as stores
+use Rattle.brick_store.specs.declared.faults.OpenFault.TheVariants as faults
+use Rattle.protocol.specs.Nodes.{Node, restarted}
 use Rattle.replica.specs.Parts.{IsFirstView}
-use Rattle.node.specs.Calls.{RunsAsOpening}
-use Rattle.node.specs.Running.{running, state_of, shape_at, reopened}
-use Rattle.node.proofs.Views.{kept_so, leaves_so}
-use Rattle.node.proofs.Starts.{restarts_so, opening_shows, all_shown, cut_shows}
-use Rattle.node.proofs.Runs.{opens_some}
+use Rattle.node.specs.Running.{running, state_of, shape_at, ImageShows}
+use Rattle.node.proofs.Shown.{shown_so}
+use Rattle.node.proofs.Starts.{restarts_so, opens_so, refused_so}
 use Rattle.node.proofs.nodes.Node.start.Goals as goal
 
-pub returns-in-Err-clause-moments_err : goal.returns-in-Err-clause-moments_err
-returns-in-Err-clause-moments_err g c = λ told before shows.
+pub returns-in-Err : goal.returns-in-Err
+returns-in-Err g c =
+    let d = g.D.Disk in
+    let disk = c.args.disk in
+    let layout = c.args.layout in
+    let me = c.args.me in
+    let here = c.in-Err.ensures in
+    let fault = c.in-Err.refused.0 in
+    let same : shape_of me.0 c.block.result c.records.result ≡ shape_at layout me = λ i. shape_of me.0 (c.block.ensures i)
+    (c.records.ensures.value i) in
+    let none : fault ≡ faults.NotAStore → d.tells → IsNoStore (shape_at layout me) (d.seen disk) = λ is told.
+    subst (λ (s : Shape). IsNoStore s (d.seen disk)) same (here.not_a_store is told) in
+    let opens = refused_so d layout me disk c.in-Err.refused.1 fault
+    (subst (λ (s : Shape). Opens d s disk c.in-Err.refused.1 (stores.stopped_by fault)) same here.opens) none in
+    let not_a_store : fault ≡ faults.NotAStore → d.tells
+    → (IsNoStore (shape_at layout me) (d.seen disk) × IsUntouched d.seen d.may_leave d.moment d.left_since disk c.in-Err.refused.1)
+    ⊎ ((st : StateOf Version) × IsFound (shape_at layout me) st (d.seen disk) × (IsFirstView st → ⊥)) = λ is told. inl (none is told, here.opens.not_begun (ap stores.stopped_by is)) in
+    let worn = subst (λ (s : Shape). fault ≡ faults.Worn → d.tells → IsWornOut s (d.seen disk)) same here.worn in
+    search (rules, opens, not_a_store, worn)
+
+pub returns-then-not-is_first_view : goal.returns-then-not-is_first_view
+returns-then-not-is_first_view g c =
     let d = g.D.Disk in
     let disk = c.args.disk in
     let layout = c.args.layout in
     let me = c.args.me in
     let same : shape_of me.0 c.block.result c.records.result ≡ shape_at layout me = λ i. shape_of me.0 (c.block.ensures i)
     (c.records.ensures.value i) in
-    let last = c.in-Err.refused.1 in
-    opening_shows layout me before (d.seen disk) shows d.moment d.left_since (d.may_leave disk) disk last
-    (subst
-    (λ (s : Shape). (st : StateOf Version) → StandsFor s st (d.seen disk) → LeavesOnly d.moment d.left_since disk last
-    (IsAllowedOr (d.may_leave disk) (StandsForEither s st (booted (st.boot + 1) st))))
-    same (c.in-Err.ensures.moments_err told) shows.st shows.stands)
-
-pub returns-in-Err-clause-any_moment_err : goal.returns-in-Err-clause-any_moment_err
-returns-in-Err-clause-any_moment_err g c = λ told before all.
-    let d = g.D.Disk in
-    let disk = c.args.disk in
-    let layout = c.args.layout in
-    let me = c.args.me in
-    let shows = all (d.seen disk) (g.met.D.Disk.seen_is_left disk) in
-    all_shown d.moment d.left_since layout me before (reopened before) (d.may_leave disk) disk c.in-Err.refused.1 all
-    (returns-in-Err-clause-moments_err g c told before shows)
-
-pub returns-then-not-is_first_view-clause-moments_err : goal.returns-then-not-is_first_view-clause-moments_err
-returns-then-not-is_first_view-clause-moments_err g c = λ told before shows.
-    let d = g.D.Disk in
-    let disk = c.args.disk in
-    let layout = c.args.layout in
-    let me = c.args.me in
-    let same : shape_of me.0 c.block.result c.records.result ≡ shape_at layout me = λ i. shape_of me.0 (c.block.ensures i)
-    (c.records.ensures.value i) in
-    let last = c.into_disk.result in
-    let moments =
-    subst
-    (λ (end : g.row.D.Denot). (st : StateOf Version) → StandsFor (shape_of me.0 c.block.result c.records.result) st (d.seen disk)
-    → LeavesOnly d.moment d.left_since disk end (IsAllowedOr (d.may_leave disk)
-    (StandsForEither (shape_of me.0 c.block.result c.records.result) st (booted (st.boot + 1) st))))
-    (sym c.into_disk.ensures.disk) (c.in-Ok.ensures.moments told) in
-    opening_shows layout me before (d.seen disk) shows d.moment d.left_since (d.may_leave disk) disk last
-    (subst
-    (λ (s : Shape). (st : StateOf Version) → StandsFor s st (d.seen disk) → LeavesOnly d.moment d.left_since disk last
-    (IsAllowedOr (d.may_leave disk) (StandsForEither s st (booted (st.boot + 1) st))))
-    same (moments) shows.st shows.stands)
-
-pub returns-then-not-is_first_view-clause-any_moment_err : goal.returns-then-not-is_first_view-clause-any_moment_err
-returns-then-not-is_first_view-clause-any_moment_err g c = λ told before all.
-    let d = g.D.Disk in
-    let disk = c.args.disk in
-    let layout = c.args.layout in
-    let me = c.args.me in
-    let shows = all (d.seen disk) (g.met.D.Disk.seen_is_left disk) in
-    all_shown d.moment d.left_since layout me before (reopened before) (d.may_leave disk) disk c.into_disk.result all
-    (returns-then-not-is_first_view-clause-moments_err g c told before shows)
-
-pub returns-then-not-is_first_view-clause-not_a_store : goal.returns-then-not-is_first_view-clause-not_a_store
-returns-then-not-is_first_view-clause-not_a_store g c = λ is told.
-    let d = g.D.Disk in
-    let disk = c.args.disk in
-    let layout = c.args.layout in
-    let me = c.args.me in
-    let same : shape_of me.0 c.block.result c.records.result ≡ shape_at layout me = λ i. shape_of me.0 (c.block.ensures i)
-    (c.records.ensures.value i) in
-    let found = c.in-Ok.ensures.found told in
+    let opens = opens_so d layout me disk c.into_disk.result Whole
+    (subst (λ (last : g.row.D.Denot). Opens d (shape_at layout me) disk last Whole) (sym c.into_disk.ensures.disk)
+    (subst (λ (s : Shape). Opens d s disk c.in-Ok.store.disk Whole) same c.in-Ok.ensures.opens)) in
+    let not_a_store : d.tells → (IsNoStore (shape_at layout me) (d.seen disk) × IsUntouched d.seen d.may_leave d.moment d.left_since disk c.into_disk.result)
+    ⊎ ((st : StateOf Version) × IsFound (shape_at layout me) st (d.seen disk) × (IsFirstView st → ⊥)) = λ told.
+    let counted = subst (λ (s : Shape). IsCounted s (d.seen disk) c.in-Ok.store.state) same (c.in-Ok.ensures.found told) in
     inr (
-      found.0,
-      subst (λ (s : Shape). IsFound s found.0 (d.seen disk)) same found.1,
-      λ first. c.if-not-is_first_view.ensures.later refl (subst (λ (st : StateOf Version). IsFirstView st) (sym found.3) first),
-    )
+      counted.before,
+      counted.found,
+      λ first. c.if-not-is_first_view.ensures.later refl (subst (λ (st : StateOf Version). IsFirstView st) (sym counted.counted) first),
+    ) in
+    search (rules, opens, not_a_store)
 
 pub invariant_of-result : goal.invariant_of-result
 invariant_of-result g c =
@@ -105,8 +73,8 @@ invariant_of-result g c =
       open_calls = c.new-calls.ensures.calls layout;
     }
 
-pub returns-clause-state : goal.returns-clause-state
-returns-clause-state g c = λ told before shows.
+pub returns : goal.returns
+returns g c =
     let d = g.D.Disk in
     let disk = c.args.disk in
     let layout = c.args.layout in
@@ -114,115 +82,15 @@ returns-clause-state g c = λ told before shows.
     let same : shape_of me.0 c.block.result c.records.result ≡ shape_at layout me = λ i. shape_of me.0 (c.block.ensures i)
     (c.records.ensures.value i) in
     let store = c.in-Ok.store in
-    let opened =
-    subst (λ (s : Shape). (st : StateOf Version) → StandsFor s st (d.seen disk) → store.state ≡ booted (st.boot + 1) st) same
-    (c.in-Ok.ensures.state told)
-    shows.st shows.stands in
-    restarts_so layout me c.new-calls.result store c.boot.result before (d.seen disk) (c.new-calls.ensures.boot ∙ c.boot.ensures) c.boot.ensures
-    c.new-calls.ensures.state shows opened
-
-pub returns-clause-durable : goal.returns-clause-durable
-returns-clause-durable g c = λ told.
-    let d = g.D.Disk in
-    let disk = c.args.disk in
-    let layout = c.args.layout in
-    let me = c.args.me in
-    let same : shape_of me.0 c.block.result c.records.result ≡ shape_at layout me = λ i. shape_of me.0 (c.block.ensures i)
-    (c.records.ensures.value i) in
-    let store = c.in-Ok.store in
-    leaves_so layout me (state_of (running layout c.new-calls.result store)) store (d.may_leave store.disk) (c.in-Ok.ensures.shape ∙ same)
-    (kept_so layout c.new-calls.result store (invariant_of-result g c)) (c.in-Ok.ensures.durable told)
-
-pub returns-clause-seen : goal.returns-clause-seen
-returns-clause-seen g c = λ told.
-    returns-clause-durable g c told (g.D.Disk.seen c.in-Ok.store.disk) (g.met.D.Disk.seen_is_left c.in-Ok.store.disk)
-
-pub returns-clause-moments : goal.returns-clause-moments
-returns-clause-moments g c = λ told before shows.
-    let d = g.D.Disk in
-    let disk = c.args.disk in
-    let layout = c.args.layout in
-    let me = c.args.me in
-    let same : shape_of me.0 c.block.result c.records.result ≡ shape_at layout me = λ i. shape_of me.0 (c.block.ensures i)
-    (c.records.ensures.value i) in
-    let last = c.in-Ok.store.disk in
-    opening_shows layout me before (d.seen disk) shows d.moment d.left_since (d.may_leave disk) disk last
-    (subst
-    (λ (s : Shape). (st : StateOf Version) → StandsFor s st (d.seen disk) → LeavesOnly d.moment d.left_since disk last
-    (IsAllowedOr (d.may_leave disk) (StandsForEither s st (booted (st.boot + 1) st))))
-    same (c.in-Ok.ensures.moments told) shows.st shows.stands)
-
-pub returns-clause-any_moment : goal.returns-clause-any_moment
-returns-clause-any_moment g c = λ told before all.
-    let d = g.D.Disk in
-    let disk = c.args.disk in
-    let layout = c.args.layout in
-    let me = c.args.me in
-    let shows = all (d.seen disk) (g.met.D.Disk.seen_is_left disk) in
-    all_shown d.moment d.left_since layout me before (reopened before) (d.may_leave disk) disk c.in-Ok.store.disk all
-    (returns-clause-moments g c told before shows)
-
-pub returns-in-Err-clause-run_err : goal.returns-in-Err-clause-run_err
-returns-in-Err-clause-run_err g c = λ told frames closed opens.
-    let d = g.D.Disk in
-    let disk = c.args.disk in
-    let layout = c.args.layout in
-    let me = c.args.me in
-    let same : shape_of me.0 c.block.result c.records.result ≡ shape_at layout me = λ i. shape_of me.0 (c.block.ensures i)
-    (c.records.ensures.value i) in
-    let last = c.in-Err.refused.1 in
-    let run = subst (λ (s : Shape). RunsAsOpening d.tells d.seen d.moment d.plan d.unlisted s disk last ⊥ (c.in-Err.refused.0 ≡ StoreFault.Disk)) same
-    c.in-Err.ensures.run_err told frames closed opens in
-    run_as d.tells d.moment d.plan d.unlisted _ disk last _ _ _ _
-    (λ is. opens_some (shape_at layout me) frames closed (d.seen disk) opens
-    (subst (λ (s : Shape). IsNoStore s (d.seen disk)) same (c.in-Err.ensures.not_a_store is told)))
-    (λ is. is) (λ a b. run.waits (λ h. h) b) run
-
-pub returns-then-not-is_first_view-clause-run_err : goal.returns-then-not-is_first_view-clause-run_err
-returns-then-not-is_first_view-clause-run_err g c = λ told frames closed opens.
-    let d = g.D.Disk in
-    let disk = c.args.disk in
-    let layout = c.args.layout in
-    let me = c.args.me in
-    let same : shape_of me.0 c.block.result c.records.result ≡ shape_at layout me = λ i. shape_of me.0 (c.block.ensures i)
-    (c.records.ensures.value i) in
-    let last = c.into_disk.result in
-    let opened = subst
-    (λ (end : g.row.D.Denot). RunsAsOpening d.tells d.seen d.moment d.plan d.unlisted (shape_of me.0 c.block.result c.records.result) disk end (Unit {0}) ⊥)
-    (sym c.into_disk.ensures.disk) c.in-Ok.ensures.run in
-    run_whole d.tells d.moment d.plan d.unlisted _ disk last (Unit {0}) ⊥ _ _ tt refl (λ h. absurd cc)
-    (subst (λ (s : Shape). RunsAsOpening d.tells d.seen d.moment d.plan d.unlisted s disk last (Unit {0}) ⊥) same opened told frames closed opens)
-
-pub returns-clause-run : goal.returns-clause-run
-returns-clause-run g c =
-    let d = g.D.Disk in
-    let layout = c.args.layout in
-    let me = c.args.me in
-    let same : shape_of me.0 c.block.result c.records.result ≡ shape_at layout me = λ i. shape_of me.0 (c.block.ensures i)
-    (c.records.ensures.value i) in
-    subst (λ (s : Shape). RunsAsOpening d.tells d.seen d.moment d.plan d.unlisted s c.args.disk c.in-Ok.store.disk (Unit {0}) ⊥) same c.in-Ok.ensures.run
-
-pub returns-in-Err-clause-not_worn : goal.returns-in-Err-clause-not_worn
-returns-in-Err-clause-not_worn g c = λ is told free before shows.
-    let d = g.D.Disk in
-    let layout = c.args.layout in
-    let me = c.args.me in
-    let same : shape_of me.0 c.block.result c.records.result ≡ shape_at layout me = λ i. shape_of me.0 (c.block.ensures i)
-    (c.records.ensures.value i) in
-    let few = subst (λ (s : Shape). (st : StateOf Version) → StandsFor s st (d.seen c.args.disk) → st.boot < 4294967295) same
-    (c.in-Err.ensures.not_worn is told free) shows.st shows.stands in
-    omega (arith, few, shows.parts.boot)
-
-pub returns-in-Err-clause-cut : goal.returns-in-Err-clause-cut
-returns-in-Err-clause-cut g c = λ is told free frames closed opens before shows.
-    let d = g.D.Disk in
-    let disk = c.args.disk in
-    let layout = c.args.layout in
-    let me = c.args.me in
-    let same : shape_of me.0 c.block.result c.records.result ≡ shape_at layout me = λ i. shape_of me.0 (c.block.ensures i)
-    (c.records.ensures.value i) in
-    let last = c.in-Err.refused.1 in
-    let stops = subst (λ (s : Shape). (fs : List Frame) (gate : Bool) → OpensAs s fs gate (d.seen disk) → (st : StateOf Version)
-    → StandsFor s st (d.seen disk) → StopsOpening d.seen d.certain d.moment (opening_calls (opens_appendable s fs gate)) disk last
-    (StandsFor s st) (StandsFor s (booted (st.boot + 1) st))) same (c.in-Err.ensures.cut is told free) in
-    cut_shows layout me before (d.seen disk) shows d.seen d.certain d.moment _ disk last (stops frames closed opens shows.st shows.stands)
+    let calls = c.new-calls.result in
+    let found : d.tells → IsCounted (shape_at layout me) (d.seen disk) store.state = λ told.
+    subst (λ (s : Shape). IsCounted s (d.seen disk) store.state) same (c.in-Ok.ensures.found told) in
+    let state : d.tells → (before : Node) → ImageShows layout me before (d.seen disk) → state_of (running layout calls store) ≡ restarted 1 before =
+    λ told before shows.
+    restarts_so layout me calls store c.boot.result before (d.seen disk) (c.new-calls.ensures.boot ∙ c.boot.ensures) c.boot.ensures
+    c.new-calls.ensures.state shows (found told) in
+    let stands : d.tells → Stands d (ImageShows layout me (state_of (running layout calls store))) store.disk = λ told.
+    subst (λ (brick : BrickId). Stands d (ImageShows layout brick (state_of (running layout calls store))) store.disk) c.new-calls.ensures.me
+    (shown_so d layout calls store store.disk (invariant_of-result g c) (c.in-Ok.ensures.stands told)) in
+    let opens = opens_so d layout me disk store.disk Whole (subst (λ (s : Shape). Opens d s disk store.disk Whole) same c.in-Ok.ensures.opens) in
+    search (rules, found, state, stands, opens)
