@@ -14,6 +14,7 @@ use Rattle.fab_host.proofs.Known.{at_name-other, at_port-other}
 use Rattle.fab_io.specs.Ends.{Rose}
 use Rattle.hosting.specs.declared.faults.HostFault.{HostFault}
 use Rattle.hosting.specs.declared.faults.HostFault.TheVariants as faults
+use Rattle.hosting.specs.Hosted.{Hosted}
 use Rattle.serving.specs.Ports.{ports_of, port_of}
 use Rattle.brick.specs.declared.words.Work.{Work}
 use Rattle.brick.specs.declared.words.Work.TheVariants.{Local}
@@ -21,8 +22,9 @@ use Rattle.brick.specs.Bricks.{MayRun}
 use Rattle.brick.specs.Endings.{status_of, IsDone}
 use Rattle.brick.specs.Hosts.{HostSeen, Told, Has, ReturnsSource}
 use Rattle.brick.specs.Layouts.{Says, ReadsSource}
-use Rattle.brick.specs.Locals.{standard_input, disk_name, ending_by, RoseBy, HasCommands, HasClient, HasEnds, HasBrick, HasBricks, HasRest}
+use Rattle.brick.specs.Locals.{standard_input, disk_name, ending_by, AreRunning, RoseIn, RoseBy, HasCommands, HasClient, HasEnds, HasBrick, HasBricks, HasRest}
 use Rattle.brick.specs.Serves.{MayStart}
+use Rattle.brick.specs.Views.{Views}
 use Rattle.brick.proofs.Completing.{here_same, here_missing, layout_same}
 use Rattle.brick.proofs.Lending.{has_after}
 
@@ -39,15 +41,16 @@ six_is_sink faults.Sink e = refl
 six_is_sink faults.NoMemory e = absurd (omega arith)
 
 -- what failed is counted
-pub rose_by : (fault : HostFault) (link link_after source source_after : ℕ) → (fault ≡ faults.ClientLink → Rose link link_after)
-    → (fault ≡ faults.Source → Rose source source_after) → RoseBy fault link link_after source source_after
-rose_by faults.Disk a b c d at_link at_source = tt
-rose_by faults.Link a b c d at_link at_source = tt
-rose_by faults.ClientLink a b c d at_link at_source = at_link refl
-rose_by faults.Clock a b c d at_link at_source = tt
-rose_by faults.Source a b c d at_link at_source = at_source refl
-rose_by faults.Sink a b c d at_link at_source = tt
-rose_by faults.NoMemory a b c d at_link at_source = tt
+pub rose_by : {D L C : Type 0} (v : Views D L C) (fault : HostFault) (bricks after : List (Hosted D L)) (link link_after source source_after : ℕ)
+    → (fault ≡ faults.Disk → AreRunning bricks → RoseIn v bricks after) → (fault ≡ faults.ClientLink → Rose link link_after)
+    → (fault ≡ faults.Source → Rose source source_after) → RoseBy v fault bricks after link link_after source source_after
+rose_by v faults.Disk bricks after a b c d at_disk at_link at_source = at_disk refl
+rose_by v faults.Link bricks after a b c d at_disk at_link at_source = tt
+rose_by v faults.ClientLink bricks after a b c d at_disk at_link at_source = at_link refl
+rose_by v faults.Clock bricks after a b c d at_disk at_link at_source = tt
+rose_by v faults.Source bricks after a b c d at_disk at_link at_source = at_source refl
+rose_by v faults.Sink bricks after a b c d at_disk at_link at_source = tt
+rose_by v faults.NoMemory bricks after a b c d at_disk at_link at_source = tt
 
 -- where there is no other, no memory was left
 fault_done : (fault : HostFault) → fault ≡ faults.NoMemory → IsDone (ending_by fault)

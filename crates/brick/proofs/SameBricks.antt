@@ -1,19 +1,21 @@
 -- The bricks that a process hosts stay the same bricks, in order, whatever turns they take, and none is halted unless its disk failed.
-use Rattle.std.proofs.Common.{◌≡◌, ℕ, ◌<◌, arith, false, List, [], ◌∷◌, ◌++◌, length, Option, Err, inl, inr, refl, sym, ap, ◌∙◌, subst}
+use Rattle.std.proofs.Common.{◌≡◌, ◌≤◌, ℕ, ◌<◌, arith, true, false, List, [], ◌∷◌, ◌++◌, length, Option, Err, inl, inr, refl, sym, ap, ◌∙◌, subst}
 use Rattle.std.specs.List.{AllByRecursion}
 use Rattle.node.specs.Running.{IsSameBrick}
+use Rattle.fab_base.specs.Faults.{Rose}
 use Rattle.fab_base.specs.Layouts.{Layout}
+use Rattle.fab_base.proofs.Keeping.{Rose-later}
 use Rattle.serving.specs.declared.faults.ServeFault.{ServeFault}
 use Rattle.serving.specs.declared.faults.ServeFault.TheVariants as serving
 use Rattle.hosting.specs.declared.faults.HostFault.{HostFault}
 use Rattle.hosting.specs.declared.faults.HostFault.TheVariants as faults
-use Rattle.hosting.specs.Faults.{fault_of}
+use Rattle.hosting.specs.Faults.{AtSource, IsOther, fault_of}
 use Rattle.hosting.specs.declared.hosted_bricks.TimedBricks.{TimedBricks}
 use Rattle.hosting.specs.Hosted.{Hosted, IsTurn, TakeTurns, StopTurns}
 use Rattle.hosting.specs.Hosting.{Hosts, HostsUntil, rounds_of}
 use Rattle.hosting.specs.Rounds as client
 use Rattle.hosting.specs.Rounds.{Heard, Took, AreStopped}
-use Rattle.brick.specs.Locals.{AreSame, AreRunning, Takes, Stops}
+use Rattle.brick.specs.Locals.{AreSame, AreRunning, RoseIn, Takes, Stops}
 use Rattle.brick.specs.Views.{Views}
 
 pub same_refl : {D L : Type 0} (bricks : List (Hosted D L)) → AreSame bricks bricks
@@ -115,8 +117,12 @@ module _ {D L C : Type 0} (v : Views D L C) where
         → AreSame before.bricks.bricks after.bricks.bricks
     same_until fault h =
         same_then before.bricks.bricks h.bricks_then.bricks.bricks after.bricks.bricks (same_took (rounds_of h.played) before h.bricks_then h.took)
-        (same_then h.bricks_then.bricks.bricks h.stopped.mid.bricks.bricks after.bricks.bricks
-        (same_took h.stopped.rounds h.bricks_then h.stopped.mid h.stopped.took) (same_end h.stopped.mid after fault h.stopped.stopped))
+        (elim h.stopped [
+          | inl reading ↦ same_equal h.bricks_then.bricks.bricks after.bricks.bricks (ap (λ (b : TimedBricks D L C). b.bricks.bricks) reading.bricks_are)
+          | inr stop ↦
+              same_then h.bricks_then.bricks.bricks stop.1.mid.bricks.bricks after.bricks.bricks
+              (same_took stop.1.rounds h.bricks_then stop.1.mid stop.1.took) (same_end stop.1.mid after fault stop.1.stopped)
+        ])
 
 -- ---- none is halted
 
@@ -168,5 +174,89 @@ module _ {D L C : Type 0} (v : Views D L C) where
     pub run_until : (fault : HostFault) → (fault ≡ faults.Disk → ⊥)
         → HostsUntil (Takes v) (Stops v) layout turns source source_after link link_after before after out said fault → AreRunning after.bricks.bricks
     run_until fault not h =
-        run_end h.stopped.mid after fault not (run_took h.stopped.rounds h.bricks_then h.stopped.mid (run_took (rounds_of h.played) before h.bricks_then run h.took)
-        h.stopped.took) h.stopped.stopped
+        let then = run_took (rounds_of h.played) before h.bricks_then run h.took in
+        elim h.stopped [
+          | inl reading ↦ subst (λ (b : TimedBricks D L C). AreRunning b.bricks.bricks) (sym reading.bricks_are) then
+          | inr stop ↦ run_end stop.1.mid after fault not (run_took stop.1.rounds h.bricks_then stop.1.mid then stop.1.took) stop.1.stopped
+        ]
+
+-- ---- which disk failed
+
+module _ {D L C : Type 0} (v : Views D L C) where
+  -- no count of the disk of a brick fell
+  abbrev AreLater : List (Hosted D L) → List (Hosted D L) → Type 0
+  AreLater [] [] = Unit {0}
+  AreLater (x ∷ bricks) (y ∷ after) = (v.disk.faults x.node.brick.disk ≤ v.disk.faults y.node.brick.disk) × AreLater bricks after
+  AreLater bricks after = ⊥
+
+  later_refl : (bricks : List (Hosted D L)) → AreLater bricks bricks
+  later_refl [] = tt
+  later_refl (x ∷ bricks) = (omega arith, later_refl bricks)
+
+  later_taken : (bricks after : List (Hosted D L)) (clock clock_after : C) → TakeTurns v.disk v.link v.clock bricks after clock clock_after
+      → AreLater bricks after
+  later_taken [] [] clock clock_after t = tt
+  later_taken [] (y ∷ after) clock clock_after t = absurd t
+  later_taken (x ∷ bricks) [] clock clock_after t = absurd t
+  later_taken (x ∷ bricks) (y ∷ after) clock clock_after t = (t.2.disk.later, later_taken bricks after t.0 clock_after t.3)
+
+  later_then : (a b c : List (Hosted D L)) → AreLater a b → AreLater b c → AreLater a c
+  later_then [] [] [] p q = tt
+  later_then [] [] (z ∷ c) p q = absurd q
+  later_then [] (y ∷ b) c p q = absurd p
+  later_then (x ∷ a) [] c p q = absurd p
+  later_then (x ∷ a) (y ∷ b) [] p q = absurd q
+  later_then (x ∷ a) (y ∷ b) (z ∷ c) p q = (omega (arith, p.0, q.0), later_then a b c p.1 q.1)
+
+  later_took : (rounds : List Heard) (before after : TimedBricks D L C) → Took (Takes v) rounds before after
+      → AreLater before.bricks.bricks after.bricks.bricks
+  later_took [] before after t = subst (λ (b : TimedBricks D L C). AreLater before.bricks.bricks b.bricks.bricks) (sym t) (later_refl before.bricks.bricks)
+  later_took (round ∷ rounds) before after t =
+      later_then before.bricks.bricks t.0.bricks.bricks after.bricks.bricks
+      (later_taken before.bricks.bricks t.0.bricks.bricks before.clock t.0.clock t.1) (later_took rounds t.0 after t.2)
+
+  -- a count that rose has risen since before
+  rose_since : (a b c : List (Hosted D L)) → AreLater a b → RoseIn v b c → RoseIn v a c
+  rose_since [] [] c p q = q
+  rose_since [] (y ∷ b) c p q = absurd p
+  rose_since (x ∷ a) [] c p q = absurd p
+  rose_since (x ∷ a) (y ∷ b) [] p q = absurd q
+  rose_since (x ∷ a) (y ∷ b) (z ∷ c) p (inl rose) = inl (Rose-later p.0 rose)
+  rose_since (x ∷ a) (y ∷ b) (z ∷ c) p (inr rose) = inr (rose_since a b c p.1 rose)
+
+  -- a turn that a disk ended, of a brick that was not halted
+  rose_turn : (before after : Hosted D L) (clock clock_after : C) (met : ServeFault) → fault_of met ≡ faults.Disk → before.node.brick.halted ≡ false
+      → IsTurn v.disk v.link v.clock before after clock clock_after (Err met) → Rose (v.disk.faults before.node.brick.disk) (v.disk.faults after.node.brick.disk)
+  rose_turn before after clock clock_after serving.Disk is run t = t.disk.rose refl
+  rose_turn before after clock clock_after serving.Link is run t = absurd cc
+  rose_turn before after clock clock_after serving.Clock is run t = absurd cc
+  rose_turn before after clock clock_after serving.NoMemory is run t = absurd cc
+  rose_turn before after clock clock_after serving.Halted is run t = absurd (let never : false ≡ true = sym run ∙ t.0 in cc)
+
+  rose_stopped : (met : ServeFault) (bricks after : List (Hosted D L)) (clock clock_after : C) → fault_of met ≡ faults.Disk → AreRunning bricks
+      → StopTurns v.disk v.link v.clock met bricks after clock clock_after → RoseIn v bricks after
+  rose_stopped met [] [] clock clock_after is run t = absurd t
+  rose_stopped met [] (y ∷ after) clock clock_after is run t = absurd t
+  rose_stopped met (x ∷ bricks) [] clock clock_after is run t = absurd t
+  rose_stopped met (x ∷ bricks) (y ∷ after) clock clock_after is run (inl t) = inl (rose_turn x y clock clock_after met is run.0 t.0)
+  rose_stopped met (x ∷ bricks) (y ∷ after) clock clock_after is run (inr t) = inr (rose_stopped met bricks after t.0 clock_after is run.1 t.3)
+
+  rose_end : (before after : TimedBricks D L C) (fault : HostFault) → fault ≡ faults.Disk → AreRunning before.bricks.bricks
+      → AreStopped (Takes v) (Stops v) before after fault → RoseIn v before.bricks.bricks after.bricks.bricks
+  rose_end before after fault is run (inl t) =
+      rose_stopped t.0 before.bricks.bricks after.bricks.bricks before.clock after.clock (sym t.1 ∙ is) run t.2
+  rose_end before after fault is run (inr (other, rest)) = absurd (subst IsOther is other)
+
+  -- a run that a disk ended is one in which the count of that disk rose
+  pub rose_until : (layout : Layout) (turns : ℕ) (source source_after out said : Option (List ℕ)) (link link_after : client.Told) (before after : TimedBricks D L C)
+      (fault : HostFault) → fault ≡ faults.Disk → AreRunning before.bricks.bricks
+      → HostsUntil (Takes v) (Stops v) layout turns source source_after link link_after before after out said fault → RoseIn v before.bricks.bricks after.bricks.bricks
+  rose_until layout turns source source_after out said link link_after before after fault is run h =
+      elim h.stopped [
+        | inl reading ↦ absurd (subst AtSource is reading.at)
+        | inr stop ↦
+            let then = run_took v (rounds_of h.played) before h.bricks_then run h.took in
+            rose_since before.bricks.bricks h.bricks_then.bricks.bricks after.bricks.bricks (later_took (rounds_of h.played) before h.bricks_then h.took)
+            (rose_since h.bricks_then.bricks.bricks stop.1.mid.bricks.bricks after.bricks.bricks (later_took stop.1.rounds h.bricks_then stop.1.mid stop.1.took)
+            (rose_end stop.1.mid after fault is (run_took v stop.1.rounds h.bricks_then stop.1.mid then stop.1.took) stop.1.stopped))
+      ]

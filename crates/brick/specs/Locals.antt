@@ -53,11 +53,24 @@ ending_by faults.Source = Source
 ending_by faults.Sink = Sink
 ending_by faults.NoMemory = Memory
 
--- the count of faults of the client's link or of the source rose, where that failed; the turns of the bricks tell it of theirs
-abbrev pub RoseBy : HostFault → ℕ → ℕ → ℕ → ℕ → Type 0
-RoseBy faults.ClientLink link link_after source source_after = Rose link link_after
-RoseBy faults.Source link link_after source source_after = Rose source source_after
-RoseBy other link link_after source source_after = ⊤
+-- no brick is halted
+abbrev pub AreRunning : {D L : Type 0} → List (Hosted D L) → Type 0
+AreRunning bricks = AllByRecursion (λ brick. brick.node.brick.halted ≡ false) bricks
+
+-- the count of faults of the disk of one of these bricks rose
+abbrev pub RoseIn : {D L C : Type 0} → Views D L C → List (Hosted D L) → List (Hosted D L) → Type 0
+RoseIn v [] [] = ⊥
+RoseIn v (brick ∷ more) (after ∷ more_after) =
+    Rose (v.disk.faults brick.node.brick.disk) (v.disk.faults after.node.brick.disk) ⊎ RoseIn v more more_after
+RoseIn v bricks bricks_after = ⊥
+
+-- What failed is counted: the disk of a brick, if none was halted before, the client's link, or the source. The turns of the bricks tell it of their links
+-- and the clock.
+abbrev pub RoseBy : {D L C : Type 0} → Views D L C → HostFault → List (Hosted D L) → List (Hosted D L) → ℕ → ℕ → ℕ → ℕ → Type 0
+RoseBy v faults.Disk bricks bricks_after link link_after source source_after = AreRunning bricks → RoseIn v bricks bricks_after
+RoseBy v faults.ClientLink bricks bricks_after link link_after source source_after = Rose link link_after
+RoseBy v faults.Source bricks bricks_after link link_after source source_after = Rose source source_after
+RoseBy v other bricks bricks_after link link_after source source_after = ⊤
 
 -- The commands of a source were run over the bricks, until the turns were used up or the source was at its end; or until a fault.
 abbrev pub RunsCommands : {S D L C : Type 0} → (S → Option (List ℕ)) → (S → ℕ) → Views D L C → Layout → ℕ → TimedBricks D L C → TimedBricks D L C
@@ -67,7 +80,7 @@ RunsCommands told failed v layout turns bricks bricks_after link link_after sour
     (client.told (v.link.waiting link_after) (v.link.sent link_after)) bricks bricks_after out said)
     ⊎ ((fault : HostFault) × (ending ≡ ending_by fault) × HostsUntil (Takes v) (Stops v) layout turns (told source) (told source_after)
     (client.told (v.link.waiting link) (v.link.sent link)) (client.told (v.link.waiting link_after) (v.link.sent link_after)) bricks bricks_after out said fault
-    × RoseBy fault (v.link.faults link) (v.link.faults link_after) (failed source) (failed source_after))
+    × RoseBy v fault bricks.bricks.bricks bricks_after.bricks.bricks (v.link.faults link) (v.link.faults link_after) (failed source) (failed source_after))
 
 -- ---- the source, the client's link and the clock
 
@@ -103,10 +116,6 @@ abbrev pub AreSame : {D L : Type 0} → List (Hosted D L) → List (Hosted D L) 
 AreSame [] [] = Unit {0}
 AreSame (brick ∷ more) (after ∷ more_after) = IsSameBrick brick.node after.node × AreSame more more_after
 AreSame bricks bricks_after = ⊥
-
--- no brick is halted
-abbrev pub AreRunning : {D L : Type 0} → List (Hosted D L) → Type 0
-AreRunning bricks = AllByRecursion (λ brick. brick.node.brick.halted ≡ false) bricks
 
 -- what is done with the bricks that were started so far, and with the host
 abbrev pub Deed : Type 0 → Type 0 → Type 0 → Type 0 → Type 1

@@ -91,10 +91,12 @@ ServesByLink {S} {D} {L} {C} v turns port before after node node_after out said 
     (λ began ended. ServesByClock v turns began ended node node_after link back out said ending))
 
 -- The brick that a disk's store is: there was one that was not opened as often as it can be, and the brick is what the disk showed, started
--- once more, and what the disk shows now.
+-- once more, and what the disk shows now. It is not halted: only a turn in which the disk's
+-- count of faults rises halts it.
 pub record IsStarted {D L C : Type 0} (v : Views D L C) (layout : Layout) (me : BrickId) (disk : D) (node : Running D) : Type 0 where
   pub layout_is : node.layout ≡ layout
   pub me_is : node.me ≡ me
+  pub runs : node.brick.halted ≡ false
   pub found : v.disk.tells → (st : StateOf Version) × IsFound (shape_at layout me) st (v.disk.seen disk) × (st.boot < 2 ^ 32 - 1)
   pub state : v.disk.tells → (before : machine.Node) → ImageShows layout me before (v.disk.seen disk) → state_of node ≡ restarted 1 before
   pub shows : v.disk.tells → ImageShows layout me (state_of node) (v.disk.seen node.brick.disk)

@@ -46,101 +46,101 @@ pub(crate) fn run_by_clock<H: Host, K: Sink>(
         Ok(clock) => clock,
         Err(fault) => return (bricks, Ending::refusal(fault)),
     };
-    let mut timed = TimedBricks { bricks, clock };
-    let ending = run_by_client(alloc, host, out, layout, turns, &mut timed);
+    let timed = TimedBricks { bricks, clock };
+    let (timed, ending) = run_by_client(alloc, host, out, layout, turns, timed);
     let TimedBricks { bricks, clock } = timed;
     host.keep_clock(clock);
     (bricks, ending)
 }
 
-/// Runs commands over the bricks for a client with a link of its own, and gives the link back.
+/// Runs commands over the bricks for a client with a link of its own, gives the link back, and hands the bricks back.
 fn run_by_client<H: Host, K: Sink>(
     alloc: Global,
     host: &mut H,
     out: &mut K,
     layout: &Layout,
     turns: u64,
-    bricks: &mut TimedBricks<H::Disk, H::Link, H::Clock>,
-) -> Ending
+    bricks: TimedBricks<H::Disk, H::Link, H::Clock>,
+) -> (TimedBricks<H::Disk, H::Link, H::Clock>, Ending)
     ensures hosts { HostsByClient H.Source.told H.Source.faults (views H.Disk.Disk H.Link.Link H.Clock.Clock) layout.now turns
         (host_seen (H.faults host.old) (H.asked host.old) (H.holds host.old)) (host_seen (H.faults host.new) (H.asked host.new) (H.holds host.new))
-        bricks.old bricks.new (K.told out.old) (K.told out.new) result }
-    ensures same { AreSame bricks.old.bricks.bricks bricks.new.bricks.bricks }
-    ensures runs_still { AreRunning bricks.old.bricks.bricks → result ≢ Ending.Disk → AreRunning bricks.new.bricks.bricks }
+        bricks result.0 (K.told out.old) (K.told out.new) result.1 }
+    ensures same { AreSame bricks.bricks.bricks result.0.bricks.bricks }
+    ensures runs_still { AreRunning bricks.bricks.bricks → result.1 ≢ Ending.Disk → AreRunning result.0.bricks.bricks }
     ensures knows { Told (H.holds host.old) (H.holds host.new) KnowsStill }
-    ensures stays { H.sound host.old → AreSound H.Disk.Disk H.Link.Link H.Clock.Clock bricks.old.bricks.bricks bricks.old.clock
-        → H.sound host.new × AreSound H.Disk.Disk H.Link.Link H.Clock.Clock bricks.new.bricks.bricks bricks.new.clock }
-    ensures sink { Kept (K.faults out.old) (K.faults out.new) (K.sound out.old) (K.sound out.new) (status_of result ≡ 6) }
-    ensures done { H.sound host.old → AreSound H.Disk.Disk H.Link.Link H.Clock.Clock bricks.old.bricks.bricks bricks.old.clock → K.sound out.old
-        → Has (H.holds host.old) HasClient → IsDone result }
+    ensures stays { H.sound host.old → AreSound H.Disk.Disk H.Link.Link H.Clock.Clock bricks.bricks.bricks bricks.clock
+        → H.sound host.new × AreSound H.Disk.Disk H.Link.Link H.Clock.Clock result.0.bricks.bricks result.0.clock }
+    ensures sink { Kept (K.faults out.old) (K.faults out.new) (K.sound out.old) (K.sound out.new) (status_of result.1 ≡ 6) }
+    ensures done { H.sound host.old → AreSound H.Disk.Disk H.Link.Link H.Clock.Clock bricks.bricks.bricks bricks.clock → K.sound out.old
+        → Has (H.holds host.old) HasClient → IsDone result.1 }
 {
-    let mut link = match host.link(0) {
+    let link = match host.link(0) {
         Ok(link) => link,
-        Err(fault) => return Ending::refusal(fault),
+        Err(fault) => return (bricks, Ending::refusal(fault)),
     };
-    let ending = run_by_source(alloc, host, out, layout, turns, bricks, &mut link);
+    let (bricks, link, ending) = run_by_source(alloc, host, out, layout, turns, bricks, link);
     host.keep_link(0, link);
-    ending
+    (bricks, ending)
 }
 
-/// Runs the commands of standard input over the bricks, and gives that back.
+/// Runs the commands of standard input over the bricks, gives that back, and hands the bricks and the link back.
 fn run_by_source<H: Host, K: Sink>(
     alloc: Global,
     host: &mut H,
     out: &mut K,
     layout: &Layout,
     turns: u64,
-    bricks: &mut TimedBricks<H::Disk, H::Link, H::Clock>,
-    link: &mut H::Link,
-) -> Ending
+    bricks: TimedBricks<H::Disk, H::Link, H::Clock>,
+    link: H::Link,
+) -> (TimedBricks<H::Disk, H::Link, H::Clock>, H::Link, Ending)
     ensures hosts { HostsBySource H.Source.told H.Source.faults (views H.Disk.Disk H.Link.Link H.Clock.Clock) layout.now turns
         (host_seen (H.faults host.old) (H.asked host.old) (H.holds host.old)) (host_seen (H.faults host.new) (H.asked host.new) (H.holds host.new))
-        bricks.old bricks.new link.old link.new (K.told out.old) (K.told out.new) result }
-    ensures same { AreSame bricks.old.bricks.bricks bricks.new.bricks.bricks }
-    ensures runs_still { AreRunning bricks.old.bricks.bricks → result ≢ Ending.Disk → AreRunning bricks.new.bricks.bricks }
+        bricks result.0 link result.1 (K.told out.old) (K.told out.new) result.2 }
+    ensures same { AreSame bricks.bricks.bricks result.0.bricks.bricks }
+    ensures runs_still { AreRunning bricks.bricks.bricks → result.2 ≢ Ending.Disk → AreRunning result.0.bricks.bricks }
     ensures knows { Told (H.holds host.old) (H.holds host.new) KnowsStill }
     ensures stays { H.sound host.old → H.sound host.new }
-    ensures bricks { AreSound H.Disk.Disk H.Link.Link H.Clock.Clock bricks.old.bricks.bricks bricks.old.clock
-        → AreSound H.Disk.Disk H.Link.Link H.Clock.Clock bricks.new.bricks.bricks bricks.new.clock }
-    ensures link { H.Link.sound link.old → H.Link.sound link.new }
-    ensures sink { Kept (K.faults out.old) (K.faults out.new) (K.sound out.old) (K.sound out.new) (status_of result ≡ 6) }
-    ensures done { H.sound host.old → AreSound H.Disk.Disk H.Link.Link H.Clock.Clock bricks.old.bricks.bricks bricks.old.clock → H.Link.sound link.old
-        → K.sound out.old → Has (H.holds host.old) HasCommands → IsDone result }
+    ensures bricks { AreSound H.Disk.Disk H.Link.Link H.Clock.Clock bricks.bricks.bricks bricks.clock
+        → AreSound H.Disk.Disk H.Link.Link H.Clock.Clock result.0.bricks.bricks result.0.clock }
+    ensures link { H.Link.sound link → H.Link.sound result.1 }
+    ensures sink { Kept (K.faults out.old) (K.faults out.new) (K.sound out.old) (K.sound out.new) (status_of result.2 ≡ 6) }
+    ensures done { H.sound host.old → AreSound H.Disk.Disk H.Link.Link H.Clock.Clock bricks.bricks.bricks bricks.clock → H.Link.sound link
+        → K.sound out.old → Has (H.holds host.old) HasCommands → IsDone result.2 }
 {
     let mut source = match host.source(STANDARD_INPUT) {
         Ok(source) => source,
-        Err(fault) => return Ending::refusal(fault),
+        Err(fault) => return (bricks, link, Ending::refusal(fault)),
     };
-    let ending = run(alloc, out, layout, turns, bricks, link, &mut source);
+    let (bricks, link, ending) = run(alloc, out, layout, turns, bricks, link, &mut source);
     host.keep_source(STANDARD_INPUT, source);
-    ending
+    (bricks, link, ending)
 }
 
-/// Runs the commands of a source over the bricks.
+/// Runs the commands of a source over the bricks, and hands the bricks and the link back.
 fn run<D: Disk, L: Link, C: Clock, S: Source, K: Sink>(
     alloc: Global,
     out: &mut K,
     layout: &Layout,
     turns: u64,
-    bricks: &mut TimedBricks<D, L, C>,
-    link: &mut L,
+    bricks: TimedBricks<D, L, C>,
+    link: L,
     source: &mut S,
-) -> Ending
-    ensures runs { RunsCommands S.told S.faults (views D.Disk L.Link C.Clock) layout.now turns bricks.old bricks.new link.old link.new
-        source.old source.new (K.told out.old) (K.told out.new) result }
-    ensures same { AreSame bricks.old.bricks.bricks bricks.new.bricks.bricks }
-    ensures runs_still { AreRunning bricks.old.bricks.bricks → result ≢ Ending.Disk → AreRunning bricks.new.bricks.bricks }
-    ensures bricks { AreSound D.Disk L.Link C.Clock bricks.old.bricks.bricks bricks.old.clock
-        → AreSound D.Disk L.Link C.Clock bricks.new.bricks.bricks bricks.new.clock }
-    ensures link { L.sound link.old → L.sound link.new }
+) -> (TimedBricks<D, L, C>, L, Ending)
+    ensures runs { RunsCommands S.told S.faults (views D.Disk L.Link C.Clock) layout.now turns bricks result.0 link result.1
+        source.old source.new (K.told out.old) (K.told out.new) result.2 }
+    ensures same { AreSame bricks.bricks.bricks result.0.bricks.bricks }
+    ensures runs_still { AreRunning bricks.bricks.bricks → result.2 ≢ Ending.Disk → AreRunning result.0.bricks.bricks }
+    ensures bricks { AreSound D.Disk L.Link C.Clock bricks.bricks.bricks bricks.clock → AreSound D.Disk L.Link C.Clock result.0.bricks.bricks result.0.clock }
+    ensures link { L.sound link → L.sound result.1 }
     ensures source { S.sound source.old → S.sound source.new }
-    ensures sink { Kept (K.faults out.old) (K.faults out.new) (K.sound out.old) (K.sound out.new) (status_of result ≡ 6) }
-    ensures done { AreSound D.Disk L.Link C.Clock bricks.old.bricks.bricks bricks.old.clock → L.sound link.old → S.sound source.old → K.sound out.old
-        → IsDone result }
+    ensures sink { Kept (K.faults out.old) (K.faults out.new) (K.sound out.old) (K.sound out.new) (status_of result.2 ≡ 6) }
+    ensures done { AreSound D.Disk L.Link C.Clock bricks.bricks.bricks bricks.clock → L.sound link → S.sound source.old → K.sound out.old
+        → IsDone result.2 }
 {
-    match hosting::host(alloc, layout, bricks, link, source, out, turns) {
-        Ok(()) => Ending::Commanded,
-        Err(fault) => ending_by(fault),
+    let (bricks, link, ended) = hosting::host(alloc, layout, bricks, link, source, out, turns);
+    match ended {
+        Ok(()) => (bricks, link, Ending::Commanded),
+        Err(fault) => (bricks, link, ending_by(fault)),
     }
 }
 

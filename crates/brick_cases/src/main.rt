@@ -92,7 +92,7 @@ impl Place {
     /// Runs a command over the system, with this file for its standard input.
     fn run(
         &self,
-        rt: &(impl Files<File = File> + Net + time::Clock + AllocGlobal),
+        rt: &(impl Files<File = File> + Net + time::Clock + Eprint + AllocGlobal),
         command: &str,
         input: &str,
     ) -> io::Result<Ending> {

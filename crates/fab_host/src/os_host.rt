@@ -19,9 +19,10 @@ use std::{io, time};
 /// it was made over, once.
 ///
 /// A disk is a file that is locked while it is open, so that one that is open elsewhere is a fault. A fresh one is made
-/// exclusively, and its folder is synced. Each error of the system is a fault. A host tells the calls asked of it and nothing
-/// else, and is never sound; what it is given back it closes.
-pub struct OsHost<'r, R: Files<File = File> + Net + time::Clock, I: Source + Drop> {
+/// exclusively, and its folder is synced. Each error of the system is a fault; of one at which nothing was opened or made, a line on standard
+/// error says the thing and the system's word for why. A host tells the calls asked of it and nothing else, and is never sound; what it is given
+/// back it closes.
+pub struct OsHost<'r, R: Files<File = File> + Net + time::Clock + Eprint, I: Source + Drop> {
     system: &'r R,
     input: Option<I>,
     turns: Rc<Turns>,
@@ -29,7 +30,8 @@ pub struct OsHost<'r, R: Files<File = File> + Net + time::Clock, I: Source + Dro
     faults: u64,
 }
 
-impl<'r, R: Files<File = File> + Net + time::Clock, I: Source + Drop> Drop for OsHost<'r, R, I> {
+impl<'r, R: Files<File = File> + Net + time::Clock + Eprint, I: Source + Drop> Drop
+    for OsHost<'r, R, I> {
     // Written out, it is proved once: a derived one is proved anew, with that of each part, in each crate above that lets one go.
     fn drop(self) {
         let Self {
@@ -42,7 +44,7 @@ impl<'r, R: Files<File = File> + Net + time::Clock, I: Source + Drop> Drop for O
     }
 }
 
-impl<'r, R: Files<File = File> + Net + time::Clock, I: Source + Drop> OsHost<'r, R, I> {
+impl<'r, R: Files<File = File> + Net + time::Clock + Eprint, I: Source + Drop> OsHost<'r, R, I> {
     /// A host over this system, whose standard input is this source.
     ///
     /// # Errors
@@ -62,7 +64,8 @@ impl<'r, R: Files<File = File> + Net + time::Clock, I: Source + Drop> OsHost<'r,
     }
 }
 
-impl<'r, R: Files<File = File> + Net + time::Clock, I: Source + Drop> Host for OsHost<'r, R, I> {
+impl<'r, R: Files<File = File> + Net + time::Clock + Eprint, I: Source + Drop> Host
+    for OsHost<'r, R, I> {
     ghost use Rattle.std.specs.Prelude.{None};
 
     type Source = OsSource<I>;
@@ -87,12 +90,18 @@ impl<'r, R: Files<File = File> + Net + time::Clock, I: Source + Drop> Host for O
         if name == "-" {
             return match self.input.take() {
                 Some(input) => Ok(OsSource::new(Origin::Input(input))),
-                None => Err(raise(&mut self.faults)),
+                None => {
+                    let _ = eprintln!(self.system; "standard input: it was opened before");
+                    Err(raise(&mut self.faults))
+                }
             };
         }
         match FileSource::open(self.system, name) {
             Ok(file) => Ok(OsSource::new(Origin::File(file))),
-            Err(_) => Err(raise(&mut self.faults)),
+            Err(error) => {
+                let _ = eprintln!(self.system; "source {name}: {error}");
+                Err(raise(&mut self.faults))
+            }
         }
     }
 
@@ -102,7 +111,10 @@ impl<'r, R: Files<File = File> + Net + time::Clock, I: Source + Drop> Host for O
         ask(&mut self.asked, Asked::Disk { name: asked, fresh })?;
         match open_disk(self.system, name, fresh) {
             Ok(file) => Ok(FileDisk::new(file)),
-            Err(_) => Err(raise(&mut self.faults)),
+            Err(error) => {
+                let _ = eprintln!(self.system; "disk {name}: {error}");
+                Err(raise(&mut self.faults))
+            }
         }
     }
 
@@ -111,7 +123,10 @@ impl<'r, R: Files<File = File> + Net + time::Clock, I: Source + Drop> Host for O
         ask(&mut self.asked, Asked::Link(port))?;
         match UdpLink::bind(self.system, port) {
             Ok(link) => Ok(OsLink::new(link, turns)),
-            Err(_) => Err(raise(&mut self.faults)),
+            Err(error) => {
+                let _ = eprintln!(self.system; "link {port}: {error}");
+                Err(raise(&mut self.faults))
+            }
         }
     }
 

@@ -3,19 +3,17 @@ use Rattle.std.proofs.Common.{◌≡◌, ℕ, ◌+◌, List, [], ◌∷◌, ◌+
 use Rattle.std.proofs.lemmas.List.{length-append}
 use Rattle.fab_base.specs.declared.answers.Answer.{Answer}
 use Rattle.fab_base.specs.declared.answers.Refusal.{Refusal}
-use Rattle.fab_base.specs.Layouts.{Layout}
 use Rattle.fab_io.specs.declared.links.Datagram.{Datagram}
 use Rattle.fab_io.specs.Datagrams.{Stays, Grows}
 use Rattle.fab_io.proofs.Told.{Grows-none, Grows-trans}
 use Rattle.front.specs.Ranges.{Progress, next_of, after_end}
 use Rattle.front.specs.declared.steps.RangeAnswer.{RangeAnswer}
-use Rattle.hosting.specs.declared.commands.Command.{Command}
 use Rattle.hosting.specs.Asks.{wanted_in, Hears}
 use Rattle.hosting.specs.declared.clients.Standing.TheVariants.{Waits}
 use Rattle.hosting.specs.declared.replies.Wanted.{Wanted}
-use Rattle.hosting.specs.Commanded.{Asking, opened, asking, sent_by, asks_by, after_round, asks_after, Stands}
+use Rattle.hosting.specs.Commanded.{Asking, asking, sent_by, asks_by, after_round, asks_after, Stands}
 use Rattle.serving.specs.Datagrams.{Looked}
-use Rattle.hosting.specs.Rounds.{Heard, IsOpen, AreHeard, after_rounds, asks_in, came_in, Took, Told, HearsOnce, port_of, EndsAs, RunsCommand}
+use Rattle.hosting.specs.Rounds.{Heard, IsOpen, AreHeard, after_rounds, asks_in, came_in, Took, Told, HearsOnce, EndsAs, RunsRange}
 use Rattle.serving.proofs.Looks.{Grows-stays, Looked-none, Looked-stays, Looked-trans}
 
 -- ---- a round
@@ -57,11 +55,6 @@ HearsOnce-none port sent range wanted link after came stands looked unsent hears
   },
 )
 
--- at the port that is the same
-pub HearsOnce-at : (port at : ℕ) (now then : Asking) (link after : Told) (heard : Heard) → HearsOnce port now then link after heard → port ≡ at
-    → HearsOnce at now then link after heard
-HearsOnce-at port at now then link after heard once same = subst (λ k. HearsOnce k now then link after heard) same once
-
 -- ---- one more round
 
 AreHeard-more : (port : ℕ) (before : Asking) (rounds : List Heard) (heard : Heard) → AreHeard port before rounds
@@ -93,81 +86,70 @@ pub Took-more : {A : Type 0} (takes : A → A → Type 0) (rounds : List Heard) 
 Took-more takes [] heard a b c took one = (c, subst (λ x. takes x c) took one, refl)
 Took-more takes (round ∷ rounds) heard a b c took one = (took.0, took.1, Took-more takes rounds heard took.0 b c took.2 one)
 
--- ---- a command in its rounds
+-- ---- a range in its rounds
 
--- where a command stands after some rounds
-pub record IsRunning {A : Type 0} (takes : A → A → Type 0) (layout : Layout) (command : Command) (sent turns turns_now : ℕ) (now : Asking)
+-- where a range stands after some rounds
+pub record IsRunning {A : Type 0} (takes : A → A → Type 0) (port : ℕ) (first : Progress) (sent turns turns_now : ℕ) (now : Asking)
     (link link_now : Told) (bricks bricks_now : A) : Type 0 where
   pub rounds : List Heard
-  pub heard : AreHeard (port_of layout command.brick) (asking sent (opened layout command)) rounds
+  pub heard : AreHeard port (asking sent first) rounds
   pub counted : turns ≡ turns_now + length rounds
   pub looked : Looked link.waiting link_now.waiting (came_in rounds)
-  pub asked : Grows link.sent link_now.sent (asks_by (port_of layout command.brick) sent (next_of (opened layout command))
-      ++ asks_in (port_of layout command.brick) (asking sent (opened layout command)) rounds)
-  pub left : now ≡ after_rounds (asking sent (opened layout command)) rounds
+  pub asked : Grows link.sent link_now.sent (asks_by port sent (next_of first) ++ asks_in port (asking sent first) rounds)
+  pub left : now ≡ after_rounds (asking sent first) rounds
   pub took : Took takes rounds bricks bricks_now
 
 -- the client asks for its first operation
-pub asking_is : (sent sent_after : ℕ) (range after first : Progress) → sent_after ≡ sent_by sent (next_of range) → after ≡ range → range ≡ first
-    → (let now : Asking = record { sent = sent_after; range = after } in now) ≡ asking sent first
-asking_is sent sent_after range after first count same is =
-    let number = count ∙ ap (λ (p : Progress). sent_by sent (next_of p)) is in
-    let left = same ∙ is in
-    (λ i. record { sent = number i; range = left i })
-
-pub asks_are : (a b : Option (List Datagram)) (port sent at : ℕ) (range first : Progress) → Grows a b (asks_by port sent (next_of range)) → port ≡ at → range ≡ first
-    → Grows a b (asks_by at sent (next_of first))
-asks_are a b port sent at range first grows same is =
-    subst (λ k. Grows a b (asks_by k sent (next_of first))) same
-    (subst (λ (p : Progress). Grows a b (asks_by port sent (next_of p))) is grows)
+pub asking_is : (sent sent_after : ℕ) (range after : Progress) → sent_after ≡ sent_by sent (next_of range) → after ≡ range
+    → (let now : Asking = record { sent = sent_after; range = after } in now) ≡ asking sent range
+asking_is sent sent_after range after count same = (λ i. record { sent = count i; range = same i })
 
 -- it begins: its client asks for its first operation
-pub IsRunning-first : {A : Type 0} (takes : A → A → Type 0) (layout : Layout) (command : Command) (sent turns : ℕ) (now : Asking) (link link_now : Told) (bricks : A)
-    → now ≡ asking sent (opened layout command) → Stays link.waiting link_now.waiting
-    → Grows link.sent link_now.sent (asks_by (port_of layout command.brick) sent (next_of (opened layout command)))
-    → IsRunning takes layout command sent turns turns now link link_now bricks bricks
-IsRunning-first takes layout command sent turns now link link_now bricks is stays asked =
+pub IsRunning-first : {A : Type 0} (takes : A → A → Type 0) (port : ℕ) (first : Progress) (sent turns : ℕ) (now : Asking) (link link_now : Told) (bricks : A)
+    → now ≡ asking sent first → Stays link.waiting link_now.waiting
+    → Grows link.sent link_now.sent (asks_by port sent (next_of first))
+    → IsRunning takes port first sent turns turns now link link_now bricks bricks
+IsRunning-first takes port first sent turns now link link_now bricks is stays asked =
     record {
       rounds = [];
       heard = tt;
       counted = omega arith;
       looked = Looked-none link.waiting link_now.waiting stays;
-      asked = subst (Grows link.sent link_now.sent) (sym (append-nil (asks_by (port_of layout command.brick) sent (next_of (opened layout command))))) asked;
+      asked = subst (Grows link.sent link_now.sent) (sym (append-nil (asks_by port sent (next_of first)))) asked;
       left = is;
       took = refl;
     }
 
 -- one more round
-pub IsRunning-more : {A : Type 0} (takes : A → A → Type 0) (layout : Layout) (command : Command) (sent turns turns_now turns_then : ℕ) (now then : Asking)
+pub IsRunning-more : {A : Type 0} (takes : A → A → Type 0) (port : ℕ) (first : Progress) (sent turns turns_now turns_then : ℕ) (now then : Asking)
     (link link_now link_then : Told) (bricks bricks_now bricks_then : A) (heard : Heard)
-    → IsRunning takes layout command sent turns turns_now now link link_now bricks bricks_now → turns_now ≡ turns_then + 1 → takes bricks_now bricks_then
-    → HearsOnce (port_of layout command.brick) now then link_now link_then heard
-    → IsRunning takes layout command sent turns turns_then then link link_then bricks bricks_then
-IsRunning-more takes layout command sent turns turns_now turns_then now then link link_now link_then bricks bricks_now bricks_then heard h fewer one once =
-    let port = port_of layout command.brick in
-    let first = asking sent (opened layout command) in
-    let begun = asks_by port sent (next_of (opened layout command)) in
+    → IsRunning takes port first sent turns turns_now now link link_now bricks bricks_now → turns_now ≡ turns_then + 1 → takes bricks_now bricks_then
+    → HearsOnce port now then link_now link_then heard
+    → IsRunning takes port first sent turns turns_then then link link_then bricks bricks_then
+IsRunning-more takes port first sent turns turns_now turns_then now then link link_now link_then bricks bricks_now bricks_then heard h fewer one once =
+    let from = asking sent first in
+    let begun = asks_by port sent (next_of first) in
     record {
       rounds = h.rounds ++ (heard ∷ []);
-      heard = AreHeard-more port first h.rounds heard h.heard
+      heard = AreHeard-more port from h.rounds heard h.heard
           (subst (λ (a : Asking). IsOpen a.range × Hears port a.sent (wanted_in a.range) heard.came heard.end) h.left (once.waits, once.hears));
       counted = omega (arith, h.counted, fewer, length-append h.rounds (heard ∷ []));
       looked = subst (Looked link.waiting link_then.waiting) (sym (came_in-more h.rounds heard))
           (Looked-trans link.waiting link_now.waiting link_then.waiting (came_in h.rounds) (heard.came ∷ []) h.looked once.looked);
       asked = subst (Grows link.sent link_then.sent)
-          (append_assoc begun (asks_in port first h.rounds) (asks_after port now heard.end)
-          ∙ ap (λ l. begun ++ l) (ap (λ (a : Asking). asks_in port first h.rounds ++ asks_after port a heard.end) h.left ∙ sym (asks_in-more port first h.rounds heard)))
-          (Grows-trans link.sent link_now.sent link_then.sent (begun ++ asks_in port first h.rounds) (asks_after port now heard.end) h.asked once.asked);
-      left = once.left ∙ ap (λ (a : Asking). after_round a heard.end) h.left ∙ sym (after_rounds-more first h.rounds heard);
+          (append_assoc begun (asks_in port from h.rounds) (asks_after port now heard.end)
+          ∙ ap (λ l. begun ++ l) (ap (λ (a : Asking). asks_in port from h.rounds ++ asks_after port a heard.end) h.left ∙ sym (asks_in-more port from h.rounds heard)))
+          (Grows-trans link.sent link_now.sent link_then.sent (begun ++ asks_in port from h.rounds) (asks_after port now heard.end) h.asked once.asked);
+      left = once.left ∙ ap (λ (a : Asking). after_round a heard.end) h.left ∙ sym (after_rounds-more from h.rounds heard);
       took = Took-more takes h.rounds heard bricks bricks_now bricks_then h.took one;
     }
 
 -- it ends so
-pub RunsCommand-ends : {A : Type 0} (takes : A → A → Type 0) (layout : Layout) (command : Command) (sent turns turns_now : ℕ) (now : Asking) (link link_now : Told)
-    (bricks bricks_now : A) (answer : Option RangeAnswer) → IsRunning takes layout command sent turns turns_now now link link_now bricks bricks_now
+pub RunsRange-ends : {A : Type 0} (takes : A → A → Type 0) (port : ℕ) (first : Progress) (sent turns turns_now : ℕ) (now : Asking) (link link_now : Told)
+    (bricks bricks_now : A) (answer : Option RangeAnswer) → IsRunning takes port first sent turns turns_now now link link_now bricks bricks_now
     → EndsAs now.range turns_now answer
-    → (rounds : List Heard) × RunsCommand layout command sent now.sent turns turns_now link link_now rounds answer × Took takes rounds bricks bricks_now
-RunsCommand-ends takes layout command sent turns turns_now now link link_now bricks bricks_now answer h ends = (
+    → (rounds : List Heard) × RunsRange port first sent now.sent turns turns_now link link_now rounds answer × Took takes rounds bricks bricks_now
+RunsRange-ends takes port first sent turns turns_now now link link_now bricks bricks_now answer h ends = (
   h.rounds,
   record {
     heard = h.heard;

@@ -7,12 +7,13 @@ use Rattle.std.proofs.lemmas.List.Elements.{All-head, All-tail}
 use Rattle.std.proofs.Math.Seq.{take-append-add}
 use Rattle.std.proofs.Transfers.{All-of_StopsAt}
 use Rattle.std.specs.Io.{StopsAt}
+use Rattle.std.proofs.lemmas.Bool.{cases_Bool}
 use Rattle.std.proofs.lemmas.Bool.Decides.{nat_tests}
 use Rattle.std.proofs.lemmas.List.Folds.{list_any-append}
 use Rattle.lines.specs.Lines.{is_line_feed}
 use Rattle.hosting.specs.declared.faults.HostFault.{HostFault}
 use Rattle.hosting.specs.declared.reading.LineRead.{LineRead}
-use Rattle.hosting.specs.Reading.{turn_bytes, most_kept, AreTurnsOf, HasNoFeed, IsWhole, Reads, ReadsLine, IsReading, IsLine, IsLast}
+use Rattle.hosting.specs.Reading.{turn_bytes, most_kept, AreTurnsOf, HasNoFeed, IsWhole, IsFront, Reads, ReadsLine, IsReading, IsLine, IsLast}
 
 -- bytes of which none is 10 have no line feed
 HasNoFeed-of_All : (bytes : List ℕ) → All (λ byte. byte ≢ 10) bytes → HasNoFeed bytes
@@ -45,6 +46,15 @@ IsWhole-piece line piece last none some is feed stops =
       HasNoFeed-more line front none (HasNoFeed-of_All front stops),
       ap (λ (l : List ℕ). line ++ l) split ∙ sym (append_assoc line front (10 ∷ [])),
     )
+
+-- with a piece that stops at a line feed it is a front of a line still
+pub IsFront-piece : (line piece : List ℕ) (last : ℕ) → HasNoFeed line → 0 < length piece → last ≡ get_or piece (length piece - 1) last → StopsAt piece 10
+    → IsFront (line ++ piece)
+IsFront-piece line piece last none some is stops =
+    elim (cases_Bool (is_line_feed last)) [
+      | inl feed ↦ inr (IsWhole-piece line piece last none some is (grind (arith, nat_tests, feed)) stops)
+      | inr other ↦ inl (HasNoFeed-more line piece none (HasNoFeed-piece piece last some is other stops))
+    ]
 
 -- the front of more bytes is that of their front and a piece
 take-more : (n : ℕ) (bytes piece : List ℕ) → take n (take n bytes ++ piece) ≡ take n (bytes ++ piece)
@@ -96,17 +106,17 @@ Reads-more turns now paid then paid_then told before after kept piece h came pay
 pub ReadsLine-failed : (turns now paid : ℕ) (told before after : Option (List ℕ)) (kept : List ℕ) (fault : HostFault) → IsReading turns now paid told before kept
     → Keeps before after → ReadsLine turns now told after (Err fault)
 ReadsLine-failed turns now paid told before after kept fault h keeps =
-    record { line = h.line; taken = turns - now; reads = Reads-now turns now paid told before after kept h keeps; answers = tt }
+    record { line = h.line; taken = turns - now; reads = Reads-now turns now paid told before after kept h keeps; answers = inl h.no_feed }
 
-pub ReadsLine-lost : (turns now paid then paid_then : ℕ) (told before after : Option (List ℕ)) (kept piece : List ℕ) (fault : HostFault)
+pub ReadsLine-lost : (turns now paid then paid_then last : ℕ) (told before after : Option (List ℕ)) (kept piece : List ℕ) (fault : HostFault)
     → IsReading turns now paid told before kept → Consumes before after piece → then * turn_bytes + paid_then + length piece ≡ now * turn_bytes + paid
-    → paid_then < turn_bytes → ReadsLine turns then told after (Err fault)
-ReadsLine-lost turns now paid then paid_then told before after kept piece fault h came pays few =
+    → paid_then < turn_bytes → 0 < length piece → last ≡ get_or piece (length piece - 1) last → StopsAt piece 10 → ReadsLine turns then told after (Err fault)
+ReadsLine-lost turns now paid then paid_then last told before after kept piece fault h came pays few some is stops =
     record {
       line = h.line ++ piece;
       taken = turns - then;
       reads = Reads-more turns now paid then paid_then told before after kept piece h came pays few;
-      answers = tt;
+      answers = IsFront-piece h.line piece last h.no_feed some is stops;
     }
 
 -- no turn is left

@@ -1,5 +1,5 @@
 -- Lines, one after another.
-use Rattle.std.proofs.Common.{◌≡◌, ◌⊎◌, ℕ, ◌+◌, ◌-◌, ◌≤◌, Bool, true, false, not, ◌||◌, List, [], ◌∷◌, ◌++◌, length, take, Option, Some, None, refl, sym, ap, subst, ◌∙◌, append_assoc, append-nil, arith, inl, inr}
+use Rattle.std.proofs.Common.{◌≡◌, ◌⊎◌, ℕ, ◌+◌, ◌-◌, ◌*◌, ◌≤◌, Bool, true, false, not, ◌||◌, List, [], ◌∷◌, ◌++◌, length, take, Option, Some, None, refl, sym, ap, subst, ◌∙◌, append_assoc, append-nil, arith, inl, inr}
 use Rattle.std.specs.List.{list_any}
 use Rattle.std.specs.Io.KnownBytes.{Appends, Consumes, IsAtEnd}
 use Rattle.std.proofs.KnownBytes.{Appends-nil, Appends-trans, Consumes-nil, Consumes-trans}
@@ -22,9 +22,9 @@ use Rattle.hosting.specs.Answers.{bad_line_text}
 use Rattle.hosting.specs.Commands.{line_of}
 use Rattle.hosting.specs.Hosting.{Played, Progression, beginning, Outcome, reads, text_of, printed, is_none, is_waiting, outcome_of, HasRounds, after_line, IsPlayed, after_lines, ArePlayed, bytes_of, rounds_of, RunsLine, Hosts}
 use Rattle.serving.specs.Datagrams.{Looked}
-use Rattle.hosting.specs.Reading.{most_kept, AreTurnsOf, HasNoFeed, IsWhole, IsLine, Gives, Reads}
+use Rattle.hosting.specs.Reading.{turn_bytes, most_kept, AreTurnsOf, HasNoFeed, IsWhole, IsLine, IsLastLine, Gives, Reads}
 use Rattle.hosting.specs.Commanded.{opened, asking}
-use Rattle.hosting.specs.Rounds.{Heard, IsOpen, after_rounds, came_in, Took, Told, EndsAs, RunsCommand}
+use Rattle.hosting.specs.Rounds.{Heard, IsOpen, after_rounds, came_in, Took, Told, port_of, EndsAs, RunsRange}
 use Rattle.hosting.proofs.CommandLines.{line_of-long}
 use Rattle.serving.proofs.Looks.{Looked-none, Looked-trans}
 
@@ -64,7 +64,7 @@ used_up range turns (Some answer) ends e = absurd cc
 -- a line that is a command
 pub RunsLine-command : {A : Type 0} (takes : A → A → Type 0) (layout : Layout) (command : Command) (number sent sent_after turns turns_after : ℕ) (link link_after : Told)
     (bricks bricks_after : A) (sink sink_after : Option (List ℕ)) (line : Option Line) (answer : Option RangeAnswer) (waits : Bool) (rounds : List Heard)
-    → line ≡ Some (Run command) → RunsCommand layout command sent sent_after turns turns_after link link_after rounds answer → Took takes rounds bricks bricks_after
+    → line ≡ Some (Run command) → RunsRange (port_of layout command.brick) (opened layout command) sent sent_after turns turns_after link link_after rounds answer → Took takes rounds bricks bricks_after
     → Appends sink sink_after (printed (reads command.access) answer) → waits ≡ is_none answer
     → RunsLine takes layout number sent sent_after turns turns_after link link_after bricks bricks_after sink sink_after line waits
 RunsLine-command takes layout command number sent sent_after turns turns_after link link_after bricks bricks_after sink sink_after line answer waits rounds is runs took text waits_is =
@@ -183,6 +183,13 @@ HasRun-none takes layout turns source link bricks sink =
       waits_is = refl;
     }
 
+-- by a client that sent nothing yet
+pub HasRun-begun : {A : Type 0} (takes : A → A → Type 0) (layout : Layout) (turns : ℕ) (source : Option (List ℕ)) (link : Told) (bricks : A) (sink : Option (List ℕ)) (sent : ℕ)
+    → sent ≡ 0 → HasRun takes layout turns source source link link bricks bricks sink sink turns 0 sent false false
+HasRun-begun takes layout turns source link bricks sink sent none =
+    subst (λ (n : ℕ). HasRun takes layout turns source source link link bricks bricks sink sink turns 0 n false false) (sym none)
+    (HasRun-none takes layout turns source link bricks sink)
+
 -- one more was run
 pub HasRun-line : {A : Type 0} (takes : A → A → Type 0) (layout : Layout) (turns : ℕ) (source source_now source_then : Option (List ℕ)) (link link_now link_then : Told)
     (bricks bricks_now bricks_then : A) (sink sink_now sink_then : Option (List ℕ)) (left left_read left_then number sent sent_then taken : ℕ) (line kept : List ℕ) (waits : Bool)
@@ -235,9 +242,9 @@ pub Hosts-over : {A : Type 0} (takes : A → A → Type 0) (layout : Layout) (tu
     (bricks bricks_now : A) (sink sink_now : Option (List ℕ)) (left number sent rest_turns : ℕ) (rest : List ℕ) (over waits : Bool)
     → HasRun takes layout turns source source_now link link_now bricks bricks_now sink sink_now left number sent over waits
     → Consumes source_now source_then rest → HasNoFeed rest → AreTurnsOf (length rest) rest_turns → (waits ≡ true → left ≡ 0)
-    → ((rest ≡ []) × IsAtEnd source_then) ⊎ (left ≡ rest_turns)
+    → (over ≡ true → (rest ≡ []) × IsAtEnd source_then) → ((rest ≡ []) × IsAtEnd source_then) ⊎ ((left ≡ rest_turns) × (length rest ≡ rest_turns * turn_bytes))
     → Hosts takes layout turns source source_then link link_now bricks bricks_now sink sink_now
-Hosts-over takes layout turns source source_now source_then link link_now bricks bricks_now sink sink_now left number sent rest_turns rest over waits h consumes none turns_of used ends =
+Hosts-over takes layout turns source source_now source_then link link_now bricks bricks_now sink sink_now left number sent rest_turns rest over waits h consumes none turns_of used last ends =
     record {
       played = h.played;
       rest = rest;
@@ -247,7 +254,8 @@ Hosts-over takes layout turns source source_now source_then link link_now bricks
       consumed = Consumes-trans source source_now source_then (bytes_of h.played) rest h.consumed consumes;
       over = record {
         used = λ e. h.left_is ∙ used (sym h.waits_is ∙ e);
-        over = elim ends [ inl end ↦ inl end | inr out ↦ inr (h.left_is ∙ out) ];
+        last = λ e. last (sym h.over_is ∙ e);
+        over = elim ends [ inl end ↦ inl end | inr out ↦ inr (h.left_is ∙ out.0, out.1) ];
       };
       looked = h.looked;
       asked = h.asked;
@@ -258,6 +266,10 @@ Hosts-over takes layout turns source source_now source_then link link_now bricks
 -- no byte takes no turn
 pub AreTurnsOf-none : AreTurnsOf 0 0
 AreTurnsOf-none = record { enough = omega arith; begun = omega arith }
+
+-- nor is one taken where nothing is read
+pub Reads-none : (turns : ℕ) (told : Option (List ℕ)) → Reads turns turns told told [] 0
+Reads-none turns told = record { consumes = Consumes-nil told; counted = omega arith; turns_of = AreTurnsOf-none }
 
 -- a line takes a turn
 pub some_turn : (bytes turns : ℕ) → AreTurnsOf bytes turns → 1 ≤ bytes → 1 ≤ turns
@@ -272,6 +284,32 @@ whole_over line whole =
     ap not
     (ap (list_any is_line_feed) whole.2 ∙ list_any-append is_line_feed whole.0 (10 ∷ [])
     ∙ ap (λ (t : Bool). t || list_any is_line_feed (10 ∷ [])) whole.1)
+
+-- what a line that was read is
+pub line-read : (told : Option (List ℕ)) (line : List ℕ) (is_last : Bool) → IsLine told line is_last → IsWhole line ⊎ (HasNoFeed line × (1 ≤ length line))
+line-read told line false is = inl is
+line-read told line true is = inr (is.0, is.1)
+
+pub last-end : (told : Option (List ℕ)) (line : List ℕ) (is_last : Bool) → IsLine told line is_last → is_last ≡ true → IsAtEnd told
+last-end told line true is same = is.2
+last-end told line false is same = absurd cc
+
+pub line-some : (told : Option (List ℕ)) (line : List ℕ) (is_last : Bool) → IsLine told line is_last → 1 ≤ length line
+line-some told line false is = some_byte line is
+line-some told line true is = is.1
+
+pub line-whole : (told : Option (List ℕ)) (line : List ℕ) (is_last : Bool) → IsLine told line is_last → is_last ≡ false → IsWhole line
+line-whole told line false is same = is
+line-whole told line true is same = absurd cc
+
+pub line-is : (told : Option (List ℕ)) (line : List ℕ) (is_last : Bool) → IsLine told line is_last → IsWhole line ⊎ IsLastLine told line
+line-is told line false is = inl is
+line-is told line true is = inr is
+
+-- behind a line without a line feed the source is at its end
+over-end : (told : Option (List ℕ)) (line : List ℕ) (is_last : Bool) → IsLine told line is_last → not (list_any is_line_feed line) ≡ true → IsAtEnd told
+over-end told line true is over = is.2
+over-end told line false is over = absurd (let never : false ≡ true = sym (whole_over line is) ∙ over in cc)
 
 -- a whole line was run, and it was answered
 pub HasRun-whole : {A : Type 0} (takes : A → A → Type 0) (layout : Layout) (turns : ℕ) (source source_now source_then : Option (List ℕ)) (link link_now link_then : Told)
@@ -288,16 +326,17 @@ HasRun-whole takes layout turns source source_now source_then link link_now link
 
 -- a line was run, and the run is over: the source is at its end, or no turn is left
 pub Hosts-line : {A : Type 0} (takes : A → A → Type 0) (layout : Layout) (turns : ℕ) (source source_now source_then : Option (List ℕ)) (link link_now link_then : Told)
-    (bricks bricks_now bricks_then : A) (sink sink_now sink_then : Option (List ℕ)) (left left_read left_then number sent sent_then taken : ℕ) (line kept : List ℕ) (waits : Bool)
+    (bricks bricks_now bricks_then : A) (sink sink_now sink_then : Option (List ℕ)) (left left_read left_then number sent sent_then taken : ℕ) (line kept : List ℕ) (is_last waits : Bool)
     → HasRun takes layout turns source source_now link link_now bricks bricks_now sink sink_now left number sent false false
-    → Reads left left_read source_now source_then line taken → kept ≡ take most_kept line → IsWhole line ⊎ (HasNoFeed line × (1 ≤ length line))
+    → Reads left left_read source_now source_then line taken → kept ≡ take most_kept line → IsLine source_then line is_last
     → RunsLine takes layout (number + 1) sent sent_then left_read left_then link_now link_then bricks_now bricks_then sink_now sink_then (line_of (content kept)) waits
-    → IsAtEnd source_then ⊎ (left_then ≡ 0)
+    → (is_last ≡ true) ⊎ (left_then ≡ 0)
     → Hosts takes layout turns source source_then link link_then bricks bricks_then sink sink_then
-Hosts-line takes layout turns source source_now source_then link link_now link_then bricks bricks_now bricks_then sink sink_now sink_then left left_read left_then number sent sent_then taken line kept waits h read keeps line_is runs ends =
+Hosts-line takes layout turns source source_now source_then link link_now link_then bricks bricks_now bricks_then sink sink_now sink_then left left_read left_then number sent sent_then taken line kept is_last waits h read keeps is runs ends =
     Hosts-over takes layout turns source source_then source_then link link_then bricks bricks_then sink sink_then left_then (number + 1) sent_then 0 [] (not (list_any is_line_feed line)) waits
-    (HasRun-line takes layout turns source source_now source_then link link_now link_then bricks bricks_now bricks_then sink sink_now sink_then left left_read left_then number sent sent_then taken line kept waits h read keeps line_is runs)
-    (Consumes-nil source_then) refl AreTurnsOf-none runs.used (elim ends [ inl end ↦ inl (refl, end) | inr none ↦ inr none ])
+    (HasRun-line takes layout turns source source_now source_then link link_now link_then bricks bricks_now bricks_then sink sink_now sink_then left left_read left_then number sent sent_then taken line kept waits h read keeps (line-read source_then line is_last is) runs)
+    (Consumes-nil source_then) refl AreTurnsOf-none runs.used (λ e. (refl, over-end source_then line is_last is e))
+    (elim ends [ inl end ↦ inl (refl, last-end source_then line is_last is end) | inr none ↦ inr (none, omega arith) ])
 
 -- no line is left
 Hosts-ended : {A : Type 0} (takes : A → A → Type 0) (layout : Layout) (turns : ℕ) (source source_now source_then : Option (List ℕ)) (link link_now : Told)
@@ -307,17 +346,18 @@ Hosts-ended : {A : Type 0} (takes : A → A → Type 0) (layout : Layout) (turns
     → Hosts takes layout turns source source_then link link_now bricks bricks_now sink sink_now
 Hosts-ended takes layout turns source source_now source_then link link_now bricks bricks_now sink sink_now left left_read number sent taken line h read none end =
     Hosts-over takes layout turns source source_now source_then link link_now bricks bricks_now sink sink_now left number sent taken line false false h
-    read.consumes (ap (list_any is_line_feed) none) read.turns_of (λ e. let never : false ≡ true = e in absurd cc) (inl (none, end))
+    read.consumes (ap (list_any is_line_feed) none) read.turns_of (λ e. let never : false ≡ true = e in absurd cc) (λ e. (none, end)) (inl (none, end))
 
 -- no turn is left
 Hosts-out : {A : Type 0} (takes : A → A → Type 0) (layout : Layout) (turns : ℕ) (source source_now source_then : Option (List ℕ)) (link link_now : Told)
     (bricks bricks_now : A) (sink sink_now : Option (List ℕ)) (left left_read number sent taken : ℕ) (line : List ℕ)
     → HasRun takes layout turns source source_now link link_now bricks bricks_now sink sink_now left number sent false false
-    → Reads left left_read source_now source_then line taken → HasNoFeed line → left_read ≡ 0
+    → Reads left left_read source_now source_then line taken → HasNoFeed line → left_read ≡ 0 → length line ≡ taken * turn_bytes
     → Hosts takes layout turns source source_then link link_now bricks bricks_now sink sink_now
-Hosts-out takes layout turns source source_now source_then link link_now bricks bricks_now sink sink_now left left_read number sent taken line h read none out =
+Hosts-out takes layout turns source source_now source_then link link_now bricks bricks_now sink sink_now left left_read number sent taken line h read none out full =
     Hosts-over takes layout turns source source_now source_then link link_now bricks bricks_now sink sink_now left number sent taken line false false h
-    read.consumes none read.turns_of (λ e. let never : false ≡ true = e in absurd cc) (inr (omega (arith, read.counted, out)))
+    read.consumes none read.turns_of (λ e. let never : false ≡ true = e in absurd cc) (λ e. let never : false ≡ true = e in absurd cc)
+    (inr (omega (arith, read.counted, out), full))
 
 -- nothing more was read that is run
 pub Hosts-none : {A : Type 0} (takes : A → A → Type 0) (layout : Layout) (turns : ℕ) (source source_now source_then : Option (List ℕ)) (link link_now : Told)
@@ -328,18 +368,5 @@ pub Hosts-none : {A : Type 0} (takes : A → A → Type 0) (layout : Layout) (tu
 Hosts-none takes layout turns source source_now source_then link link_now bricks bricks_now sink sink_now left left_read number sent taken line h read gives =
     elim gives [
       | inl ended ↦ Hosts-ended takes layout turns source source_now source_then link link_now bricks bricks_now sink sink_now left left_read number sent taken line h read ended.0 ended.1
-      | inr out ↦ Hosts-out takes layout turns source source_now source_then link link_now bricks bricks_now sink sink_now left left_read number sent taken line h read out.0 out.1
+      | inr out ↦ Hosts-out takes layout turns source source_now source_then link link_now bricks bricks_now sink sink_now left left_read number sent taken line h read out.0 out.1 out.2
     ]
-
--- what a line that was read is
-pub line-read : (told : Option (List ℕ)) (line : List ℕ) (is_last : Bool) → IsLine told line is_last → IsWhole line ⊎ (HasNoFeed line × (1 ≤ length line))
-line-read told line false is = inl is
-line-read told line true is = inr (is.0, is.1)
-
-pub last-end : (told : Option (List ℕ)) (line : List ℕ) (is_last : Bool) → IsLine told line is_last → is_last ≡ true → IsAtEnd told
-last-end told line true is same = is.2
-last-end told line false is same = absurd cc
-
-pub line-whole : (told : Option (List ℕ)) (line : List ℕ) (is_last : Bool) → IsLine told line is_last → is_last ≡ false → IsWhole line
-line-whole told line false is same = is
-line-whole told line true is same = absurd cc

@@ -1,6 +1,5 @@
 -- What a run does to bricks, and what was done where it was stopped.
-use Rattle.std.proofs.Common.{◌≡◌, ◌⊎◌, ◌≤◌, ℕ, ◌+◌, false, List, [], ◌++◌, length, take, Option, Some, None, Result, Ok, Err, IsOk, IfErr, refl, sym, ap, ◌∙◌, subst, append-nil, inl, inr, arith}
-use Rattle.std.specs.Io.KnownBytes.{Consumes}
+use Rattle.std.proofs.Common.{◌≡◌, ◌⊎◌, ◌≤◌, ℕ, ◌+◌, ◌-◌, false, List, [], ◌++◌, length, take, Option, Some, None, Result, Ok, Err, IsOk, IfErr, refl, sym, ap, ◌∙◌, subst, append-nil, inl, inr, arith}
 use Rattle.std.proofs.KnownBytes.{Consumes-trans, Keeps-refl}
 use Rattle.fab_base.specs.Layouts.{Layout}
 use Rattle.fab_io.specs.declared.links.Datagram.{Datagram}
@@ -24,8 +23,8 @@ use Rattle.hosting.specs.Commands.{line_of}
 use Rattle.hosting.specs.Commanded.{Asking, opened, asking, asks_by}
 use Rattle.hosting.specs.Faults.{AtClientLink, AtSource, AtSink, IsOther}
 use Rattle.hosting.specs.Hosting.{Progression, beginning, reads, printed, outcome_of, HasRounds, after_lines, bytes_of, StopsLine, HostsUntil}
-use Rattle.hosting.specs.Reading.{most_kept, Reads}
-use Rattle.hosting.specs.Rounds.{Heard, after_rounds, asks_in, came_in, Told, port_of, RunsCommand, Took, AreStopped, KeepsBricks, StopsCommand}
+use Rattle.hosting.specs.Reading.{most_kept, IsWhole, IsFront, IsLastLine, Reads}
+use Rattle.hosting.specs.Rounds.{Heard, after_rounds, asks_in, came_in, Told, port_of, RunsRange, Took, AreStopped, KeepsBricks, StopsRange}
 use Rattle.hosting.proofs.Hearing.{IsRunning}
 use Rattle.hosting.proofs.Running.{HasRun, line_of-kept, text_is}
 
@@ -99,18 +98,19 @@ sound_end (Err Sink) other link source sink = absurd (sink refl)
 sound_end (Err NoMemory) other link source sink = inr refl
 sound_end (Err fault) other link source sink = absurd other
 
-module _ {A : Type 0} (takes : A → A → Type 0) (stops : A → A → HostFault → Type 0) (layout : Layout) where
-  -- ---- a command that is stopped
+module _ {A : Type 0} (takes : A → A → Type 0) (stops : A → A → HostFault → Type 0) where
+  -- ---- a range that is stopped
 
   -- before its client asked for anything
-  pub StopsCommand-none : (command : Command) (sent : ℕ) (link link_after : Told) (bricks : A) (fault : HostFault) → Stays link.waiting link_after.waiting
-      → Stays link.sent link_after.sent → IsOther fault → StopsCommand takes stops layout command sent link link_after bricks bricks fault
-  StopsCommand-none command sent link link_after bricks fault waiting unsent other =
+  pub StopsRange-none : (port : ℕ) (first : Progress) (sent turns : ℕ) (link link_after : Told) (bricks : A) (fault : HostFault) → Stays link.waiting link_after.waiting
+      → Stays link.sent link_after.sent → IsOther fault → StopsRange takes stops port first sent turns link link_after bricks bricks fault
+  StopsRange-none port first sent turns link link_after bricks fault waiting unsent other =
       record {
         rounds = [];
         lost = [];
         mid = bricks;
         heard = tt;
+        within = omega arith;
         one_look = omega arith;
         looked = Looked-none link.waiting link_after.waiting waiting;
         asked = GrowsFront-none link.sent link_after.sent _ unsent;
@@ -119,18 +119,19 @@ module _ {A : Type 0} (takes : A → A → Type 0) (stops : A → A → HostFaul
       }
 
   -- after some rounds
-  pub StopsCommand-later : (command : Command) (sent turns turns_now : ℕ) (now : Asking) (link link_now link_after : Told) (bricks bricks_now bricks_after : A)
-      (lost : List (Option Datagram)) (fault : HostFault) → IsRunning takes layout command sent turns turns_now now link link_now bricks bricks_now
+  pub StopsRange-later : (port : ℕ) (first : Progress) (sent turns turns_now : ℕ) (now : Asking) (link link_now link_after : Told) (bricks bricks_now bricks_after : A)
+      (lost : List (Option Datagram)) (fault : HostFault) → IsRunning takes port first sent turns turns_now now link link_now bricks bricks_now
       → length lost ≤ 1 → Looked link_now.waiting link_after.waiting lost → Stays link_now.sent link_after.sent
-      → AreStopped takes stops bricks_now bricks_after fault → StopsCommand takes stops layout command sent link link_after bricks bricks_after fault
-  StopsCommand-later command sent turns turns_now now link link_now link_after bricks bricks_now bricks_after lost fault h few looked unsent stopped =
-      let asks = asks_by (port_of layout command.brick) sent (next_of (opened layout command))
-      ++ asks_in (port_of layout command.brick) (asking sent (opened layout command)) h.rounds in
+      → AreStopped takes stops bricks_now bricks_after fault → StopsRange takes stops port first sent turns link link_after bricks bricks_after fault
+  StopsRange-later port first sent turns turns_now now link link_now link_after bricks bricks_now bricks_after lost fault h few looked unsent stopped =
+      let asks = asks_by port sent (next_of first)
+      ++ asks_in port (asking sent first) h.rounds in
       record {
         rounds = h.rounds;
         lost = lost;
         mid = bricks_now;
         heard = h.heard;
+        within = omega (arith, h.counted);
         one_look = few;
         looked = Looked-trans link.waiting link_now.waiting link_after.waiting (came_in h.rounds) lost h.looked looked;
         asked = record { front = asks; rest = []; parts = sym (append-nil asks); grows = Grows-quiet link.sent link_now.sent link_after.sent asks h.asked unsent };
@@ -138,6 +139,7 @@ module _ {A : Type 0} (takes : A → A → Type 0) (stops : A → A → HostFaul
         stopped = stopped;
       }
 
+module _ {A : Type 0} (takes : A → A → Type 0) (stops : A → A → HostFault → Type 0) (layout : Layout) where
   -- ---- a line that is stopped
 
   -- no line needs a round
@@ -147,15 +149,16 @@ module _ {A : Type 0} (takes : A → A → Type 0) (stops : A → A → HostFaul
   HasRounds-none sent (Some (Run command)) = tt
 
   -- before anything was done but writing, which took this
-  StopsLine-written : (number sent : ℕ) (link : Told) (bricks : A) (sink sink_after : Option (List ℕ)) (line : Option Line) (fault : HostFault) → IsOther fault
+  StopsLine-written : (number sent turns : ℕ) (link : Told) (bricks : A) (sink sink_after : Option (List ℕ)) (line : Option Line) (fault : HostFault) → IsOther fault
       → AppendsFront sink sink_after (outcome_of layout number sent [] line).text
-      → StopsLine takes stops layout number sent link link bricks bricks sink sink_after line fault
-  StopsLine-written number sent link bricks sink sink_after line fault other text =
+      → StopsLine takes stops layout number sent turns link link bricks bricks sink sink_after line fault
+  StopsLine-written number sent turns link bricks sink sink_after line fault other text =
       record {
         rounds = [];
         lost = [];
         mid = bricks;
         has = HasRounds-none sent line;
+        within = omega arith;
         one_look = omega arith;
         looked = Looked-none link.waiting link.waiting (Stays-refl link.waiting);
         asked = GrowsFront-none link.sent link.sent _ (Stays-refl link.sent);
@@ -164,30 +167,31 @@ module _ {A : Type 0} (takes : A → A → Type 0) (stops : A → A → HostFaul
         printed = text;
       }
 
-  pub StopsLine-none : (number sent : ℕ) (link : Told) (bricks : A) (sink : Option (List ℕ)) (line : Option Line) (fault : HostFault) → IsOther fault
-      → StopsLine takes stops layout number sent link link bricks bricks sink sink line fault
-  StopsLine-none number sent link bricks sink line fault other =
-      StopsLine-written number sent link bricks sink sink line fault other (AppendsFront-none sink sink _ (Keeps-refl sink))
+  pub StopsLine-none : (number sent turns : ℕ) (link : Told) (bricks : A) (sink : Option (List ℕ)) (line : Option Line) (fault : HostFault) → IsOther fault
+      → StopsLine takes stops layout number sent turns link link bricks bricks sink sink line fault
+  StopsLine-none number sent turns link bricks sink line fault other =
+      StopsLine-written number sent turns link bricks sink sink line fault other (AppendsFront-none sink sink _ (Keeps-refl sink))
 
   -- as it was answered that it is no command
-  pub StopsLine-bad : (number sent : ℕ) (link : Told) (bricks : A) (sink sink_after : Option (List ℕ)) (line : Option Line) (fault : HostFault) → line ≡ None
+  pub StopsLine-bad : (number sent turns : ℕ) (link : Told) (bricks : A) (sink sink_after : Option (List ℕ)) (line : Option Line) (fault : HostFault) → line ≡ None
       → IsOther fault → AppendsFront sink sink_after (bad_line_text number)
-      → StopsLine takes stops layout number sent link link bricks bricks sink sink_after line fault
-  StopsLine-bad number sent link bricks sink sink_after line fault is other text =
-      subst (λ (l : Option Line). StopsLine takes stops layout number sent link link bricks bricks sink sink_after l fault) (sym is)
-      (StopsLine-written number sent link bricks sink sink_after None fault other text)
+      → StopsLine takes stops layout number sent turns link link bricks bricks sink sink_after line fault
+  StopsLine-bad number sent turns link bricks sink sink_after line fault is other text =
+      subst (λ (l : Option Line). StopsLine takes stops layout number sent turns link link bricks bricks sink sink_after l fault) (sym is)
+      (StopsLine-written number sent turns link bricks sink sink_after None fault other text)
 
   -- as its command was run
-  pub StopsLine-command : (command : Command) (number sent : ℕ) (link link_after : Told) (bricks bricks_after : A) (sink : Option (List ℕ)) (line : Option Line)
-      (fault : HostFault) → line ≡ Some (Run command) → StopsCommand takes stops layout command sent link link_after bricks bricks_after fault
-      → StopsLine takes stops layout number sent link link_after bricks bricks_after sink sink line fault
-  StopsLine-command command number sent link link_after bricks bricks_after sink line fault is stop =
-      subst (λ (l : Option Line). StopsLine takes stops layout number sent link link_after bricks bricks_after sink sink l fault) (sym is)
+  pub StopsLine-command : (command : Command) (number sent turns : ℕ) (link link_after : Told) (bricks bricks_after : A) (sink : Option (List ℕ)) (line : Option Line)
+      (fault : HostFault) → line ≡ Some (Run command) → StopsRange takes stops (port_of layout command.brick) (opened layout command) sent turns link link_after bricks bricks_after fault
+      → StopsLine takes stops layout number sent turns link link_after bricks bricks_after sink sink line fault
+  StopsLine-command command number sent turns link link_after bricks bricks_after sink line fault is stop =
+      subst (λ (l : Option Line). StopsLine takes stops layout number sent turns link link_after bricks bricks_after sink sink l fault) (sym is)
       (record {
         rounds = stop.rounds;
         lost = stop.lost;
         mid = stop.mid;
         has = stop.heard;
+        within = stop.within;
         one_look = stop.one_look;
         looked = stop.looked;
         asked = stop.asked;
@@ -199,19 +203,20 @@ module _ {A : Type 0} (takes : A → A → Type 0) (stops : A → A → HostFaul
   -- as its answer was written
   pub StopsLine-answer : (command : Command) (number sent sent_after turns turns_after : ℕ) (link link_after : Told) (bricks bricks_after : A)
       (sink sink_after : Option (List ℕ)) (line : Option Line) (answer : Option RangeAnswer) (rounds : List Heard) (fault : HostFault)
-      → line ≡ Some (Run command) → RunsCommand layout command sent sent_after turns turns_after link link_after rounds answer → Took takes rounds bricks bricks_after
+      → line ≡ Some (Run command) → RunsRange (port_of layout command.brick) (opened layout command) sent sent_after turns turns_after link link_after rounds answer → Took takes rounds bricks bricks_after
       → IsOther fault → AppendsFront sink sink_after (printed (reads command.access) answer)
-      → StopsLine takes stops layout number sent link link_after bricks bricks_after sink sink_after line fault
+      → StopsLine takes stops layout number sent turns link link_after bricks bricks_after sink sink_after line fault
   StopsLine-answer command number sent sent_after turns turns_after link link_after bricks bricks_after sink sink_after line answer rounds fault is runs took other text =
       let last : Progress = (after_rounds (asking sent (opened layout command)) rounds).range in
       let asks = asks_by (port_of layout command.brick) sent (next_of (opened layout command))
       ++ asks_in (port_of layout command.brick) (asking sent (opened layout command)) rounds in
-      subst (λ (l : Option Line). StopsLine takes stops layout number sent link link_after bricks bricks_after sink sink_after l fault) (sym is)
+      subst (λ (l : Option Line). StopsLine takes stops layout number sent turns link link_after bricks bricks_after sink sink_after l fault) (sym is)
       (record {
         rounds = rounds;
         lost = [];
         mid = bricks_after;
         has = runs.heard;
+        within = omega (arith, runs.counted);
         one_look = omega arith;
         looked = subst (Looked link.waiting link_after.waiting) (sym (append-nil (came_in rounds))) runs.looked;
         asked = record { front = asks; rest = []; parts = sym (append-nil asks); grows = runs.asked };
@@ -226,49 +231,62 @@ module _ {A : Type 0} (takes : A → A → Type 0) (stops : A → A → HostFaul
   pub HostsUntil-line : (turns : ℕ) (source source_now source_then : Option (List ℕ)) (link link_now link_then : Told) (bricks bricks_now bricks_then : A)
       (sink sink_now sink_then : Option (List ℕ)) (left left_read number sent taken : ℕ) (line kept : List ℕ) (fault : HostFault)
       → HasRun takes layout turns source source_now link link_now bricks bricks_now sink sink_now left number sent false false
-      → Reads left left_read source_now source_then line taken → kept ≡ take most_kept line
-      → StopsLine takes stops layout (number + 1) sent link_now link_then bricks_now bricks_then sink_now sink_then (line_of (content kept)) fault
+      → Reads left left_read source_now source_then line taken → kept ≡ take most_kept line → IsWhole line ⊎ IsLastLine source_then line
+      → StopsLine takes stops layout (number + 1) sent left_read link_now link_then bricks_now bricks_then sink_now sink_then (line_of (content kept)) fault
       → HostsUntil takes stops layout turns source source_then link link_then bricks bricks_then sink sink_then fault
-  HostsUntil-line turns source source_now source_then link link_now link_then bricks bricks_now bricks_then sink sink_now sink_then left left_read number sent taken line kept fault h read keeps stop =
+  HostsUntil-line turns source source_now source_then link link_now link_then bricks bricks_now bricks_then sink sink_now sink_then left left_read number sent taken line kept fault h read keeps line_is stop =
       let run : Progression = after_lines layout (beginning turns) h.played in
       let says : line_of (content kept) ≡ line_of (content line) = ap (λ (l : List ℕ). line_of (content l)) keeps ∙ line_of-kept line in
+      let left_then : left_read ≡ run.left - taken = omega (arith, h.left_is, read.counted) in
       record {
         played = h.played;
         begun = line;
+        taken = taken;
         link_then = link_now;
         bricks_then = bricks_now;
         sink_then = sink_now;
         are = h.are;
+        goes_on = h.over_is;
+        answered = h.waits_is;
+        turns_of = read.turns_of;
+        within = omega (arith, h.left_is, read.counted);
         consumed = Consumes-trans source source_now source_then (bytes_of h.played) line h.consumed read.consumes;
         looked = h.looked;
         asked = h.asked;
         took = h.took;
         printed = h.printed;
-        stopped =
-            subst (λ (l : Option Line). StopsLine takes stops layout (run.lines + 1) run.sent link_now link_then bricks_now bricks_then sink_now sink_then l fault) says
-            (subst (λ (k : ℕ). StopsLine takes stops layout (run.lines + 1) k link_now link_then bricks_now bricks_then sink_now sink_then (line_of (content kept)) fault) (sym h.sent_is)
-            (subst (λ (k : ℕ). StopsLine takes stops layout (k + 1) sent link_now link_then bricks_now bricks_then sink_now sink_then (line_of (content kept)) fault) (sym h.number_is) stop));
+        stopped = inr (
+          line_is,
+          subst (λ (l : Option Line). StopsLine takes stops layout (run.lines + 1) run.sent (run.left - taken) link_now link_then bricks_now bricks_then sink_now sink_then l fault) says
+              (subst (λ (n : ℕ). StopsLine takes stops layout (run.lines + 1) run.sent n link_now link_then bricks_now bricks_then sink_now sink_then (line_of (content kept)) fault) left_then
+              (subst (λ (k : ℕ). StopsLine takes stops layout (run.lines + 1) k left_read link_now link_then bricks_now bricks_then sink_now sink_then (line_of (content kept)) fault) (sym h.sent_is)
+              (subst (λ (k : ℕ). StopsLine takes stops layout (k + 1) sent left_read link_now link_then bricks_now bricks_then sink_now sink_then (line_of (content kept)) fault) (sym h.number_is) stop))),
+        );
       }
 
   -- as a line was read
   pub HostsUntil-read : (turns : ℕ) (source source_now source_then : Option (List ℕ)) (link link_now : Told) (bricks bricks_now : A)
-      (sink sink_now : Option (List ℕ)) (left number sent : ℕ) (begun : List ℕ) (fault : HostFault)
+      (sink sink_now : Option (List ℕ)) (left left_read number sent taken : ℕ) (begun : List ℕ) (fault : HostFault)
       → HasRun takes layout turns source source_now link link_now bricks bricks_now sink sink_now left number sent false false
-      → Consumes source_now source_then begun → IsOther fault
+      → Reads left left_read source_now source_then begun taken → IsFront begun → AtSource fault
       → HostsUntil takes stops layout turns source source_then link link_now bricks bricks_now sink sink_now fault
-  HostsUntil-read turns source source_now source_then link link_now bricks bricks_now sink sink_now left number sent begun fault h consumes other =
-      let run : Progression = after_lines layout (beginning turns) h.played in
+  HostsUntil-read turns source source_now source_then link link_now bricks bricks_now sink sink_now left left_read number sent taken begun fault h read front at =
       record {
         played = h.played;
         begun = begun;
+        taken = taken;
         link_then = link_now;
         bricks_then = bricks_now;
         sink_then = sink_now;
         are = h.are;
-        consumed = Consumes-trans source source_now source_then (bytes_of h.played) begun h.consumed consumes;
+        goes_on = h.over_is;
+        answered = h.waits_is;
+        turns_of = read.turns_of;
+        within = omega (arith, h.left_is, read.counted);
+        consumed = Consumes-trans source source_now source_then (bytes_of h.played) begun h.consumed read.consumes;
         looked = h.looked;
         asked = h.asked;
         took = h.took;
         printed = h.printed;
-        stopped = StopsLine-none (run.lines + 1) run.sent link_now bricks_now sink_now (line_of (content begun)) fault other;
+        stopped = inl (record { front = front; at = at; link_is = refl; bricks_are = refl; sink_is = refl });
       }

@@ -1,5 +1,5 @@
 -- What the lines of a source do to the bricks of a layout and to their client.
-use Rattle.std.specs.Prelude.{◌≡◌, ◌⊎◌, ◌≤◌, ℕ, ◌+◌, ◌-◌, Bool, true, false, not, List, [], ◌∷◌, ◌++◌, length, Option, Some, None}
+use Rattle.std.specs.Prelude.{◌≡◌, ◌⊎◌, ◌≤◌, ℕ, ◌+◌, ◌-◌, ◌*◌, Bool, true, false, not, List, [], ◌∷◌, ◌++◌, length, Option, Some, None}
 use Rattle.std.specs.List.{list_any}
 use Rattle.std.specs.Io.KnownBytes.{Appends, Consumes, IsAtEnd}
 use Rattle.fab_base.specs.Layouts.{Layout}
@@ -20,9 +20,10 @@ use Rattle.hosting.specs.declared.faults.HostFault.{HostFault}
 use Rattle.hosting.specs.Answers.{answer_text, unanswered_text, bad_line_text}
 use Rattle.hosting.specs.Commands.{line_of}
 use Rattle.hosting.specs.Commanded.{opened, asking, asks_by}
+use Rattle.hosting.specs.Faults.{AtSource}
 use Rattle.serving.specs.Datagrams.{GrowsFront, Looked}
 use Rattle.hosting.specs.Rounds.{Heard, AreHeard, AreStopped, after_rounds, asks_in, came_in, Took, Told, port_of}
-use Rattle.hosting.specs.Reading.{AreTurnsOf, HasNoFeed, IsWhole}
+use Rattle.hosting.specs.Reading.{turn_bytes, AreTurnsOf, HasNoFeed, IsWhole, IsFront, IsLastLine}
 
 -- ---- lines
 
@@ -156,14 +157,15 @@ pub record RunsLine {A : Type 0} (takes : A → A → Type 0) (layout : Layout) 
   pub waits_is : waits ≡ (outcome_of layout number sent rounds line).waits
   pub used : waits ≡ true → turns_after ≡ 0
 
--- A line of this number was stopped by this fault, after so many datagrams: its command had these rounds, and there may have been one more look.
--- The client asked for a front of what the line asks, and the sink took a front of its text.
-pub record StopsLine {A : Type 0} (takes : A → A → Type 0) (stops : A → A → HostFault → Type 0) (layout : Layout) (number sent : ℕ)
+-- A line of this number was stopped by this fault, after so many datagrams: its command had these rounds, no more than turns were left, and there may
+-- have been one more look. The client asked for a front of what the line asks, and the sink took a front of its text.
+pub record StopsLine {A : Type 0} (takes : A → A → Type 0) (stops : A → A → HostFault → Type 0) (layout : Layout) (number sent turns : ℕ)
     (link link_after : Told) (bricks bricks_after : A) (sink sink_after : Option (List ℕ)) (line : Option Line) (fault : HostFault) : Type 0 where
   pub rounds : List Heard
   pub lost : List (Option Datagram)
   pub mid : A
   pub has : HasRounds layout sent rounds line
+  pub within : length rounds ≤ turns
   pub one_look : length lost ≤ 1
   pub looked : Looked link.waiting link_after.waiting (came_in rounds ++ lost)
   pub asked : GrowsFront link.sent link_after.sent (outcome_of layout number sent rounds line).asks
@@ -171,10 +173,21 @@ pub record StopsLine {A : Type 0} (takes : A → A → Type 0) (stops : A → A 
   pub stopped : AreStopped takes stops mid bricks_after fault
   pub printed : AppendsFront sink sink_after (outcome_of layout number sent rounds line).text
 
--- The run is over: the source is at its end, or what was read of the next line used the turns up. A command waits only where no turn is left.
+-- As a line was read the source failed, or no memory was left. All that was read is of that line, and nothing was done of it.
+pub record StopsReading {A : Type 0} (begun : List ℕ) (link link_after : Told) (bricks bricks_after : A) (sink sink_after : Option (List ℕ))
+    (fault : HostFault) : Type 0 where
+  pub front : IsFront begun
+  pub at : AtSource fault
+  pub link_is : link_after ≡ link
+  pub bricks_are : bricks_after ≡ bricks
+  pub sink_is : sink_after ≡ sink
+
+-- The run is over: the source is at its end, and so it is behind a line that lacks its line feed; or what was read of the next line used the turns up,
+-- and no byte more came without one. A command waits only where no turn is left.
 pub record IsOver (run : Progression) (told_after : Option (List ℕ)) (rest : List ℕ) (rest_turns : ℕ) : Type 0 where
   pub used : run.waits ≡ true → run.left ≡ 0
-  pub over : ((rest ≡ []) × IsAtEnd told_after) ⊎ (run.left ≡ rest_turns)
+  pub last : run.over ≡ true → (rest ≡ []) × IsAtEnd told_after
+  pub over : ((rest ≡ []) × IsAtEnd told_after) ⊎ ((run.left ≡ rest_turns) × (length rest ≡ rest_turns * turn_bytes))
 
 -- The lines of a source were run, over bricks and the client's link, by so many turns: these lines, and what was read of one that the turns
 -- were not enough for. Each brick took a turn in each round, the client sent the datagrams that it asks by and looked at its link once a
@@ -193,19 +206,28 @@ pub record Hosts {A : Type 0} (takes : A → A → Type 0) (layout : Layout) (tu
   pub took : Took takes (rounds_of played) bricks bricks_after
   pub printed : Appends sink sink_after (after_lines layout (beginning turns) played).text
 
--- The same until a fault: these lines were run, and this was read of the next one, which was not run to its end.
+-- The same until a fault: these lines were run, and this was read of the next one, within the turns that were left. It came as the line was read; or
+-- the line was read whole, or is the last one, and was not run to its end.
 pub record HostsUntil {A : Type 0} (takes : A → A → Type 0) (stops : A → A → HostFault → Type 0) (layout : Layout) (turns : ℕ)
     (source source_after : Option (List ℕ)) (link link_after : Told) (bricks bricks_after : A) (sink sink_after : Option (List ℕ)) (fault : HostFault) : Type 0 where
   pub played : List Played
   pub begun : List ℕ
+  pub taken : ℕ
   pub link_then : Told
   pub bricks_then : A
   pub sink_then : Option (List ℕ)
   pub are : ArePlayed layout (beginning turns) played
+  pub goes_on : (after_lines layout (beginning turns) played).over ≡ false
+  pub answered : (after_lines layout (beginning turns) played).waits ≡ false
+  pub turns_of : AreTurnsOf (length begun) taken
+  pub within : taken ≤ (after_lines layout (beginning turns) played).left
   pub consumed : Consumes source source_after (bytes_of played ++ begun)
   pub looked : Looked link.waiting link_then.waiting (came_in (rounds_of played))
   pub asked : Grows link.sent link_then.sent (after_lines layout (beginning turns) played).asks
   pub took : Took takes (rounds_of played) bricks bricks_then
   pub printed : Appends sink sink_then (after_lines layout (beginning turns) played).text
-  pub stopped : (let run = after_lines layout (beginning turns) played in
-      StopsLine takes stops layout (run.lines + 1) run.sent link_then link_after bricks_then bricks_after sink_then sink_after (line_of (content begun)) fault)
+  pub stopped : StopsReading begun link_then link_after bricks_then bricks_after sink_then sink_after fault
+      ⊎ ((IsWhole begun ⊎ IsLastLine source_after begun)
+      × (let run = after_lines layout (beginning turns) played in
+      StopsLine takes stops layout (run.lines + 1) run.sent (run.left - taken) link_then link_after bricks_then bricks_after sink_then sink_after
+      (line_of (content begun)) fault))

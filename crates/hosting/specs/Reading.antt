@@ -27,16 +27,24 @@ IsWhole line = (front : List ℕ) × HasNoFeed front × (line ≡ front ++ (10 �
 abbrev pub most_kept : ℕ
 most_kept = 70003
 
+-- bytes of one line: none is a line feed, or the last one alone is
+abbrev pub IsFront : List ℕ → Type 0
+IsFront bytes = HasNoFeed bytes ⊎ IsWhole bytes
+
 -- these bytes were read of a line, by so many turns
 pub record Reads (turns turns_after : ℕ) (told told_after : Option (List ℕ)) (line : List ℕ) (taken : ℕ) : Type 0 where
   pub consumes : Consumes told told_after line
   pub counted : turns ≡ turns_after + taken
   pub turns_of : AreTurnsOf (length line) taken
 
+-- the last line, without a line feed, was read to the end of the source
+abbrev pub IsLastLine : Option (List ℕ) → List ℕ → Type 0
+IsLastLine told_after line = HasNoFeed line × (1 ≤ length line) × IsAtEnd told_after
+
 -- a line was read up to its line feed; or, being the last, to the end of the source
 abbrev pub IsLine : Option (List ℕ) → List ℕ → Bool → Type 0
 IsLine told_after line false = IsWhole line
-IsLine told_after line true = HasNoFeed line × (1 ≤ length line) × IsAtEnd told_after
+IsLine told_after line true = IsLastLine told_after line
 
 -- A line was read, and this is its front; or the source was at its end; or no turn was left, and the next byte would take one.
 abbrev pub Gives : ℕ → Option (List ℕ) → List ℕ → ℕ → Option LineRead → Type 0
@@ -44,9 +52,10 @@ Gives turns_after told_after line taken (Some read) = (read.kept ≡ take most_k
 Gives turns_after told_after line taken None =
     ((line ≡ []) × IsAtEnd told_after) ⊎ (HasNoFeed line × (turns_after ≡ 0) × (length line ≡ taken * turn_bytes))
 
+-- where reading failed, all that was read is of one line
 abbrev pub Answers : ℕ → Option (List ℕ) → List ℕ → ℕ → Result (Option LineRead) HostFault → Type 0
 Answers turns_after told_after line taken (Ok one) = Gives turns_after told_after line taken one
-Answers turns_after told_after line taken (Err fault) = Unit {0}
+Answers turns_after told_after line taken (Err fault) = IsFront line
 
 -- what was read when the next line was asked for, and what that gave
 pub record ReadsLine (turns turns_after : ℕ) (told told_after : Option (List ℕ)) (result : Result (Option LineRead) HostFault) : Type 0 where

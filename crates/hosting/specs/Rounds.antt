@@ -9,10 +9,9 @@ use Rattle.fab_io.specs.Datagrams.{Grows}
 use Rattle.front.specs.Ranges.{Progress, next_of}
 use Rattle.front.specs.declared.steps.RangeAnswer.{RangeAnswer}
 use Rattle.front.specs.declared.steps.RangeStep.TheVariants as step
-use Rattle.hosting.specs.declared.commands.Command.{Command}
 use Rattle.hosting.specs.Asks.{wanted_in, Hears}
 use Rattle.hosting.specs.declared.faults.HostFault.{HostFault}
-use Rattle.hosting.specs.Commanded.{Asking, opened, asking, asks_by, after_round, asks_after}
+use Rattle.hosting.specs.Commanded.{Asking, asking, asks_by, after_round, asks_after}
 use Rattle.hosting.specs.Faults.{IsOther}
 use Rattle.serving.specs.Datagrams.{GrowsFront, Looked}
 
@@ -86,33 +85,32 @@ pub record HearsAll (port : ℕ) (before after : Asking) (link link_after : Told
 abbrev pub port_of : Layout → ℕ → ℕ
 port_of layout brick = if nat_lt brick layout.bricks then layout.port + brick else 0
 
--- so a command ended: with this answer; or no turn was left, and it waits
+-- so a range ended: with this answer; or no turn was left, and it waits
 abbrev pub EndsAs : Progress → ℕ → Option RangeAnswer → Type 0
 EndsAs range turns (Some answer) = next_of range ≡ step.End answer
 EndsAs range turns None = IsOpen range × (turns ≡ 0)
 
--- A command was run: its client asked for its operations, one after another, in rounds while turns were left.
-pub record RunsCommand (layout : Layout) (command : Command) (sent sent_after turns turns_after : ℕ) (link link_after : Told)
+-- A range was run at the brick of a port: its client asked for its operations, one after another, in rounds while turns were left.
+pub record RunsRange (port : ℕ) (range : Progress) (sent sent_after turns turns_after : ℕ) (link link_after : Told)
     (rounds : List Heard) (answer : Option RangeAnswer) : Type 0 where
-  pub heard : AreHeard (port_of layout command.brick) (asking sent (opened layout command)) rounds
+  pub heard : AreHeard port (asking sent range) rounds
   pub counted : turns ≡ turns_after + length rounds
   pub looked : Looked link.waiting link_after.waiting (came_in rounds)
-  pub asked : Grows link.sent link_after.sent
-      (asks_by (port_of layout command.brick) sent (next_of (opened layout command)) ++ asks_in (port_of layout command.brick) (asking sent (opened layout command)) rounds)
-  pub sent_is : sent_after ≡ (after_rounds (asking sent (opened layout command)) rounds).sent
-  pub ends : EndsAs (after_rounds (asking sent (opened layout command)) rounds).range turns_after answer
+  pub asked : Grows link.sent link_after.sent (asks_by port sent (next_of range) ++ asks_in port (asking sent range) rounds)
+  pub sent_is : sent_after ≡ (after_rounds (asking sent range) rounds).sent
+  pub ends : EndsAs (after_rounds (asking sent range) rounds).range turns_after answer
 
--- A command was stopped by this fault: it had these rounds, and there may have been one more look. Of the datagrams that its client asks by a
--- front was sent, and the bricks took their turns in each of the rounds.
-pub record StopsCommand {A : Type 0} (takes : A → A → Type 0) (stops : A → A → HostFault → Type 0) (layout : Layout) (command : Command) (sent : ℕ)
+-- It was stopped by this fault: it had these rounds, no more than turns were left, and there may have been one more look. Of the datagrams that its
+-- client asks by a front was sent, and the bricks took their turns in each of the rounds.
+pub record StopsRange {A : Type 0} (takes : A → A → Type 0) (stops : A → A → HostFault → Type 0) (port : ℕ) (range : Progress) (sent turns : ℕ)
     (link link_after : Told) (bricks bricks_after : A) (fault : HostFault) : Type 0 where
   pub rounds : List Heard
   pub lost : List (Option Datagram)
   pub mid : A
-  pub heard : AreHeard (port_of layout command.brick) (asking sent (opened layout command)) rounds
+  pub heard : AreHeard port (asking sent range) rounds
+  pub within : length rounds ≤ turns
   pub one_look : length lost ≤ 1
   pub looked : Looked link.waiting link_after.waiting (came_in rounds ++ lost)
-  pub asked : GrowsFront link.sent link_after.sent
-      (asks_by (port_of layout command.brick) sent (next_of (opened layout command)) ++ asks_in (port_of layout command.brick) (asking sent (opened layout command)) rounds)
+  pub asked : GrowsFront link.sent link_after.sent (asks_by port sent (next_of range) ++ asks_in port (asking sent range) rounds)
   pub took : Took takes rounds bricks mid
   pub stopped : AreStopped takes stops mid bricks_after fault

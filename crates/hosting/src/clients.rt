@@ -14,6 +14,7 @@ ghost use Rattle.hosting.specs.Faults.{AtClientLink};
 use crate::commands::{Access, Command};
 use crate::faults::HostFault;
 use crate::replies::Wanted;
+use crate::rooms::Room;
 use fab_base::{Ask, Bytes, GroupId, NoMem, Op, Refusal};
 use fab_io::{IoFault, Link};
 use fab_wire::encode;
@@ -21,6 +22,14 @@ use front::{Range, RangeAnswer, RangeStep};
 use layout::Layout;
 use messages::{ClientAsk, ClientOp, Message};
 use std::alloc::Global;
+
+/// A client's end: its link, room for a datagram, and how many datagrams it sent.
+#[derive(Drop)]
+pub(crate) struct ClientEnd<L: Link> {
+    pub(crate) link: L,
+    pub(crate) room: Room,
+    pub(crate) sent: u64,
+}
 
 /// How the range of a command stands.
 #[derive(Drop)]
@@ -178,34 +187,35 @@ fn wanted_for(layout: &Layout, ask: &Ask) -> Wanted
     }
 }
 
-/// Asks for the operation that a range wants next, if it wants one, with the number after those of the datagrams that were sent.
-pub(crate) fn ask_next<L: Link>(
-    alloc: Global,
-    layout: &Layout,
-    link: &mut L,
-    sent: &mut u64,
-    port: u16,
-    range: &mut Range<'_>,
-) -> Result<Standing, HostFault>
-    requires room { sent.old + 1 < 2 ^ 64 }
-    requires parts { IsRangeOf layout.now range.old }
-    ensures same { range.new ≡ range.old }
-    ensures stands { IfOk result (Stands range.old) }
-    ensures sent { OnOk result (sent.new ≡ sent_by sent.old (next_of range.old)) }
-    ensures few { OnOk result (sent.new ≤ sent.old + 1) }
-    ensures asks { OnOk result (Grows (L.sent link.old) (L.sent link.new) (asks_by port sent.old (next_of range.old))) }
-    ensures unsent { OnErr result (Stays (L.sent link.old) (L.sent link.new)) }
-    ensures waiting { Stays (L.waiting link.old) (L.waiting link.new) }
-    ensures only { IfErr result AtClientLink }
-    ensures kept { Kept (L.faults link.old) (L.faults link.new) (L.sound link.old) (L.sound link.new) (result ≡ Err HostFault.ClientLink) }
-{
-    match range.next()? {
-        RangeStep::Ask(ask) => {
-            let wanted = wanted_for(layout, &ask);
-            send(alloc, link, port, *sent + 1, ask)?;
-            *sent += 1;
-            Ok(Standing::Waits(wanted))
+impl<L: Link> ClientEnd<L> {
+    /// Asks for the operation that a range wants next, if it wants one, with the number after those of the datagrams that were sent.
+    pub(crate) fn ask_next(
+        &mut self,
+        alloc: Global,
+        layout: &Layout,
+        port: u16,
+        range: &mut Range<'_>,
+    ) -> Result<Standing, HostFault>
+        requires room { self.old.sent + 1 < 2 ^ 64 }
+        requires parts { IsRangeOf layout.now range.old }
+        ensures same { range.new ≡ range.old }
+        ensures stands { IfOk result (Stands range.old) }
+        ensures sent { OnOk result (self.new.sent ≡ sent_by self.old.sent (next_of range.old)) }
+        ensures few { OnOk result (self.new.sent ≤ self.old.sent + 1) }
+        ensures asks { OnOk result (Grows (L.sent self.old.link) (L.sent self.new.link) (asks_by port self.old.sent (next_of range.old))) }
+        ensures unsent { OnErr result (Stays (L.sent self.old.link) (L.sent self.new.link)) }
+        ensures waiting { Stays (L.waiting self.old.link) (L.waiting self.new.link) }
+        ensures only { IfErr result AtClientLink }
+        ensures kept { Kept (L.faults self.old.link) (L.faults self.new.link) (L.sound self.old.link) (L.sound self.new.link) (result ≡ Err HostFault.ClientLink) }
+    {
+        match range.next()? {
+            RangeStep::Ask(ask) => {
+                let wanted = wanted_for(layout, &ask);
+                send(alloc, &mut self.link, port, self.sent + 1, ask)?;
+                self.sent += 1;
+                Ok(Standing::Waits(wanted))
+            }
+            RangeStep::End(answer) => Ok(Standing::Ended(answer)),
         }
-        RangeStep::End(answer) => Ok(Standing::Ended(answer)),
     }
 }

@@ -9,6 +9,7 @@ mod hosted_bricks;
 mod hosts;
 mod reading;
 mod replies;
+mod rooms;
 mod rounds;
 mod tokens;
 

@@ -9,6 +9,7 @@ ghost use Rattle.hosting.specs.Faults.{AtClientLink};
 ghost use Rattle.serving.specs.Datagrams.{Looked};
 
 use crate::faults::HostFault;
+use crate::rooms::Room;
 use fab_base::{Answer, NoMem, Refusal};
 use fab_io::{IoFault, Link};
 use fab_wire::{WireFault, decode};
@@ -80,12 +81,11 @@ fn read_reply(
 pub(crate) fn hear<L: Link>(
     alloc: Global,
     link: &mut L,
-    room: &mut [u8],
+    room: &mut Room,
     port: u16,
     id: u64,
     wanted: Wanted,
 ) -> Result<Option<Result<Answer, Refusal>>, HostFault>
-    requires { length room.old ≡ 65535 }
     ensures heard { IfOk result (λ heard. (came : Option Datagram) × Looked (L.waiting link.old) (L.waiting link.new) (came ∷ [])
         × Hears port id wanted came heard) }
     ensures lost { OnErr result ((lost : List (Option Datagram)) × (length lost ≤ 1) × Looked (L.waiting link.old) (L.waiting link.new) lost) }
@@ -93,10 +93,10 @@ pub(crate) fn hear<L: Link>(
     ensures only { IfErr result AtClientLink }
     ensures kept { Kept (L.faults link.old) (L.faults link.new) (L.sound link.old) (L.sound link.new) (result ≡ Err HostFault.ClientLink) }
 {
-    match link.recv(room) {
+    match room.recv(link) {
         Ok(None) => Ok(None),
         Ok(Some((from, length))) => {
-            let reply = read_reply(alloc, from, port, id, wanted, &room[..length])?;
+            let reply = read_reply(alloc, from, port, id, wanted, &room.bytes()[..length])?;
             Ok(reply)
         }
         Err(IoFault::Failed) => Err(HostFault::ClientLink),

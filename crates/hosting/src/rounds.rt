@@ -8,9 +8,9 @@ ghost use Rattle.hosting.specs.declared.clients.Standing.TheVariants.{Waits};
 ghost use Rattle.hosting.specs.Commanded.{opened, asking, IsRangeOf, Stands};
 ghost use Rattle.hosting.specs.Faults.{AtClientLink, AtCommand};
 ghost use Rattle.serving.specs.Datagrams.{Looked};
-ghost use Rattle.hosting.specs.Rounds.{Heard, HearsOnce, KeepsBricks, Took, told, port_of, RunsCommand, StopsCommand};
+ghost use Rattle.hosting.specs.Rounds.{Heard, HearsOnce, KeepsBricks, Took, told, port_of, RunsRange, StopsRange};
 
-use crate::clients::{Standing, ask_next, open};
+use crate::clients::{ClientEnd, Standing, open};
 use crate::commands::Command;
 use crate::faults::HostFault;
 use crate::replies::{Wanted, hear};
@@ -43,37 +43,45 @@ pub trait Bricks {
         ensures never { sound self.old → IfErr result (λ fault. fault ≡ NoMemory) };
 }
 
-/// The client's part of a round: it looks at its link once, and where the operation that it waits for ended, it asks for the next one.
-fn hear_once<L: Link>(
-    alloc: Global,
-    layout: &Layout,
-    link: &mut L,
-    room: &mut [u8],
-    sent: &mut u64,
-    port: u16,
-    range: &mut Range<'_>,
-    wanted: Wanted,
-) -> Result<Standing, HostFault>
-    requires room { length room.old ≡ 65535 }
-    requires few { sent.old + 1 < 2 ^ 64 }
-    requires stands { Stands range.old (Waits wanted) }
-    requires parts { IsRangeOf layout.now range.old }
-    ensures hears { OnOk result ((heard : Heard) × HearsOnce port (record { sent = sent.old; range = range.old }) (record { sent = sent.new; range = range.new })
-        (told (L.waiting link.old) (L.sent link.old)) (told (L.waiting link.new) (L.sent link.new)) heard) }
-    ensures stands { IfOk result (Stands range.new) }
-    ensures parts { OnOk result (IsRangeOf layout.now range.new) }
-    ensures few { OnOk result (sent.new ≤ sent.old + 1) }
-    ensures lost { OnErr result ((lost : List (Option Datagram)) × (length lost ≤ 1) × Looked (L.waiting link.old) (L.waiting link.new) lost) }
-    ensures unsent { OnErr result (Stays (L.sent link.old) (L.sent link.new)) }
-    ensures only { IfErr result AtClientLink }
-    ensures kept { Kept (L.faults link.old) (L.faults link.new) (L.sound link.old) (L.sound link.new) (result ≡ Err HostFault.ClientLink) }
-{
-    match hear(alloc, link, room, port, *sent, wanted)? {
-        Some(end) => {
-            range.on_end(end)?;
-            ask_next(alloc, layout, link, sent, port, range)
+impl<L: Link> ClientEnd<L> {
+    /// The client's part of a round: it looks at its link once, and where the operation that it waits for ended, it asks for the next one.
+    fn hear_once(
+        &mut self,
+        alloc: Global,
+        layout: &Layout,
+        port: u16,
+        range: &mut Range<'_>,
+        wanted: Wanted,
+    ) -> Result<Standing, HostFault>
+        requires few { self.old.sent + 1 < 2 ^ 64 }
+        requires stands { Stands range.old (Waits wanted) }
+        requires parts { IsRangeOf layout.now range.old }
+        ensures hears { OnOk result ((heard : Heard) × HearsOnce port (record { sent = self.old.sent; range = range.old })
+            (record { sent = self.new.sent; range = range.new }) (told (L.waiting self.old.link) (L.sent self.old.link))
+            (told (L.waiting self.new.link) (L.sent self.new.link)) heard) }
+        ensures stands { IfOk result (Stands range.new) }
+        ensures parts { OnOk result (IsRangeOf layout.now range.new) }
+        ensures few { OnOk result (self.new.sent ≤ self.old.sent + 1) }
+        ensures lost { OnErr result ((lost : List (Option Datagram)) × (length lost ≤ 1)
+            × Looked (L.waiting self.old.link) (L.waiting self.new.link) lost) }
+        ensures unsent { OnErr result (Stays (L.sent self.old.link) (L.sent self.new.link)) }
+        ensures only { IfErr result AtClientLink }
+        ensures kept { Kept (L.faults self.old.link) (L.faults self.new.link) (L.sound self.old.link) (L.sound self.new.link) (result ≡ Err HostFault.ClientLink) }
+    {
+        match hear(
+            alloc,
+            &mut self.link,
+            &mut self.room,
+            port,
+            self.sent,
+            wanted,
+        )? {
+            Some(end) => {
+                range.on_end(end)?;
+                self.ask_next(alloc, layout, port, range)
+            }
+            None => Ok(Standing::Waits(wanted)),
         }
-        None => Ok(Standing::Waits(wanted)),
     }
 }
 
@@ -88,46 +96,78 @@ fn port_of(layout: &Layout, brick: u64) -> u16
     }
 }
 
-/// Runs a command: its client asks for the operations of its range, one after another, and takes a round for each turn until it is answered. `None`
-/// says that no turn is left, and the command waits.
-pub(crate) fn run_command<B: Bricks, L: Link>(
-    alloc: Global,
-    layout: &Layout,
-    bricks: &mut B,
-    link: &mut L,
-    room: &mut [u8],
-    sent: &mut u64,
-    turns: &mut u64,
-    command: &Command,
-) -> Result<Option<RangeAnswer>, HostFault>
-    requires room { length room.old ≡ 65535 }
-    requires few { sent.old + turns.old + 1 < 2 ^ 64 }
-    ensures runs { IfOk result (λ answer. (rounds : List Heard) × RunsCommand layout.now command.now sent.old sent.new turns.old turns.new
-        (told (L.waiting link.old) (L.sent link.old)) (told (L.waiting link.new) (L.sent link.new)) rounds answer × Took B.takes rounds bricks.old bricks.new) }
-    ensures few { OnOk result (sent.new + turns.new ≤ sent.old + turns.old + 1) }
-    ensures stopped { IfErr result (StopsCommand B.takes B.stops layout.now command.now sent.old (told (L.waiting link.old) (L.sent link.old))
-        (told (L.waiting link.new) (L.sent link.new)) bricks.old bricks.new) }
-    ensures bricks { KeepsBricks B.sound bricks.old bricks.new result }
-    ensures only { IfErr result AtCommand }
-    ensures kept { Kept (L.faults link.old) (L.faults link.new) (L.sound link.old) (L.sound link.new) (result ≡ Err HostFault.ClientLink) }
-{
-    let _ = layout.bricks();
-    let port = port_of(layout, command.brick);
-    let mut range = match open(alloc, layout, command) {
-        Ok(range) => range,
-        Err(fault) => return Err(HostFault::from(fault)),
-    };
-    let mut standing = ask_next(alloc, layout, link, sent, port, &mut range)?;
-    loop {
-        let wanted = match standing {
-            Standing::Waits(wanted) => wanted,
-            Standing::Ended(answer) => return Ok(Some(answer)),
-        };
-        if *turns == 0 {
-            return Ok(None);
+/// A client of the bricks that a process hosts: the bricks, the client's end, and how many turns are left.
+#[derive(Drop)]
+pub(crate) struct HostedClient<B: Bricks, L: Link> {
+    pub(crate) bricks: B,
+    pub(crate) end: ClientEnd<L>,
+    pub(crate) turns: u64,
+}
+
+impl<B: Bricks, L: Link> HostedClient<B, L> {
+    /// Asks the brick of a port for the operations of a range, one after another, and takes a round for each turn until the range is answered.
+    /// `None` says that no turn is left, and the client waits.
+    pub(crate) fn run_range(
+        &mut self,
+        alloc: Global,
+        layout: &Layout,
+        port: u16,
+        range: &mut Range<'_>,
+    ) -> Result<Option<RangeAnswer>, HostFault>
+        requires few { self.old.end.sent + self.old.turns + 1 < 2 ^ 64 }
+        requires parts { IsRangeOf layout.now range.old }
+        ensures runs { IfOk result (λ answer. (rounds : List Heard)
+            × RunsRange port range.old self.old.end.sent self.new.end.sent self.old.turns self.new.turns (told (L.waiting self.old.end.link)
+            (L.sent self.old.end.link)) (told (L.waiting self.new.end.link) (L.sent self.new.end.link)) rounds answer
+            × Took B.takes rounds self.old.bricks self.new.bricks) }
+        ensures few { OnOk result (self.new.end.sent + self.new.turns ≤ self.old.end.sent + self.old.turns + 1) }
+        ensures stopped { IfErr result (StopsRange B.takes B.stops port range.old self.old.end.sent self.old.turns (told (L.waiting self.old.end.link)
+            (L.sent self.old.end.link)) (told (L.waiting self.new.end.link) (L.sent self.new.end.link)) self.old.bricks self.new.bricks) }
+        ensures bricks { KeepsBricks B.sound self.old.bricks self.new.bricks result }
+        ensures only { IfErr result AtCommand }
+        ensures kept { Kept (L.faults self.old.end.link) (L.faults self.new.end.link) (L.sound self.old.end.link) (L.sound self.new.end.link)
+            (result ≡ Err HostFault.ClientLink) }
+    {
+        let mut standing = self.end.ask_next(alloc, layout, port, range)?;
+        loop {
+            let wanted = match standing {
+                Standing::Waits(wanted) => wanted,
+                Standing::Ended(answer) => return Ok(Some(answer)),
+            };
+            if self.turns == 0 {
+                return Ok(None);
+            }
+            self.turns -= 1;
+            self.bricks.take_turns()?;
+            standing = self.end.hear_once(alloc, layout, port, range, wanted)?;
         }
-        *turns -= 1;
-        bricks.take_turns()?;
-        standing = hear_once(alloc, layout, link, room, sent, port, &mut range, wanted)?;
+    }
+
+    /// Runs a command: the range of it, at its brick. `None` says that no turn is left, and the command waits.
+    pub(crate) fn run_command(
+        &mut self,
+        alloc: Global,
+        layout: &Layout,
+        command: &Command,
+    ) -> Result<Option<RangeAnswer>, HostFault>
+        requires few { self.old.end.sent + self.old.turns + 1 < 2 ^ 64 }
+        ensures runs { IfOk result (λ answer. (rounds : List Heard) × RunsRange (port_of layout.now command.now.brick) (opened layout.now command.now)
+            self.old.end.sent self.new.end.sent self.old.turns self.new.turns (told (L.waiting self.old.end.link) (L.sent self.old.end.link))
+            (told (L.waiting self.new.end.link) (L.sent self.new.end.link)) rounds answer × Took B.takes rounds self.old.bricks self.new.bricks) }
+        ensures few { OnOk result (self.new.end.sent + self.new.turns ≤ self.old.end.sent + self.old.turns + 1) }
+        ensures stopped { IfErr result (StopsRange B.takes B.stops (port_of layout.now command.now.brick) (opened layout.now command.now)
+            self.old.end.sent self.old.turns (told (L.waiting self.old.end.link) (L.sent self.old.end.link)) (told (L.waiting self.new.end.link)
+            (L.sent self.new.end.link)) self.old.bricks self.new.bricks) }
+        ensures bricks { KeepsBricks B.sound self.old.bricks self.new.bricks result }
+        ensures only { IfErr result AtCommand }
+        ensures kept { Kept (L.faults self.old.end.link) (L.faults self.new.end.link) (L.sound self.old.end.link) (L.sound self.new.end.link)
+            (result ≡ Err HostFault.ClientLink) }
+    {
+        let _ = layout.bricks();
+        let port = port_of(layout, command.brick);
+        match open(alloc, layout, command) {
+            Ok(mut range) => self.run_range(alloc, layout, port, &mut range),
+            Err(fault) => Err(HostFault::from(fault)),
+        }
     }
 }

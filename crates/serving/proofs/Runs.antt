@@ -1,7 +1,6 @@
 -- Turns that were taken so far, and how a run of turns ends.
-use Rattle.std.proofs.Common.{◌≡◌, ◌⊎◌, ℕ, ◌+◌, ◌≤◌, List, [], ◌∷◌, ◌++◌, length, Result, Ok, Err, IsOk, refl, sym, ap, ◌∙◌, subst, length-append, add-zero, inl, inr, lit≤, arith}
+use Rattle.std.proofs.Common.{◌≡◌, ◌⊎◌, ℕ, ◌+◌, ◌<◌, List, [], ◌∷◌, ◌++◌, length, Result, Ok, Err, IsOk, refl, sym, ap, ◌∙◌, subst, length-append, add-zero, inl, inr, arith}
 use Rattle.fab_base.specs.declared.identities.BrickId.{BrickId}
-use Rattle.fab_io.proofs.Told.{Stays-refl, Passes-none}
 use Rattle.protocol.specs.Nodes as machine
 use Rattle.fab_base.specs.Layouts.{Layout}
 use Rattle.protocol.specs.Settings.{Setting}
@@ -11,8 +10,7 @@ use Rattle.serving.specs.declared.faults.ServeFault.TheVariants.{Disk, Halted, L
 use Rattle.serving.specs.Serves.{Outside, RunsTurns, Stops, TakesTurn, IsServed}
 use Rattle.serving.specs.Servings.{Serving, HasNoClient, begun}
 use Rattle.serving.specs.Turns.{Turn, malformed_count, malformed_in}
-use Rattle.serving.proofs.Looks.{Looked-none}
-use Rattle.serving.proofs.Taking.{RunsTurns-none, RunsTurns-more, Stops-more, StopsBefore-look, malformed_in-append}
+use Rattle.serving.proofs.Taking.{RunsTurns-none, RunsTurns-more, Stops-more, malformed_in-append}
 
 -- so many turns were taken, and so many datagrams came in them that are no message
 pub record HasServed (setting : Setting) (me : BrickId) (from to : Serving) (before after : Outside) (count malformed : ℕ) : Type 0 where
@@ -20,10 +18,6 @@ pub record HasServed (setting : Setting) (me : BrickId) (from to : Serving) (bef
   pub count_is : length turns ≡ count
   pub runs : RunsTurns setting me from to before after turns
   pub malformed_is : malformed ≡ malformed_in turns
-
--- no turn is not too many
-none_within : (bound : ℕ) → 0 ≤ bound
-none_within bound = omega arith
 
 -- one turn more
 one_longer : (turns : List Turn) (turn : Turn) (count : ℕ) → length turns ≡ count → length (turns ++ (turn ∷ [])) ≡ count + 1
@@ -36,8 +30,8 @@ one_counted turns turn malformed more is one =
     ap (λ n. n + more) is ∙ ap (λ n. malformed_in turns + n) (one ∙ sym (add-zero (malformed_count turn.incoming)))
     ∙ sym (malformed_in-append turns (turn ∷ []))
 
-within : {count bound : ℕ} (n : ℕ) → n ≡ count → count ≤ bound → n ≤ bound
-within {bound = bound} n is few = subst (λ k. k ≤ bound) (sym is) few
+within : {count bound : ℕ} (n : ℕ) → n ≡ count → count < bound → n < bound
+within {bound = bound} n is few = subst (λ k. k < bound) (sym is) few
 
 -- what holds of a disk and a brick holds of those that are the same
 pub same_disk : {a b : Layout} {me you : BrickId} (P : Setting → BrickId → Type 0) → a ≡ b → me ≡ you → P (coding a) me → P (coding b) you
@@ -78,12 +72,12 @@ module _ (setting : Setting) (me : BrickId) where
 
     -- one of them was stopped
     pub served_stop : (mid to : Serving) (malformed : ℕ) (fault : ServeFault) → HasServed setting me (begun node) mid before between count malformed
-        → count ≤ bound → Stops setting me mid to between after [] fault → IsServed setting me node to.node before after bound (Err fault)
+        → count < bound → Stops setting me mid to between after [] fault → IsServed setting me node to.node before after bound (Err fault)
     served_stop mid to malformed fault p few stop =
         record {
           to = to;
           node_is = refl;
-          serves = (
+          serves = inr (
             p.turns,
             within (length p.turns) p.count_is few,
             Stops-more setting me (begun node) mid to before between after p.turns fault p.runs stop,
@@ -96,20 +90,17 @@ module _ (setting : Setting) (me : BrickId) where
       record {
         to = begun node;
         node_is = refl;
-        serves = (
-          [],
-          none_within bound,
-          inl
-              (StopsBefore-look setting me (begun node) outside outside [] (lit≤ tt)
-              (Looked-none outside.waiting outside.waiting (Stays-refl outside.waiting)) (Passes-none outside.coming) (Stays-refl outside.sent)),
-        );
+        serves = inl (record { no_memory = refl; left = refl; untouched = refl });
       }
 
   -- a brick that was not halted is not said to have been
   pub not_halted : (node node_after : machine.Node) (before after : Outside) (count : ℕ) (r : Result ℕ ServeFault)
       → IsServed setting me node node_after before after count r → r ≡ Err Halted → ⊥
   not_halted node node_after before after count r is e =
-      (subst (λ (s : Result ℕ ServeFault). IsServed setting me node node_after before after count s) e is).serves.2
+      elim (subst (λ (s : Result ℕ ServeFault). IsServed setting me node node_after before after count s) e is).serves [
+        | inl none ↦ absurd (let same : Halted ≡ NoMemory = none.no_memory in cc)
+        | inr stopped ↦ stopped.2
+      ]
 
 -- a run that nothing failed reaches its turns, or no memory was left
 pub sound_end : (r : Result ℕ ServeFault) → (r ≡ Err Disk → ⊥) → (r ≡ Err Link → ⊥) → (r ≡ Err Clock → ⊥) → (r ≡ Err Halted → ⊥)

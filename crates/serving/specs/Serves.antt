@@ -1,5 +1,5 @@
 -- What a serving brick did over a link and a clock: its turns, and how they ended.
-use Rattle.std.specs.Prelude.{◌≡◌, ◌⊎◌, ◌≤◌, ℕ, List, [], ◌∷◌, ◌++◌, length, Option, Result, Ok, Err}
+use Rattle.std.specs.Prelude.{◌≡◌, ◌⊎◌, ◌≤◌, ◌<◌, ℕ, List, [], ◌∷◌, ◌++◌, length, Option, Result, Ok, Err}
 use Rattle.fab_base.specs.declared.identities.BrickId.{BrickId}
 use Rattle.fab_io.specs.declared.links.Datagram.{Datagram}
 use Rattle.fab_io.specs.Datagrams.{Stays, Grows}
@@ -90,12 +90,18 @@ TakesTurn setting me from to before after (Ok malformed) =
     (turn : Turn) × RunsTurns setting me from to before after (turn ∷ []) × (malformed ≡ malformed_count turn.incoming)
 TakesTurn setting me from to before after (Err fault) = Stops setting me from to before after [] fault
 
--- All the turns were taken, and so many datagrams came that are no message; or they were stopped at one of them.
+-- No memory was left before the first turn, and nothing was done.
+pub record IsUnbegun (from to : Serving) (before after : Outside) (fault : ServeFault) : Type 0 where
+  pub no_memory : fault ≡ NoMemory
+  pub left : to ≡ from
+  pub untouched : after ≡ before
+
+-- All the turns were taken, and so many datagrams came that are no message; or they were stopped at one of them; or none was begun.
 abbrev pub Serves : Setting → BrickId → Serving → Serving → Outside → Outside → ℕ → Result ℕ ServeFault → Type 0
 Serves setting me from to before after count (Ok malformed) =
     (turns : List Turn) × (length turns ≡ count) × RunsTurns setting me from to before after turns × (malformed ≡ malformed_in turns)
 Serves setting me from to before after count (Err fault) =
-    (turns : List Turn) × (length turns ≤ count) × Stops setting me from to before after turns fault
+    IsUnbegun from to before after fault ⊎ ((turns : List Turn) × (length turns < count) × Stops setting me from to before after turns fault)
 
 -- A brick that is not halted served, from this state of the machine's brick to that.
 pub record IsServed (setting : Setting) (me : BrickId) (node node_after : machine.Node) (before after : Outside) (count : ℕ)

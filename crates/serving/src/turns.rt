@@ -68,8 +68,9 @@ impl Server {
 /// # Errors
 ///
 /// `Disk`, `Link` and `Clock` only where that thing's count of faults rose. `Halted` exactly where the brick was halted when it was called.
-/// `NoMemory` where no memory was left. After each, the brick went through some turns as after `Ok`. Of the turn in which it came nothing
-/// was done; or, after `Link` and `NoMemory`, some of its datagrams were not sent, the last ones.
+/// `NoMemory` where no memory was left; before the first turn nothing was done then. Else, after each, the brick went through fewer turns than it
+/// was to take, as after `Ok`. Of the turn in which it came nothing was done; or, after `Link` and `NoMemory`, some of its datagrams were not
+/// sent, the last ones.
 pub fn serve<D: Disk, L: Link, C: Clock>(
     alloc: Global,
     node: &mut Node<D>,
@@ -94,8 +95,7 @@ pub fn serve<D: Disk, L: Link, C: Clock>(
     ensures link { Kept (L.faults link.old) (L.faults link.new) (L.sound link.old) (L.sound link.new) (result ≡ Err ServeFault.Link) }
     ensures clock { Kept (C.faults clock.old) (C.faults clock.new) (C.sound clock.old) (C.sound clock.new) (result ≡ Err ServeFault.Clock) }
     // Over sound things a brick that is not halted reaches its turns, or finds no memory.
-    ensures sound { node.old.brick.halted ≡ false → D.sound node.old.brick.disk → L.sound link.old → C.sound clock.old
-        → IsOk result ⊎ (result ≡ Err ServeFault.NoMemory) }
+    ensures sound { node.old.brick.halted ≡ false → D.sound node.old.brick.disk → L.sound link.old → C.sound clock.old → IsOk result ⊎ (result ≡ Err ServeFault.NoMemory) }
 {
     if node.is_halted() {
         return Err(ServeFault::Halted);

@@ -12,7 +12,7 @@ use Rattle.brick.proofs.SameBricks.{same_refl}
 use Rattle.brick.proofs.commands.run_by_client.Goals as goal
 
 pub keep_link-requires : goal.keep_link-requires
-keep_link-requires g c = link_lent _ 0 c.in-Ok.link _ _ _ (lends_told _ _ _ _ _ _ c.in-Ok.ensures.lends) c.run_by_source-ending.ensures.knows
+keep_link-requires g c = link_lent _ 0 c.in-Ok.link _ _ _ (lends_told _ _ _ _ _ _ c.in-Ok.ensures.lends) c.run_by_source-bricks.ensures.knows
 
 pub returns-in-Err : goal.returns-in-Err
 returns-in-Err g c =
@@ -28,7 +28,7 @@ returns-in-Err g c =
         refl,
         refl,
       );
-      same = same_refl c.args.bricks.now.bricks.bricks;
+      same = same_refl c.args.bricks.bricks.bricks;
       runs_still = λ run not. run;
       knows = err_knows _ _ _ _ fault said.lends;
       stays = λ s sound. (said.kept.stays s, sound);
@@ -39,11 +39,11 @@ returns-in-Err g c =
 
 pub returns : goal.returns
 returns g c =
-    let ran = c.run_by_source-ending in
+    let ran = c.run_by_source-bricks in
     record {
       hosts = inr (
         c.in-Ok.link,
-        ran.new.link,
+        ran.result.1,
         record {
           began = host_seen (g.H.Host.faults c.link.new.self) (g.H.Host.asked c.link.new.self) (g.H.Host.holds c.link.new.self);
           ended = host_seen (g.H.Host.faults ran.new.host) (g.H.Host.asked ran.new.host) (g.H.Host.holds ran.new.host);
@@ -60,7 +60,7 @@ returns g c =
       );
       same = ran.ensures.same;
       runs_still = ran.ensures.runs_still;
-      knows = link_borrowed _ 0 ran.new.link _ _ _ _ (lends_told _ _ _ _ _ _ c.in-Ok.ensures.lends) ran.ensures.knows
+      knows = link_borrowed _ 0 ran.result.1 _ _ _ _ (lends_told _ _ _ _ _ _ c.in-Ok.ensures.lends) ran.ensures.knows
           (regains_told _ _ _ c.keep_link.ensures.holds);
       stays = λ s sound. (c.keep_link.ensures.sound (ran.ensures.link (c.in-Ok.ensures.gives s)) (ran.ensures.stays (c.in-Ok.ensures.kept.stays s)), ran.ensures.bricks sound);
       sink = ran.ensures.sink;

@@ -14,7 +14,7 @@ use Rattle.brick.proofs.SameBricks.{same_refl}
 use Rattle.brick.proofs.commands.run_by_clock.Goals as goal
 
 pub keep_clock-requires : goal.keep_clock-requires
-keep_clock-requires g c = clock_lent _ c.in-Ok.clock _ _ _ (lends_told _ _ _ _ _ _ c.in-Ok.ensures.lends) c.run_by_client-ending.ensures.knows
+keep_clock-requires g c = clock_lent _ c.in-Ok.clock _ _ _ (lends_told _ _ _ _ _ _ c.in-Ok.ensures.lends) c.run_by_client-timed.ensures.knows
 
 pub returns-in-Err : goal.returns-in-Err
 returns-in-Err g c =
@@ -41,13 +41,13 @@ returns-in-Err g c =
 
 pub returns : goal.returns
 returns g c =
-    let ran = c.run_by_client-ending in
+    let ran = c.run_by_client-timed in
     let began = host_seen (g.H.Host.faults c.clock.new.self) (g.H.Host.asked c.clock.new.self) (g.H.Host.holds c.clock.new.self) in
     let ended = host_seen (g.H.Host.faults ran.new.host) (g.H.Host.asked ran.new.host) (g.H.Host.holds ran.new.host) in
     record {
       hosts = inr (
         c.in-Ok.clock,
-        ran.new.bricks,
+        ran.result.0,
         refl,
         record {
           began = began;
@@ -58,8 +58,8 @@ returns g c =
             told = lends_told _ _ _ _ _ _ c.in-Ok.ensures.lends;
           };
           does = subst (λ (n : ℕ). HostsByClient g.H.Source.Source.told g.H.Source.Source.faults (views g.H.Disk.Disk g.H.Link.Link g.H.Clock.Clock)
-              c.args.layout.now c.args.turns began ended (record { bricks = record { bricks = c.args.bricks.bricks; room = n }; clock = c.in-Ok.clock }) ran.new.bricks
-              (g.K.Sink.told c.args.out.now) (g.K.Sink.told ran.new.out) ran.result)
+              c.args.layout.now c.args.turns began ended (record { bricks = record { bricks = c.args.bricks.bricks; room = n }; clock = c.in-Ok.clock }) ran.result.0
+              (g.K.Sink.told c.args.out.now) (g.K.Sink.told ran.new.out) ran.result.1)
               c.requires ran.ensures.hosts;
           asked = c.keep_clock.ensures.asked;
           faults = c.keep_clock.ensures.faults;
@@ -68,7 +68,7 @@ returns g c =
       );
       same = ran.ensures.same;
       runs_still = ran.ensures.runs_still;
-      knows = clock_borrowed _ ran.new.bricks.clock _ _ _ _ (lends_told _ _ _ _ _ _ c.in-Ok.ensures.lends) ran.ensures.knows
+      knows = clock_borrowed _ ran.result.0.clock _ _ _ _ (lends_told _ _ _ _ _ _ c.in-Ok.ensures.lends) ran.ensures.knows
           (regains_told _ _ _ c.keep_clock.ensures.holds);
       stays = λ s sound.
           let after = ran.ensures.stays (c.in-Ok.ensures.kept.stays s) (sound, c.in-Ok.ensures.gives s) in

@@ -29,7 +29,7 @@ returns-in-Err g c =
         refl,
         refl,
       );
-      same = same_refl c.args.bricks.now.bricks.bricks;
+      same = same_refl c.args.bricks.bricks.bricks;
       runs_still = λ run not. run;
       knows = err_knows _ _ _ _ fault said.lends;
       stays = said.kept.stays;
@@ -42,7 +42,7 @@ returns-in-Err g c =
 
 pub returns : goal.returns
 returns g c =
-    let ran = c.run-ending in
+    let ran = c.run-bricks in
     record {
       hosts = inr (
         c.in-Ok.source,

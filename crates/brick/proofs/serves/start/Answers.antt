@@ -16,6 +16,7 @@ returns-in-Ok-start-clause-starts g c =
     subst (λ (l : Layout). IsStarted (views g.H.Disk.Disk g.H.Link.Link g.H.Clock.Clock) l c.args.me c.args.disk c.in-Ok-start.node) c.in-Ok.ensures (record {
       layout_is = said.layout;
       me_is = said.me;
+      runs = said.runs;
       found = λ tells. (let found = said.found tells in (found.before, found.found, found.not_worn));
       state = said.state;
       shows = λ tells. (said.stands tells).has;

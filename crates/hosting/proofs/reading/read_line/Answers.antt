@@ -30,9 +30,13 @@ keep-requires g c =
 
 pub returns-in_err-keep-clause-reads : goal.returns-in_err-keep-clause-reads
 returns-in_err-keep-clause-reads g c =
+    let some : 0 < length c.in_ok-piece.piece.now = search rules in
+    let last = c.in-Some.last.now in
+    let is : last ≡ get_or c.in_ok-piece.piece.now (length c.in_ok-piece.piece.now - 1) last = search rules in
     at_err c.from_residual-in_err-keep.result
     (ReadsLine c.args.turns.now c.pay.new.turns (g.S.Source.told c.args.source.now) (g.S.Source.told c.read_piece.new.source))
-    (λ fault. ReadsLine-lost _ _ _ _ _ _ _ _ _ _ fault c.loop-paid.invariant.reading c.in_ok-piece.ensures.came c.pay.ensures.pays c.pay.ensures.few)
+    (λ fault. ReadsLine-lost _ _ _ _ _ last _ _ _ _ _ fault c.loop-paid.invariant.reading c.in_ok-piece.ensures.came c.pay.ensures.pays c.pay.ensures.few some is
+    c.in_ok-piece.ensures.stops)
     c.from_residual-in_err-keep.ensures.0
 
 pub returns-then-last-eq10-clause-reads : goal.returns-then-last-eq10-clause-reads

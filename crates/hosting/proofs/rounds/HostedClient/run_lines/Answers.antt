@@ -6,16 +6,16 @@ use Rattle.hosting.specs.declared.faults.HostFault.TheVariants.{ClientLink, Sour
 use Rattle.hosting.specs.Hosting.{HostsUntil}
 use Rattle.hosting.specs.Rounds.{KeepsBricks, told}
 use Rattle.hosting.proofs.Exits.{was_met, not_said, ok_not, source-not_link, source-not_sink, line-not_source}
-use Rattle.hosting.proofs.Running.{HasRun-none, HasRun-whole, Hosts-line, Hosts-none, some_turn, some_byte, line-read, last-end, line-whole}
+use Rattle.hosting.proofs.Running.{HasRun-begun, HasRun-whole, Hosts-line, Hosts-none, some_turn, some_byte, line-is, line-some, line-whole}
 use Rattle.hosting.proofs.Stopping.{source-other, at_exit, Keeps, Keeps-later, Keeps-moved, HostsUntil-read, HostsUntil-line}
-use Rattle.hosting.proofs.hosts.run_lines.Goals as goal
-use Rattle.hosting.proofs.hosts.run_lines.Goals.{then-waits-via-then-waits, then-waits-via-else-waits+then-line}
+use Rattle.hosting.proofs.rounds.HostedClient.run_lines.Goals as goal
+use Rattle.hosting.proofs.rounds.HostedClient.run_lines.Goals.{then-waits-via-then-waits, then-waits-via-else-waits+then-line}
 
 pub loop-line-init : goal.loop-line-init
 loop-line-init g c = record {
-  run = HasRun-none _ _ _ _ (told (g.L.Link.waiting c.args.link.now) (g.L.Link.sent c.args.link.now)) _ _;
+  run = HasRun-begun _ _ _ _ (told (g.L.Link.waiting c.args.self.now.end.link) (g.L.Link.sent c.args.self.now.end.link)) _ _ _ c.requires.begins;
   stays = λ s. s;
-  sent_few = omega arith;
+  sent_few = omega (arith, c.requires.begins);
   few = omega arith;
   link = Kept-refl _ _;
   source = Kept-refl _ _;
@@ -78,11 +78,11 @@ pub returns-then-waits-clause-hosts : goal.returns-then-waits-clause-hosts
 returns-then-waits-clause-hosts g c =
     let read = rw c.in-Some.is at c.in_ok-line.ensures.reads in
     let runs = c.in_ok-waits.ensures.runs in
-    Hosts-line _ _ _ _ _ _ (told (g.L.Link.waiting c.args.link.now) (g.L.Link.sent c.args.link.now)) _ _ _ _ _ _ _ _ _ _ _ _ _ _ _ _ _ _ c.loop-line.invariant.run read.reads
-    (c.as_slice.ensures.value ∙ read.answers.0) (line-read _ _ _ read.answers.1) runs
+    Hosts-line _ _ _ _ _ _ (told (g.L.Link.waiting c.args.self.now.end.link) (g.L.Link.sent c.args.self.now.end.link)) _ _ _ _ _ _ _ _ _ _ _ _ _ _ _ _ _ _ _ c.loop-line.invariant.run read.reads
+    (c.as_slice.ensures.value ∙ read.answers.0) read.answers.1 runs
     (elim c.then-waits.branch [
       | then-waits-via-then-waits w ↦ inr (runs.used w.if-waits.true)
-      | then-waits-via-else-waits+then-line w ↦ inl (last-end _ _ _ read.answers.1 w.if-line.true)
+      | then-waits-via-else-waits+then-line w ↦ inl w.if-line.true
     ])
 
 pub returns-then-waits-clause-link : goal.returns-then-waits-clause-link
@@ -108,7 +108,7 @@ loop-line-preserved g c =
     let whole = line-whole _ _ _ read.answers.1 c.if-line.false in
     let turn = some_turn _ _ read.reads.turns_of (some_byte _ whole) in
     record {
-      run = HasRun-whole _ _ _ _ _ _ (told (g.L.Link.waiting c.args.link.now) (g.L.Link.sent c.args.link.now)) _ _ _ _ _ _ _ _ _ _ _ _ _ _ _ _ _ _ c.loop-line.invariant.run read.reads
+      run = HasRun-whole _ _ _ _ _ _ (told (g.L.Link.waiting c.args.self.now.end.link) (g.L.Link.sent c.args.self.now.end.link)) _ _ _ _ _ _ _ _ _ _ _ _ _ _ _ _ _ _ c.loop-line.invariant.run read.reads
           (c.as_slice.ensures.value ∙ read.answers.0) whole runs c.if-waits.false;
       stays = λ s. c.run_line.ensures.bricks.stays (c.loop-line.invariant.stays s);
       sent_few = omega (arith, c.loop-line.invariant.sent_few, c.in_ok-waits.ensures.few, read.reads.counted, turn);
@@ -118,45 +118,64 @@ loop-line-preserved g c =
       sink = Kept-trans c.loop-line.invariant.sink (Kept-calm c.run_line.ensures.sink);
     }
 
+-- the turn that a line takes leaves room for its number, and for the datagrams of its command
+pub overflow_add-number : goal.overflow_add-number
+overflow_add-number g c =
+    let read = rw c.in-Some.is at c.in_ok-line.ensures.reads in
+    let turn = some_turn _ _ read.reads.turns_of (line-some _ _ _ read.answers.1) in
+    omega (arith, c.loop-line.invariant.few, read.reads.counted, turn)
+
+pub run_line-requires : goal.run_line-requires
+run_line-requires g c =
+    let read = rw c.in-Some.is at c.in_ok-line.ensures.reads in
+    let turn = some_turn _ _ read.reads.turns_of (line-some _ _ _ read.answers.1) in
+    omega (arith, c.loop-line.invariant.sent_few, read.reads.counted, turn)
+
+pub loop-line-smaller : goal.loop-line-smaller
+loop-line-smaller g c =
+    let read = rw c.in-Some.is at c.in_ok-line.ensures.reads in
+    let turn = some_turn _ _ read.reads.turns_of (line-some _ _ _ read.answers.1) in
+    omega (arith, read.reads.counted, c.in_ok-waits.ensures.runs.counted, turn)
+
 -- ---- where it is stopped
 
 pub returns-in_err-line-clause-stopped : goal.returns-in_err-line-clause-stopped
 returns-in_err-line-clause-stopped g c =
     let q = err_from_is_err_and c.from_residual.result c.from_residual.ensures.1 in
-    let before = told (g.L.Link.waiting c.args.link.now) (g.L.Link.sent c.args.link.now) in
-    let now = told (g.L.Link.waiting c.loop-line.link) (g.L.Link.sent c.loop-line.link) in
+    let before = told (g.L.Link.waiting c.args.self.now.end.link) (g.L.Link.sent c.args.self.now.end.link) in
+    let now = told (g.L.Link.waiting c.loop-line.self.end.link) (g.L.Link.sent c.loop-line.self.end.link) in
     let reads = c.in_err-line.ensures.reads in
     let met = c.in_err-line.field-0.0 in
     at_exit c.from_residual.result met
-    (λ r. IfErr r (HostsUntil g.B.Bricks.takes g.B.Bricks.stops c.args.layout.now c.args.turns (g.S.Source.told c.args.source.now) (g.S.Source.told c.read_line.new.source)
-    before now c.args.bricks.now c.loop-line.bricks (g.K.Sink.told c.args.sink.now) (g.K.Sink.told c.loop-line.sink))) q.0 q.1 q.2
-    (HostsUntil-read g.B.Bricks.takes g.B.Bricks.stops c.args.layout.now c.args.turns _ _ _ before now _ _ _ _ _ _ _ reads.line met c.loop-line.invariant.run
-    reads.reads.consumes (source-other met c.in_err-line.ensures.only))
+    (λ r. IfErr r (HostsUntil g.B.Bricks.takes g.B.Bricks.stops c.args.layout.now c.args.self.now.turns (g.S.Source.told c.args.source.now) (g.S.Source.told c.read_line.new.source)
+    before now c.args.self.now.bricks c.loop-line.self.bricks (g.K.Sink.told c.args.sink.now) (g.K.Sink.told c.loop-line.sink))) q.0 q.1 q.2
+    (HostsUntil-read g.B.Bricks.takes g.B.Bricks.stops c.args.layout.now c.args.self.now.turns _ _ _ before now _ _ _ _ _ _ _ _ _ reads.line met c.loop-line.invariant.run
+    reads.reads reads.answers c.in_err-line.ensures.only)
 
 pub returns-in_err-line-clause-bricks : goal.returns-in_err-line-clause-bricks
 returns-in_err-line-clause-bricks g c =
     let q = err_from_is_err_and c.from_residual.result c.from_residual.ensures.1 in
     let met = c.in_err-line.field-0.0 in
-    at_exit c.from_residual.result met (KeepsBricks g.B.Bricks.sound c.args.bricks.now c.loop-line.bricks) q.0 q.1 q.2
+    at_exit c.from_residual.result met (KeepsBricks g.B.Bricks.sound c.args.self.now.bricks c.loop-line.self.bricks) q.0 q.1 q.2
     (Keeps g.B.Bricks.sound _ _ (Err met) c.loop-line.invariant.stays (source-other met c.in_err-line.ensures.only))
 
 pub returns-in_err-waits-clause-stopped : goal.returns-in_err-waits-clause-stopped
 returns-in_err-waits-clause-stopped g c =
     let q = err_from_is_err_and c.from_residual-in_err-waits.result c.from_residual-in_err-waits.ensures.1 in
     let read = rw c.in-Some.is at c.in_ok-line.ensures.reads in
-    let before = told (g.L.Link.waiting c.args.link.now) (g.L.Link.sent c.args.link.now) in
-    let now = told (g.L.Link.waiting c.loop-line.link) (g.L.Link.sent c.loop-line.link) in
-    let after = told (g.L.Link.waiting c.run_line.new.link) (g.L.Link.sent c.run_line.new.link) in
+    let before = told (g.L.Link.waiting c.args.self.now.end.link) (g.L.Link.sent c.args.self.now.end.link) in
+    let now = told (g.L.Link.waiting c.loop-line.self.end.link) (g.L.Link.sent c.loop-line.self.end.link) in
+    let after = told (g.L.Link.waiting c.run_line.new.self.end.link) (g.L.Link.sent c.run_line.new.self.end.link) in
     let met = c.in_err-waits.field-0.0 in
     at_exit c.from_residual-in_err-waits.result met
-    (λ r. IfErr r (HostsUntil g.B.Bricks.takes g.B.Bricks.stops c.args.layout.now c.args.turns (g.S.Source.told c.args.source.now) (g.S.Source.told c.read_line.new.source)
-    before after c.args.bricks.now c.run_line.new.bricks (g.K.Sink.told c.args.sink.now) (g.K.Sink.told c.run_line.new.sink))) q.0 q.1 q.2
-    (HostsUntil-line g.B.Bricks.takes g.B.Bricks.stops c.args.layout.now c.args.turns _ _ _ before now after _ _ _ _ _ _ _ _ _ _ _ _ _ met c.loop-line.invariant.run
-    read.reads (c.as_slice.ensures.value ∙ read.answers.0) c.in_err-waits.ensures.stopped)
+    (λ r. IfErr r (HostsUntil g.B.Bricks.takes g.B.Bricks.stops c.args.layout.now c.args.self.now.turns (g.S.Source.told c.args.source.now) (g.S.Source.told c.read_line.new.source)
+    before after c.args.self.now.bricks c.run_line.new.self.bricks (g.K.Sink.told c.args.sink.now) (g.K.Sink.told c.run_line.new.sink))) q.0 q.1 q.2
+    (HostsUntil-line g.B.Bricks.takes g.B.Bricks.stops c.args.layout.now c.args.self.now.turns _ _ _ before now after _ _ _ _ _ _ _ _ _ _ _ _ _ met c.loop-line.invariant.run
+    read.reads (c.as_slice.ensures.value ∙ read.answers.0) (line-is _ _ _ read.answers.1) c.in_err-waits.ensures.stopped)
 
 pub returns-in_err-waits-clause-bricks : goal.returns-in_err-waits-clause-bricks
 returns-in_err-waits-clause-bricks g c =
     let q = err_from_is_err_and c.from_residual-in_err-waits.result c.from_residual-in_err-waits.ensures.1 in
     let met = c.in_err-waits.field-0.0 in
-    at_exit c.from_residual-in_err-waits.result met (KeepsBricks g.B.Bricks.sound c.args.bricks.now c.run_line.new.bricks) q.0 q.1 q.2
-    (Keeps-later g.B.Bricks.sound _ c.loop-line.bricks _ (Err met) c.loop-line.invariant.stays (Keeps-moved g.B.Bricks.sound _ _ met c.in_err-waits.ensures.bricks))
+    at_exit c.from_residual-in_err-waits.result met (KeepsBricks g.B.Bricks.sound c.args.self.now.bricks c.run_line.new.self.bricks) q.0 q.1 q.2
+    (Keeps-later g.B.Bricks.sound _ c.loop-line.self.bricks _ (Err met) c.loop-line.invariant.stays (Keeps-moved g.B.Bricks.sound _ _ met c.in_err-waits.ensures.bricks))
