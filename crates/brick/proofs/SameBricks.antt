@@ -184,7 +184,7 @@ module _ {D L C : Type 0} (v : Views D L C) where
 
 module _ {D L C : Type 0} (v : Views D L C) where
   -- no count of the disk of a brick fell
-  AreLater : List (Hosted D L) → List (Hosted D L) → Type 0
+  abbrev AreLater : List (Hosted D L) → List (Hosted D L) → Type 0
   AreLater [] [] = Unit {0}
   AreLater (x ∷ bricks) (y ∷ after) = (v.disk.faults x.node.brick.disk ≤ v.disk.faults y.node.brick.disk) × AreLater bricks after
   AreLater bricks after = ⊥
