@@ -1,5 +1,5 @@
 -- The commands were run to their end, or until a fault.
-use Rattle.std.proofs.Common.{Err, inl, inr, refl, sym, ap, ◌∙◌, subst}
+use Rattle.std.proofs.Common.{Err, inl, inr, refl, sym, ap, ◌∙◌, subst, arith}
 use Rattle.fab_base.proofs.Keeping.{Kept-narrower}
 use Rattle.brick.specs.Endings.{status_of, IsDone}
 use Rattle.brick.specs.Locals.{ending_by}
@@ -16,6 +16,9 @@ returns-in-Ok-clause-same g c = same_hosts (views g.D.Disk g.L.Link g.C.Clock) _
 
 pub returns-in-Ok-clause-runs_still : goal.returns-in-Ok-clause-runs_still
 returns-in-Ok-clause-runs_still g c = λ run not. run_hosts (views g.D.Disk g.L.Link g.C.Clock) _ _ _ _ _ _ _ _ _ _ run (rw c.in-Ok.is at c.host-bricks.ensures.hosts)
+
+pub returns-in-Ok-clause-sink : goal.returns-in-Ok-clause-sink
+returns-in-Ok-clause-sink g c = Kept-narrower (λ e. absurd (omega arith)) c.host-bricks.ensures.sink
 
 pub returns-in-Err : goal.returns-in-Err
 returns-in-Err g c =
