@@ -23,7 +23,7 @@ use Rattle.protocol.specs.Coordinators.{Coordinator, request_of}
 use Rattle.protocol.specs.Nodes.{Node, put, first_phase, new_coordinator, opened, began_in, phase_packets, top_at, view_at, view_floor}
 use Rattle.protocol.specs.Worlds.{World, Operation, world_began}
 use Rattle.protocol_laws.proofs.Books.{Books, IsOperation}
-use Rattle.protocol_laws.proofs.Said.{Begun, Stamping, Said, IsSaid, IsBegun, IsStamped, IsKnown, IsStampOf, IsCalled, FitsPhase, RequestSays, PacketSays, OperationSays, CallSays, IsInOrder, DescendsFrom, base_in, FloorsAbove}
+use Rattle.protocol_laws.proofs.Said.{Begun, Stamping, Said, IsSaid, IsBegun, IsStamped, IsKnown, IsStampOf, IsCalled, FitsPhase, ReadSays, want_of, RequestSays, PacketSays, OperationSays, CallSays, IsInOrder, DescendsFrom, base_in, FloorsAbove}
 use Rattle.protocol.proofs.Tables.{put_each, put_same, get_grown, get_one, sent_to_member}
 use Rattle.reg_model.proofs.GrowingLives.{last_grows}
 use Rattle.protocol_laws.proofs.Growth.{Grows, continues_same}
@@ -219,12 +219,24 @@ module _ (setting : Setting) (views : Views) (w : World) (stamps : Stamping) (me
     lower = λ bound is reads. absurd (other_phase (Descends bound) is);
   }
 
+  -- the first request of a read
+  read_in : (p : Phase) → first_phase ask.op ≡ p → ReadSays next later me.0 c.call (want_of p)
+  read_in p is =
+      record {
+        operation = new;
+        called = called;
+        phase = p;
+        stamp = c.stamp;
+        begun = subst (λ (p : Phase). IsBegun later me.0 c.call.boot c.call.seq c.call.phase p c.stamp) is begun_now;
+        want_is = refl;
+      }
+
   -- the first request
   request_in : (p : Phase) → first_phase ask.op ≡ p → (j seat : ℕ)
       → RequestSays setting views next later me.0 j c.call (request_of setting.code (record c { phase = p }) seat)
   unfolding request_of
-  request_in Looks is j seat = (new, called)
-  request_in (LooksAt d) is j seat = (new, called)
+  request_in Looks is j seat = read_in Looks is
+  request_in (LooksAt d) is j seat = read_in (LooksAt d) is
   request_in Orders is j seat =
       record {
         operation = new;

@@ -59,9 +59,9 @@ pub record FoundAt (setting : Setting) (views : Views) (w : World) (e j : ℕ) (
   pub block : (group : Group) (seat : ℕ) → group_in setting.layout views o.ask.group.0 e ≡ Some group → seat_in group.members j ≡ Some seat
       → (version.block ≡ []) ⊎ (version.block ≡ setting.code.encode group.m (w.contents o.ask.group.0 o.ask.stripe.0 version.stamp) seat)
 
-found_at : (setting : Setting) (views : Views) (w : World) (j i : ℕ) (call : Call) (o : Operation) (order : Stamp) (version : Version)
-    → IsOperation w (w.numbers i call.boot call.seq) o → FoundSays setting views w j i call order version → FoundAt setting views w call.view.0 j o order version
-found_at setting views w j i call o order version is says =
+found_at : (setting : Setting) (views : Views) (w : World) (stamps : Stamping) (j i : ℕ) (call : Call) (o : Operation) (order : Stamp) (version : Version)
+    → IsOperation w (w.numbers i call.boot call.seq) o → FoundSays setting views w stamps j i call order version → FoundAt setting views w call.view.0 j o order version
+found_at setting views w stamps j i call o order version is says =
     let same : says.operation ≡ o = (let e : Some says.operation ≡ Some o = sym says.called.is ∙ is in cc) in
     let group : o.ask.group.0 ≡ call.group.0 = ap (λ (p : Operation). p.ask.group.0) (sym same) ∙ says.called.group in
     let stripe : o.ask.stripe.0 ≡ call.stripe.0 = ap (λ (p : Operation). p.ask.stripe.0) (sym same) ∙ says.called.stripe in
@@ -597,10 +597,10 @@ module _ (setting : Setting) (views : Views) (sound : IsSound setting) (w : Worl
 
   tells_at : (v : Stamp) (x : Counted) → CountedSays setting views w me.0 c x → TellsVersion v x.reply → TellsAt v x
   tells_at v x says tells =
-      let told : FoundSays setting views w x.brick.0 me.0 c.call tells.order tells.version
+      let told : FoundSays setting views w stamps x.brick.0 me.0 c.call tells.order tells.version
       = subst (λ (r : Reply). ReplySays setting views w stamps x.brick (record { 0 = me.0 }) c.call r) tells.reply_is (counted_says x says) in
       let at : FoundAt setting views w c.call.view.0 x.brick.0 its_operation tells.order tells.version
-      = found_at setting views w x.brick.0 me.0 c.call its_operation tells.order tells.version its_called told in
+      = found_at setting views w stamps x.brick.0 me.0 c.call its_operation tells.order tells.version its_called told in
       let most : Stamp = stamp_max tells.order tells.version.stamp in
       let above : stamp_below most v ≡ false
       = subst (λ (t : Stamp). stamp_below most t ≡ false) tells.stamp (max_right tells.order tells.version.stamp) in

@@ -1,5 +1,5 @@
 -- The laws hold in every world that a run reaches.
-use Rattle.std.proofs.Common.{List, [], sym, ◌∙◌}
+use Rattle.std.proofs.Common.{List, [], sym}
 use Rattle.std.proofs.lemmas.List.{append-nil}
 use Rattle.protocol.specs.Settings.{Setting, IsSound}
 use Rattle.protocol.specs.Views.{Views, views_in}

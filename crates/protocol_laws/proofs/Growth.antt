@@ -34,7 +34,7 @@ use Rattle.fab_base.specs.Layouts.{brick_at}
 use Rattle.protocol_laws.specs.Laws.{WasSent, AskedAt, IsModified, IsGuarded, NeverFalls, top_in}
 use Rattle.protocol_laws.proofs.Books.{Books, OperationBooks, IsOperation}
 use Rattle.protocol_laws.proofs.Blocking.{PartsStay, blocked_stays, stands_stays, NewIsLogged}
-use Rattle.protocol_laws.proofs.Said.{Stamping, IsBegun, IsStamped, Stands, AreBlocked, IsMadeOrFirst, IsKnown, IsCalled, IsBlockOf, VersionSays, WriteSays, RequestSays, OrderedSays, OrderedReadSays, FoundSays, ReplySays, MessageSays, PacketSays, HasVersion, WritesWhole, ReadsBack, OperationSays, CountedSays, CallSays, DataShown, EndShows, FitsPhase, DescendsFrom, ToldSays, MakerSays, ChangesBlock, ModifySays, OrderSays, OrderReadSays, MadeOn, WasCollected, IsPassedOver}
+use Rattle.protocol_laws.proofs.Said.{Stamping, IsBegun, IsStamped, Stands, AreBlocked, IsMadeOrFirst, IsKnown, IsCalled, IsBlockOf, VersionSays, WriteSays, RequestSays, ReadSays, want_of, OrderedSays, OrderedReadSays, FoundSays, ReplySays, MessageSays, PacketSays, HasVersion, WritesWhole, ReadsBack, OperationSays, CountedSays, CallSays, DataShown, EndShows, FitsPhase, DescendsFrom, ToldSays, MakerSays, ChangesBlock, ModifySays, OrderSays, OrderReadSays, MadeOn, WasCollected, IsPassedOver}
 use Rattle.protocol_laws.proofs.Stampings.{StampsGrow, stays_begun, stays_stamped, stays_known}
 use Rattle.protocol_laws.proofs.Counting.{each_then}
 use Rattle.protocol.proofs.Blocks.{IsContent}
@@ -190,8 +190,9 @@ module _ (setting : Setting) (views : Views) (w next : World) (stamps later : St
     block = stays_block g e s i version.stamp version.block says.made says.block;
   }
 
-  pub stays_told : (g e s i : ℕ) (version : Version) → ToldSays setting views w g e s i version → ToldSays setting views next g e s i version
-  stays_told g e s i version says = record {
+  pub stays_told : (want : Want) (g e s i : ℕ) (version : Version) → ToldSays setting views w want g e s i version
+      → ToldSays setting views next want g e s i version
+  stays_told want g e s i version says = record {
     of = says.of;
     made = stays_made g s version.stamp says.made;
     block = ⊎_elim
@@ -199,6 +200,9 @@ module _ (setting : Setting) (views : Views) (w next : World) (stamps later : St
         (λ (block : IsBlockOf setting views w g e s i version.stamp version.block).
         inr (stays_block g e s i version.stamp version.block says.made block))
         says.block;
+    wanted = λ group seat its at wanted.
+        says.wanted group seat its at wanted
+        ∙ ap (λ content. setting.code.encode group.m content seat) (sym (grows.contents g s version.stamp says.made));
   }
 
   -- the version that a request stores was made by its operation
@@ -273,6 +277,18 @@ module _ (setting : Setting) (views : Views) (w next : World) (stamps later : St
         fits = subst (λ (a : Ask). FitsPhase Orders a.op) (sym goes.2.ask) says.fits;
       }
 
+  stays_read : (i : ℕ) (call : Call) (want : Want) → ReadSays w stamps i call want → ReadSays next later i call want
+  stays_read i call want says =
+      let goes = stays_called i call says.operation says.called in
+      record {
+        operation = goes.0;
+        called = goes.1;
+        phase = says.phase;
+        stamp = says.stamp;
+        begun = stays_phase i call.boot call.seq call.phase says.phase says.stamp says.begun;
+        want_is = says.want_is;
+      }
+
   stays_order_read : (i : ℕ) (call : Call) (t : Stamp) (look : Look) (want : Want) → OrderReadSays w stamps i call t look want
       → OrderReadSays next later i call t look want
   stays_order_read i call t look want says =
@@ -291,7 +307,7 @@ module _ (setting : Setting) (views : Views) (w next : World) (stamps later : St
 
   pub stays_request : (i j : ℕ) (call : Call) (request : Request) → RequestSays setting views w stamps i j call request
       → RequestSays setting views next later i j call request
-  stays_request i j call (Request.Read want) says = let goes = stays_called i call says.0 says.1 in (goes.0, goes.1)
+  stays_request i j call (Request.Read want) says = stays_read i call want says
   stays_request i j call (Request.Order t) says = stays_order i call t says
   stays_request i j call (Request.OrderRead t look want) says = stays_order_read i call t look want says
   stays_request i j call (Request.Write t block) says = stays_write i j call t block says
@@ -319,17 +335,20 @@ module _ (setting : Setting) (views : Views) (w next : World) (stamps later : St
         floor = subst (λ (f : ℕ → Stamp). stamp_below says.stamp (f j) ≡ false) (sym goes.2.floor) says.floor;
       }
 
-  pub stays_found : (j i : ℕ) (call : Call) (order : Stamp) (version : Version) → FoundSays setting views w j i call order version
-      → FoundSays setting views next j i call order version
+  pub stays_found : (j i : ℕ) (call : Call) (order : Stamp) (version : Version) → FoundSays setting views w stamps j i call order version
+      → FoundSays setting views next later j i call order version
   stays_found j i call order version says =
       let goes = stays_called i call says.operation says.called in
       record {
         operation = goes.0;
         called = goes.1;
+        phase = says.phase;
+        stamp = says.stamp;
+        begun = stays_phase i call.boot call.seq call.phase says.phase says.stamp says.begun;
         top = stays_above call.group.0 call.stripe.0 j (stamp_max order version.stamp) says.top;
         floor = subst (λ (f : ℕ → Stamp). stamp_below (stamp_max order version.stamp) (f j) ≡ false) (sym goes.2.floor) says.floor;
         held = grows.parts.held call.group.0 call.stripe.0 j version.stamp says.held;
-        says = stays_told call.group.0 call.view.0 call.stripe.0 j version says.says;
+        says = stays_told (want_of says.phase) call.group.0 call.view.0 call.stripe.0 j version says.says;
       }
 
   -- what was found stays the newest that is looked for, or the others are passed over, since nothing comes to be held below the promised stamp
@@ -367,7 +386,7 @@ module _ (setting : Setting) (views : Views) (w next : World) (stamps later : St
             absurd (false≢true (sym above ∙ says.below d less)))
             (grows.parts.newer call.group.0 call.stripe.0 j d held);
         held = λ version is. grows.parts.held call.group.0 call.stripe.0 j version.stamp (says.held version is);
-        says = λ version is. stays_told call.group.0 call.view.0 call.stripe.0 j version (says.says version is);
+        says = λ version is. stays_told (want_of says.phase) call.group.0 call.view.0 call.stripe.0 j version (says.says version is);
       }
 
   -- what was asked stays asked

@@ -242,34 +242,35 @@ module _ (code : Code) (m seat : ℕ) where
   handle_after full replica (Prepare ballot) = inl refl
   handle_after full replica (Accept ballot members) = inl refl
 
--- a version is told as it is kept, or without its bytes
-abbrev pub IsTold : Option Version → Option Version → Type 0
-IsTold None kept = kept ≡ None
-IsTold (Some version) kept =
+-- a version is told as it is kept, or without its bytes where these are not wanted
+abbrev pub IsTold : Bool → Option Version → Option Version → Type 0
+IsTold wanted None kept = kept ≡ None
+IsTold wanted (Some version) kept =
     (old : Version) × (kept ≡ Some old) × (version.stamp ≡ old.stamp) × ((version.block ≡ []) ⊎ (version.block ≡ old.block))
+    × (wanted ≡ true → version.block ≡ old.block)
 
 -- A member that promised t told the version that it was to look for.
-abbrev pub FoundBelow : Replica → Request → Replica → Option Version → Stamp → Type 0
-FoundBelow replica request next found t =
+abbrev pub FoundBelow : ℕ → Replica → Request → Replica → Option Version → Stamp → Type 0
+FoundBelow seat replica request next found t =
     (look : Look) × (want : Want) × (request ≡ OrderRead t look want) × (stamp_below t (top_of replica) ≡ false) × (next ≡ with_order replica t)
-    × IsTold found (looked_up look replica.log)
+    × IsTold (is_wanted want seat) found (looked_up look replica.log)
 
--- What a member's reply tells of its part before and after the request, and of how many live records it keeps, where those are as many as it may.
-abbrev pub ReactionSays : Option ℕ → Replica → Request → Replica → Reply → Type 0
-ReactionSays full replica request next (Found order (Some version)) =
-    (want : Want) × (request ≡ Read want) × IsTold (Some version) (newest_of replica.log) × (order ≡ replica.order) × (next ≡ replica)
-ReactionSays full replica request next Ordered =
+-- What the reply of a member of this seat tells of its part before and after the request, and of how many live records it keeps, where those are as many as it may.
+abbrev pub ReactionSays : ℕ → Option ℕ → Replica → Request → Replica → Reply → Type 0
+ReactionSays seat full replica request next (Found order (Some version)) =
+    (want : Want) × (request ≡ Read want) × IsTold (is_wanted want seat) (Some version) (newest_of replica.log) × (order ≡ replica.order) × (next ≡ replica)
+ReactionSays seat full replica request next Ordered =
     (t : Stamp) × (request ≡ Order t) × (stamp_below t (top_of replica) ≡ false) × (top_of next ≡ t)
-ReactionSays full replica request next (OrderedRead found) = (t : Stamp) × FoundBelow replica request next found t
-ReactionSays full replica request next Stored = (t : Stamp) × (stamp_stored request ≡ Some t) × (is_held t next.log ≡ true)
-ReactionSays full replica request next (Later x) = (t : Stamp) × (stamp_asked request ≡ Some t) × (stamp_below t x ≡ true)
-ReactionSays full replica request next (Full live) = full ≡ Some live
-ReactionSays full replica request next reply = Unit {0}
+ReactionSays seat full replica request next (OrderedRead found) = (t : Stamp) × FoundBelow seat replica request next found t
+ReactionSays seat full replica request next Stored = (t : Stamp) × (stamp_stored request ≡ Some t) × (is_held t next.log ≡ true)
+ReactionSays seat full replica request next (Later x) = (t : Stamp) × (stamp_asked request ≡ Some t) × (stamp_below t x ≡ true)
+ReactionSays seat full replica request next (Full live) = full ≡ Some live
+ReactionSays seat full replica request next reply = Unit {0}
 
 -- of a reply, if there is one
-abbrev pub SaysIf : Option ℕ → Replica → Request → Replica → Option Reply → Type 0
-SaysIf full replica request next None = Unit {0}
-SaysIf full replica request next (Some reply) = ReactionSays full replica request next reply
+abbrev pub SaysIf : ℕ → Option ℕ → Replica → Request → Replica → Option Reply → Type 0
+SaysIf seat full replica request next None = Unit {0}
+SaysIf seat full replica request next (Some reply) = ReactionSays seat full replica request next reply
 
 -- a version that was just stored is held
 held_grown : (log : List Version) (version : Version) → is_held version.stamp (log ++ (version ∷ [])) ≡ true
@@ -285,81 +286,87 @@ held_kept t (x ∷ log) more held = ⊎_elim
     (or_cases (stamp_same x.stamp t) (is_held t log) held)
 
 -- what each kind of reply tells
-ordered_says : (full : Option ℕ) (replica : Replica) (t : Stamp)
-    → SaysIf full replica (Order t) (ordered full replica t).replica (ordered full replica t).reply
-ordered_says full replica t =
-    change_cases (λ (z : Reaction). SaysIf full replica (Order t) z.replica z.reply) full replica t (promised replica t Ordered)
+ordered_says : (seat : ℕ) (full : Option ℕ) (replica : Replica) (t : Stamp)
+    → SaysIf seat full replica (Order t) (ordered full replica t).replica (ordered full replica t).reply
+ordered_says seat full replica t =
+    change_cases (λ (z : Reaction). SaysIf seat full replica (Order t) z.replica z.reply) full replica t (promised replica t Ordered)
     (λ below. (t, refl, below)) (λ live is. is)
     (λ at. (t, refl, at, top_promised replica t at))
 
 -- what is told of a version
-told_is : (wanted : Bool) (kept : Option Version) → IsTold (told_version wanted kept) kept
+told_is : (wanted : Bool) (kept : Option Version) → IsTold wanted (told_version wanted kept) kept
 told_is wanted None = refl
-told_is true (Some version) = (version, refl, refl, inr refl)
-told_is false (Some version) = (version, refl, refl, inl refl)
+told_is true (Some version) = (version, refl, refl, inr refl, λ _. refl)
+told_is false (Some version) = (version, refl, refl, inl refl, λ wanted. absurd (false≢true wanted))
 
 order_read_says : (full : Option ℕ) (replica : Replica) (t : Stamp) (look : Look) (want : Want) (seat : ℕ)
-    → SaysIf full replica (OrderRead t look want) (order_read full replica t look (is_wanted want seat)).replica
+    → SaysIf seat full replica (OrderRead t look want) (order_read full replica t look (is_wanted want seat)).replica
     (order_read full replica t look (is_wanted want seat)).reply
 order_read_says full replica t look want seat =
-    change_cases (λ (z : Reaction). SaysIf full replica (OrderRead t look want) z.replica z.reply) full replica t
+    change_cases (λ (z : Reaction). SaysIf seat full replica (OrderRead t look want) z.replica z.reply) full replica t
     (promised replica t (OrderedRead (told_version (is_wanted want seat) (looked_up look replica.log))))
     (λ under. (t, refl, under)) (λ live is. is)
     (λ at. (t, (look, want, refl, at, refl, told_is (is_wanted want seat) (looked_up look replica.log))))
 
-written_says : (full : Option ℕ) (replica : Replica) (t : Stamp) (block : List ℕ)
-    → SaysIf full replica (Write t block) (written full replica t block).replica (written full replica t block).reply
-written_says full replica t block =
-    cond_both (is_held t replica.log) (stays replica Stored) _ (λ (z : Reaction). SaysIf full replica (Write t block) z.replica z.reply)
+written_says : (seat : ℕ) (full : Option ℕ) (replica : Replica) (t : Stamp) (block : List ℕ)
+    → SaysIf seat full replica (Write t block) (written full replica t block).replica (written full replica t block).reply
+written_says seat full replica t block =
+    cond_both (is_held t replica.log) (stays replica Stored) _ (λ (z : Reaction). SaysIf seat full replica (Write t block) z.replica z.reply)
     (λ held. (t, refl, held))
-    (λ isnt. change_cases (λ (z : Reaction). SaysIf full replica (Write t block) z.replica z.reply) full replica t (stored replica t block)
+    (λ isnt. change_cases (λ (z : Reaction). SaysIf seat full replica (Write t block) z.replica z.reply) full replica t (stored replica t block)
     (λ below. (t, refl, below)) (λ live is. is)
     (λ at. (t, refl, held_grown replica.log (record { stamp = t; block = block }))))
 
 modified_says : (code : Code) (m seat : ℕ) (full : Option ℕ) (replica : Replica) (t base : Stamp) (j : ℕ) (delta : List ℕ)
-    → SaysIf full replica (Modify t base j delta) (modified code m full seat replica t base j delta).replica
+    → SaysIf seat full replica (Modify t base j delta) (modified code m full seat replica t base j delta).replica
     (modified code m full seat replica t base j delta).reply
 modified_says code m seat full replica t base j delta =
     cond_both (is_held t replica.log) (stays replica Stored) (cond (stamp_below t (top_of replica)) (stays replica (Later (top_of replica)))
     (modified_on code m full seat replica t base j delta (newest_of replica.log)))
-    (λ (z : Reaction). SaysIf full replica (Modify t base j delta) z.replica z.reply)
+    (λ (z : Reaction). SaysIf seat full replica (Modify t base j delta) z.replica z.reply)
     (λ held. (t, refl, held))
     (λ isnt. cond_both (stamp_below t (top_of replica)) (stays replica (Later (top_of replica)))
     (modified_on code m full seat replica t base j delta (newest_of replica.log))
-    (λ (z : Reaction). SaysIf full replica (Modify t base j delta) z.replica z.reply)
+    (λ (z : Reaction). SaysIf seat full replica (Modify t base j delta) z.replica z.reply)
     (λ below. (t, refl, below)) (λ at. on (newest_of replica.log)))
   where
     with_room : (f : Option ℕ) → (block : List ℕ)
-        → SaysIf f replica (Modify t base j delta) (unless_full f replica (stored replica t block)).replica (unless_full f replica (stored replica t block)).reply
+        → SaysIf seat f replica (Modify t base j delta) (unless_full f replica (stored replica t block)).replica (unless_full f replica (stored replica t block)).reply
     with_room None block = (t, refl, held_grown replica.log (record { stamp = t; block = block }))
     with_room (Some live) block = refl
 
-    on : (z : Option Version) → SaysIf full replica (Modify t base j delta) (modified_on code m full seat replica t base j delta z).replica
+    on : (z : Option Version) → SaysIf seat full replica (Modify t base j delta) (modified_on code m full seat replica t base j delta z).replica
         (modified_on code m full seat replica t base j delta z).reply
     on None = tt
     on (Some old) =
         cond_both (stamp_same old.stamp base) (unless_full full replica (stored replica t (modified_block code m j seat delta old.block)))
-        (stays replica (Behind (Some old.stamp))) (λ (z : Reaction). SaysIf full replica (Modify t base j delta) z.replica z.reply)
+        (stays replica (Behind (Some old.stamp))) (λ (z : Reaction). SaysIf seat full replica (Modify t base j delta) z.replica z.reply)
         (λ same. with_room full (modified_block code m j seat delta old.block)) (λ other. tt)
 
 -- what is told of the newest version
-told_newest : (full : Option ℕ) (replica : Replica) (want : Want) (wanted : Bool) (newest : Option Version) → newest_of replica.log ≡ newest
-    → SaysIf full replica (Read want) replica (Some (Found replica.order (told_version wanted newest)))
-told_newest full replica want wanted None is = tt
-told_newest full replica want true (Some version) is = (want, refl, (version, is, refl, inr refl), refl, refl)
-told_newest full replica want false (Some version) is = (want, refl, (version, is, refl, inl refl), refl, refl)
+told_newest : (seat : ℕ) (full : Option ℕ) (replica : Replica) (want : Want) (newest : Option Version) → newest_of replica.log ≡ newest
+    → SaysIf seat full replica (Read want) replica (Some (Found replica.order (told_version (is_wanted want seat) newest)))
+told_newest seat full replica want None is = tt
+told_newest seat full replica want (Some version) is =
+    by (told_version (is_wanted want seat) (Some version))
+    (subst (λ (kept : Option Version). IsTold (is_wanted want seat) (told_version (is_wanted want seat) (Some version)) kept) (sym is)
+    (told_is (is_wanted want seat) (Some version)))
+  where
+    by : (told : Option Version) → IsTold (is_wanted want seat) told (newest_of replica.log) → SaysIf seat full replica (Read want) replica (Some (Found replica.order told))
+    by None told = tt
+    by (Some found) told = (want, refl, told, refl, refl)
 
 -- what the reply to a request tells
 pub handle_says : (code : Code) (m : ℕ) (full : Option ℕ) (seat : ℕ) (replica : Replica) (request : Request)
-    → SaysIf full replica request (handle code m full seat replica request).replica (handle code m full seat replica request).reply
+    → SaysIf seat full replica request (handle code m full seat replica request).replica (handle code m full seat replica request).reply
 unfolding handle
-handle_says code m full seat replica (Read want) = told_newest full replica want (is_wanted want seat) (newest_of replica.log) refl
-handle_says code m full seat replica (Order t) = ordered_says full replica t
-handle_says code m full seat replica (Write t block) = written_says full replica t block
+handle_says code m full seat replica (Read want) = told_newest seat full replica want (newest_of replica.log) refl
+handle_says code m full seat replica (Order t) = ordered_says seat full replica t
+handle_says code m full seat replica (Write t block) = written_says seat full replica t block
 handle_says code m full seat replica (OrderRead t look want) = order_read_says full replica t look want seat
 handle_says code m full seat replica (Modify t base j delta) = modified_says code m seat full replica t base j delta
 handle_says code m full seat replica (Collect t) =
-    cond_both (is_held t replica.log) _ (ignored replica) (λ (z : Reaction). SaysIf full replica (Collect t) z.replica z.reply) (λ held. tt) (λ isnt. tt)
+    cond_both (is_held t replica.log) _ (ignored replica) (λ (z : Reaction). SaysIf seat full replica (Collect t) z.replica z.reply) (λ held. tt) (λ isnt. tt)
 handle_says code m full seat replica (OldRead bound) = tt
 handle_says code m full seat replica (Prepare ballot) = tt
 handle_says code m full seat replica (Accept ballot members) = tt

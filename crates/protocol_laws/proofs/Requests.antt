@@ -1,5 +1,5 @@
 -- A member handles a request: what its part of the stripe, and its reply, then say.
-use Rattle.std.proofs.Common.{◌≡◌, ℕ, ◌⊎◌, inl, inr, true, false, List, [], Option, Some, None, refl, sym, ap, ◌∙◌, subst, ⊎_elim, arith, ◌∷◌, ◌≤◌}
+use Rattle.std.proofs.Common.{◌≡◌, ℕ, ◌⊎◌, inl, inr, Bool, true, false, List, [], Option, Some, None, refl, sym, ap, ◌∙◌, subst, ⊎_elim, arith, ◌∷◌, ◌≤◌}
 use Rattle.std.specs.Prelude.{slice_get, nat_eq}
 use Rattle.std.proofs.lemmas.Bool.{cond_both, eqb-true, or_left, false≢true, cases_Bool}
 use Rattle.std.proofs.lemmas.Option.{same_Some}
@@ -14,10 +14,11 @@ use Rattle.messages.specs.declared.requests.Look.{Look}
 use Rattle.messages.specs.declared.requests.Look.TheVariants.{Below, At}
 use Rattle.fab_base.specs.Layouts.{Group, seat_in, Layout}
 use Rattle.messages.specs.declared.requests.Request.{Request}
+use Rattle.messages.specs.declared.requests.Want.{Want}
 use Rattle.messages.specs.declared.requests.Version.{Version}
 use Rattle.messages.specs.declared.replies.Reply.{Reply}
 use Rattle.protocol.specs.Settings.{Setting, Code}
-use Rattle.protocol.specs.Replicas.{Replica, Reaction, newest_of, top_of, is_held, stamp_max, looked_up, modified_block}
+use Rattle.protocol.specs.Replicas.{Replica, Reaction, newest_of, top_of, is_held, stamp_max, looked_up, modified_block, is_wanted}
 use Rattle.protocol.specs.declared.phases.Phase.{Phase}
 use Rattle.protocol.specs.declared.phases.Phase.TheVariants.{Orders, Modifies, Stores}
 use Rattle.protocol.specs.Nodes.{Node, put, with_replica, replica_at, full_at, reply_packets, view_at, view_floor, top_at}
@@ -26,7 +27,7 @@ use Rattle.protocol_laws.specs.Laws.{WasSent, AskedAt, stamp_asked, stamp_stored
 use Rattle.protocol.proofs.Served.{parts_each}
 use Rattle.protocol_laws.proofs.Books.{Books}
 use Rattle.protocol_laws.proofs.Blocking.{held_in, was_kept}
-use Rattle.protocol_laws.proofs.Said.{Stamping, Said, IsStamped, IsMadeOrFirst, IsKnown, IsCalled, VersionSays, ToldSays, MakerSays, WriteSays, ChangesBlock, ModifySays, OrderSays, OrderReadSays, RequestSays, is_looked, OrderedSays, OrderedReadSays, FoundSays, ReplySays, PacketSays, IsPassedOver, WasCollected, IsBottom}
+use Rattle.protocol_laws.proofs.Said.{Stamping, Said, IsStamped, IsMadeOrFirst, IsKnown, IsCalled, VersionSays, ToldSays, MakerSays, WriteSays, ChangesBlock, ModifySays, OrderSays, OrderReadSays, ReadSays, want_of, RequestSays, is_looked, OrderedSays, OrderedReadSays, FoundSays, ReplySays, PacketSays, IsPassedOver, WasCollected, IsBottom}
 use Rattle.protocol.proofs.Tables.{put_same, get_one}
 use Rattle.protocol_laws.proofs.Logs.{LogAscends, IsWithin, among, place_held, newest_stands, newest_held, newest_among, newest_stands_among, IsKept, IsUnder, below_above}
 use Rattle.protocol_laws.proofs.Reactions.{IsAfter, StoresBlock, IsTold, ReactionSays, SaysIf, with_order, top_promised, after_top, after_kept, after_lowest, after_newer, after_ascends, after_asked, after_log, top_is, held_top, after_order, top_order}
@@ -284,10 +285,10 @@ module _ (setting : Setting) (views : Views) (w : World) (stamps : Stamping) (me
         (subst (λ (e : ℕ). stamp_below t (top_of (part_in w call.group.0 e call.stripe.0 me.0)) ≡ false) view above))
 
     -- a version that is told as it is kept, or without its bytes, says what it should
-    told_says : (version : Version) (kept : Option Version) → IsTold (Some version) kept
+    told_says : (want : Want) (version : Version) (kept : Option Version) → IsTold (is_wanted want seat) (Some version) kept
         → ((old : Version) → kept ≡ Some old → (k : ℕ) × (slice_get before.log k ≡ Some old))
-        → ToldSays setting views w call.group.0 call.view.0 call.stripe.0 me.0 version
-    told_says version kept told place =
+        → ToldSays setting views w want call.group.0 call.view.0 call.stripe.0 me.0 version
+    told_says want version kept told place =
         let old : Version = told.0 in
         let at = place old told.1 in
         let says : VersionSays setting views w call.group.0 call.view.0 call.stripe.0 me.0 old = said.logs call.group.0 call.view.0 call.stripe.0 me.0 at.0 old at.1 in
@@ -301,12 +302,17 @@ module _ (setting : Setting) (views : Views) (w : World) (stamps : Stamping) (me
               whole ∙ says.block z k z_is at_k
               ∙ ap (λ (t : Stamp). setting.code.encode z.m (w.contents call.group.0 call.stripe.0 t) k) (sym told.2)))
               told.3;
+          wanted = at_hand
+              (λ z k. is_wanted want k ≡ true → version.block ≡ setting.code.encode z.m (w.contents call.group.0 call.stripe.0 version.stamp) k)
+              (λ wanted.
+              told.4 wanted ∙ says.block group seat group_is seat_is
+              ∙ ap (λ (t : Stamp). setting.code.encode group.m (w.contents call.group.0 call.stripe.0 t) seat) (sym told.2));
         }
 
-    found_says : (order : Stamp) (version : Version) → ReactionSays full before request part (Reply.Found order (Some version))
-        → FoundSays setting views w me.0 from.0 call order version
+    found_says : (order : Stamp) (version : Version) → ReactionSays seat full before request part (Reply.Found order (Some version))
+        → FoundSays setting views w stamps me.0 from.0 call order version
     found_says order version told =
-        let says : (o : Operation) × IsCalled w from.0 call o = asks_as (Request.Read told.0) told.1 in
+        let says : ReadSays w stamps from.0 call told.0 = asks_as (Request.Read told.0) told.1 in
         let old : Version = told.2.0 in
         let newest : newest_of before.log ≡ Some old = told.2.1 in
         let stamp : version.stamp ≡ old.stamp = told.2.2 in
@@ -314,11 +320,14 @@ module _ (setting : Setting) (views : Views) (w : World) (stamps : Stamping) (me
         = top_is before old newest ∙ ap (λ (t : Stamp). stamp_max t old.stamp) (sym told.3) ∙ ap (λ (t : Stamp). stamp_max order t) (sym stamp) in
         let stands = newest_stands before.log old newest in
         record {
-          operation = says.0;
-          called = says.1;
+          operation = says.operation;
+          called = says.called;
+          phase = says.phase;
+          stamp = says.stamp;
+          begun = says.begun;
           top = subst (λ (t : Stamp). stamp_below (top_in w call.group.0 call.stripe.0 me.0) t ≡ false) top (above_part (w.nodes me.0) (sym view));
-          floor = subst (λ (t : Stamp). stamp_below t (says.0.floor me.0) ≡ false) top
-              (floor_below says.0 says.1 (top_of before)
+          floor = subst (λ (t : Stamp). stamp_below t (says.operation.floor me.0) ≡ false) top
+              (floor_below says.operation says.called (top_of before)
               (stamp_not_below_trans (view_floor (w.nodes me.0) call.group.0) old.stamp (top_of before)
               (over old.stamp (kept_of stands.0 old stands.1))
               (held_top before old.stamp rises (newest_held before.log old newest)))
@@ -326,7 +335,8 @@ module _ (setting : Setting) (views : Views) (w : World) (stamps : Stamping) (me
           held = subst (λ (t : Stamp). w.held me.0 call.group.0 call.stripe.0 t ≡ true) (sym stamp)
               (held_in w said.logged call.group.0 call.view.0 call.stripe.0 me.0 old.stamp (kept_of stands.0 old stands.1)
               (newest_held before.log old newest));
-          says = told_says version (newest_of before.log) told.2 (λ kept is. newest_stands before.log kept is);
+          says = subst (λ (want : Want). ToldSays setting views w want call.group.0 call.view.0 call.stripe.0 me.0 version) (sym says.want_is)
+              (told_says told.0 version (newest_of before.log) told.2 (λ kept is. newest_stands before.log kept is));
         }
 
     -- a promise is at or above the operation's floor at this member
@@ -335,7 +345,7 @@ module _ (setting : Setting) (views : Views) (w : World) (stamps : Stamping) (me
     promise_above t o called p on of above =
         subst (λ (f : ℕ → Stamp). stamp_below t (f me.0) ≡ false) (sym on.floor) (floor_below o called t (over t of) above)
 
-    ordered_says : ReactionSays full before request part Reply.Ordered → OrderedSays next stamps me.0 from.0 call
+    ordered_says : ReactionSays seat full before request part Reply.Ordered → OrderedSays next stamps me.0 from.0 call
     ordered_says told =
         let says : OrderSays w stamps from.0 call told.0 = asks_as (Request.Order told.0) told.1 in
         let goes = stays_called setting views w next stamps stamps books grows from.0 call says.operation says.called in
@@ -354,25 +364,25 @@ module _ (setting : Setting) (views : Views) (w : World) (stamps : Stamping) (me
     looked_is (At u) log = refl
 
     -- what was found is the newest that was looked for
-    found_within : (found kept : Option Version) (d : Stamp) → IsTold found kept → IsWithin kept d → IsWithin found d
-    found_within None kept d told within = subst (λ (z : Option Version). IsWithin z d) told within
-    found_within (Some version) kept d told within =
+    found_within : (wanted : Bool) (found kept : Option Version) (d : Stamp) → IsTold wanted found kept → IsWithin kept d → IsWithin found d
+    found_within wanted None kept d told within = subst (λ (z : Option Version). IsWithin z d) told within
+    found_within wanted (Some version) kept d told within =
         let old : IsWithin (Some told.0) d = subst (λ (z : Option Version). IsWithin z d) told.1 within in
         subst (λ (t : Stamp). stamp_below t d ≡ false) (sym told.2) old
 
     -- what was dropped, and is looked for, is below what was found, or is passed over
-    dropped_passed : (found : Option Version) (look : Look) (t d : Stamp) → IsTold found (looked_up look before.log)
+    dropped_passed : (wanted : Bool) (found : Option Version) (look : Look) (t d : Stamp) → IsTold wanted found (looked_up look before.log)
         → stamp_below t (top_of before) ≡ false → view_of d ≡ call.view.0 → next.held me.0 call.group.0 call.stripe.0 d ≡ true → (z : List Version)
         → before.log ≡ z → IsUnder d z → IsWithin found d ⊎ IsPassedOver next call.group.0 call.view.0 call.stripe.0 look t d
-    dropped_passed found look t d told above of held [] log_is under = absurd under
-    dropped_passed found look t d told above of held (x ∷ rest) log_is less =
+    dropped_passed wanted found look t d told above of held [] log_is under = absurd under
+    dropped_passed wanted found look t d told above of held (x ∷ rest) log_is less =
         let here : is_held x.stamp before.log ≡ true
         = subst (λ (l : List Version). is_held x.stamp l ≡ true) (sym log_is)
         (or_left (stamp_same x.stamp x.stamp) (is_held x.stamp rest) (stamp_same_refl x.stamp)) in
         ⊎_elim
         (λ (looked : is_looked look x.stamp ≡ true).
         inl (within_lower found d x.stamp less
-        (found_within found (looked_up look before.log) x.stamp told
+        (found_within wanted found (looked_up look before.log) x.stamp told
         (subst (λ (z : Option Version). IsWithin z x.stamp) (sym (looked_is look before.log))
         (newest_among (is_looked look) x.stamp before.log rises here looked)))))
         (λ (unlooked : is_looked look x.stamp ≡ false). ⊎_elim
@@ -398,12 +408,12 @@ module _ (setting : Setting) (views : Views) (w : World) (stamps : Stamping) (me
             (above_part (w.nodes me.0) (sym view))))))
             (grows.parts.newer call.group.0 call.stripe.0 me.0 d held)
 
-    found_told : (found : Option Version) (kept : Option Version) (version : Version) → IsTold found kept → found ≡ Some version
-        → IsTold (Some version) kept
-    found_told found kept version told is = subst (λ (z : Option Version). IsTold z kept) is told
+    found_told : (wanted : Bool) (found : Option Version) (kept : Option Version) (version : Version) → IsTold wanted found kept → found ≡ Some version
+        → IsTold wanted (Some version) kept
+    found_told wanted found kept version told is = subst (λ (z : Option Version). IsTold wanted z kept) is told
 
     -- what was found when a stamp was promised
-    read_says : (found : Option Version) → ReactionSays full before request part (Reply.OrderedRead found)
+    read_says : (found : Option Version) → ReactionSays seat full before request part (Reply.OrderedRead found)
         → OrderedReadSays setting views next stamps me.0 from.0 call found
     read_says found told =
         let look : Look = told.1.0 in
@@ -427,22 +437,23 @@ module _ (setting : Setting) (views : Views) (w : World) (stamps : Stamping) (me
           floor = promise_above told.0 says.operation says.called goes.0 goes.2 (asked_in told.0 asked) told.1.3;
           newest = λ d of held looked. ⊎_elim
               (λ (there : is_held d before.log ≡ true).
-              inl (found_within found (looked_up look before.log) d told.1.5
+              inl (found_within (is_wanted told.1.1 seat) found (looked_up look before.log) d told.1.5
               (subst (λ (z : Option Version). IsWithin z d) (sym kept) (newest_among (is_looked look) d before.log rises there looked))))
-              (λ (under : IsUnder d before.log). dropped_passed found look told.0 d told.1.5 told.1.3 of held before.log refl under)
+              (λ (under : IsUnder d before.log). dropped_passed (is_wanted told.1.1 seat) found look told.0 d told.1.5 told.1.3 of held before.log refl under)
               (subst (λ (r : Replica). IsKept d r.log) promise
               (was_kept next grows.parts.logged call.group.0 call.view.0 call.stripe.0 me.0 d of held));
           held = λ version is.
-              let tells = found_told found (looked_up look before.log) version told.1.5 is in
+              let tells = found_told (is_wanted told.1.1 seat) found (looked_up look before.log) version told.1.5 is in
               let at = newest_stands_among (is_looked look) before.log tells.0 (sym kept ∙ tells.1) in
               grows.parts.held call.group.0 call.stripe.0 me.0 version.stamp
               (subst (λ (t : Stamp). w.held me.0 call.group.0 call.stripe.0 t ≡ true) (sym tells.2)
               (held_in w said.logged call.group.0 call.view.0 call.stripe.0 me.0 tells.0.stamp (kept_of at.0 tells.0 at.1)
               (place_held before.log at.0 tells.0 at.1)));
           says = λ version is.
-              stays_told setting views w next stamps stamps books grows call.group.0 call.view.0 call.stripe.0 me.0 version
-              (told_says version (looked_up look before.log) (found_told found (looked_up look before.log) version told.1.5 is)
-              (λ old old_is. newest_stands_among (is_looked look) before.log old (sym kept ∙ old_is)));
+              stays_told setting views w next stamps stamps books grows (want_of says.phase) call.group.0 call.view.0 call.stripe.0 me.0 version
+              (subst (λ (want : Want). ToldSays setting views w want call.group.0 call.view.0 call.stripe.0 me.0 version) (sym says.want_is)
+              (told_says told.1.1 version (looked_up look before.log) (found_told (is_wanted told.1.1 seat) found (looked_up look before.log) version told.1.5 is)
+              (λ old old_is. newest_stands_among (is_looked look) before.log old (sym kept ∙ old_is))));
         }
 
     later_asked : (t : Stamp) → stamp_asked request ≡ Some t → AskedAt next call from me t
@@ -457,7 +468,7 @@ module _ (setting : Setting) (views : Views) (w : World) (stamps : Stamping) (me
         (λ fewer told. cc)
         is
 
-    reply_says : (r : Reply) → ReactionSays full before request part r → ReplySays setting views next stamps me from call r
+    reply_says : (r : Reply) → ReactionSays seat full before request part r → ReplySays setting views next stamps me from call r
     reply_says (Reply.Found order (Some version)) told =
         stays_found setting views w next stamps stamps books grows me.0 from.0 call order version (found_says order version told)
     reply_says Reply.Ordered told = ordered_says told
@@ -476,7 +487,7 @@ module _ (setting : Setting) (views : Views) (w : World) (stamps : Stamping) (me
     reply_says r told = tt
 
     -- its reply says what it should
-    pub reply_packets_say : (o : Option Reply) → SaysIf full before request part o → (k : ℕ) (packet : Packet)
+    pub reply_packets_say : (o : Option Reply) → SaysIf seat full before request part o → (k : ℕ) (packet : Packet)
         → slice_get (reply_packets me from call o) k ≡ Some packet → PacketSays setting views next stamps packet
     reply_packets_say None says k packet is = cc
     reply_packets_say (Some r) says k packet is =

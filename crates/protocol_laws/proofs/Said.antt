@@ -28,7 +28,7 @@ use Rattle.reg_model.specs.Registers.{after_op, read_of}
 use Rattle.fab_base.specs.Layouts.{Group, group_of, seat_in}
 use Rattle.protocol.specs.Views.{Views, group_in, view_of, floor_of}
 use Rattle.protocol.specs.Settings.{Setting}
-use Rattle.protocol.specs.Replicas.{top_of, stamp_max, modified_block}
+use Rattle.protocol.specs.Replicas.{top_of, stamp_max, modified_block, is_wanted}
 use Rattle.protocol.specs.declared.phases.Phase.{Phase}
 use Rattle.protocol.specs.declared.phases.Phase.TheVariants.{Looks, LooksAt, Orders, OrdersAt, Recovers, Descends, Modifies, Bases, Stores}
 use Rattle.protocol.specs.declared.phases.Counted.{Counted}
@@ -167,11 +167,13 @@ module _ (setting : Setting) (views : Views) (w : World) where
     pub made : IsMadeOrFirst w g s version.stamp
     pub block : IsBlockOf setting views w g e s i version.stamp version.block
 
-  -- a version that brick i told of view e: its block, unless that was not wanted
-  pub record ToldSays (g e s i : ℕ) (version : Version) : Type 0 where
+  -- a version that brick i told of view e, where this was wanted: its block, unless that was not wanted
+  pub record ToldSays (want : Want) (g e s i : ℕ) (version : Version) : Type 0 where
     pub of : view_of version.stamp ≡ e
     pub made : IsMadeOrFirst w g s version.stamp
     pub block : (version.block ≡ []) ⊎ IsBlockOf setting views w g e s i version.stamp version.block
+    pub wanted : (group : Group) (seat : ℕ) → group_in setting.layout views g e ≡ Some group → seat_in group.members i ≡ Some seat
+        → is_wanted want seat ≡ true → version.block ≡ setting.code.encode group.m (w.contents g s version.stamp) seat
 
   -- a request, of this phase of its call, to store version t, which its operation made
   pub record MakerSays (stamps : Stamping) (from to : ℕ) (call : Call) (phase : Phase) (t : Stamp) : Type 0 where
@@ -202,6 +204,15 @@ pub record ModifySays (setting : Setting) (views : Views) (w : World) (stamps : 
   pub base_made : IsMadeOrFirst w call.group.0 call.stripe.0 base
   pub changes : (group : Group) (seat : ℕ) → group_in setting.layout views call.group.0 call.view.0 ≡ Some group → seat_in group.members to ≡ Some seat
       → ChangesBlock setting w call.group.0 call.stripe.0 t base j sent group seat
+
+-- a request for the newest version, of a phase of its call
+pub record ReadSays (w : World) (stamps : Stamping) (i : ℕ) (call : Call) (want : Want) : Type 0 where
+  pub operation : Operation
+  pub called : IsCalled w i call operation
+  pub phase : Phase
+  pub stamp : Stamp
+  pub begun : IsBegun stamps i call.boot call.seq call.phase phase stamp
+  pub want_is : want_of phase ≡ want
 
 -- an order, of a phase of its call, that tells the version looked for
 pub record OrderReadSays (w : World) (stamps : Stamping) (i : ℕ) (call : Call) (t : Stamp) (look : Look) (want : Want) : Type 0 where
@@ -250,7 +261,7 @@ pub record IsPassedOver (w : World) (g e s : ℕ) (look : Look) (t d : Stamp) : 
 
 -- what a request of brick i to brick j says
 abbrev pub RequestSays : Setting → Views → World → Stamping → ℕ → ℕ → Call → Request → Type 0
-RequestSays setting views w stamps i j call (Request.Read want) = (o : Operation) × IsCalled w i call o
+RequestSays setting views w stamps i j call (Request.Read want) = ReadSays w stamps i call want
 RequestSays setting views w stamps i j call (Request.Order t) = OrderSays w stamps i call t
 RequestSays setting views w stamps i j call (Request.OrderRead t look want) = OrderReadSays w stamps i call t look want
 RequestSays setting views w stamps i j call (Request.Write t block) = WriteSays setting views w stamps i j call t block
@@ -285,20 +296,23 @@ module _ (setting : Setting) (views : Views) (w : World) where
     pub newest : (d : Stamp) → view_of d ≡ call.view.0 → w.held j call.group.0 call.stripe.0 d ≡ true → is_looked look d ≡ true
         → IsWithin found d ⊎ IsPassedOver w call.group.0 call.view.0 call.stripe.0 look stamp d
     pub held : (version : Version) → found ≡ Some version → w.held j call.group.0 call.stripe.0 version.stamp ≡ true
-    pub says : (version : Version) → found ≡ Some version → ToldSays setting views w call.group.0 call.view.0 call.stripe.0 j version
+    pub says : (version : Version) → found ≡ Some version → ToldSays setting views w (want_of phase) call.group.0 call.view.0 call.stripe.0 j version
 
   -- what brick j found
-  pub record FoundSays (j i : ℕ) (call : Call) (order : Stamp) (version : Version) : Type 0 where
+  pub record FoundSays (stamps : Stamping) (j i : ℕ) (call : Call) (order : Stamp) (version : Version) : Type 0 where
     pub operation : Operation
     pub called : IsCalled w i call operation
+    pub phase : Phase
+    pub stamp : Stamp
+    pub begun : IsBegun stamps i call.boot call.seq call.phase phase stamp
     pub top : stamp_below (top_in w call.group.0 call.stripe.0 j) (stamp_max order version.stamp) ≡ false
     pub floor : stamp_below (stamp_max order version.stamp) (operation.floor j) ≡ false
     pub held : w.held j call.group.0 call.stripe.0 version.stamp ≡ true
-    pub says : ToldSays setting views w call.group.0 call.view.0 call.stripe.0 j version
+    pub says : ToldSays setting views w (want_of phase) call.group.0 call.view.0 call.stripe.0 j version
 
   -- what a reply of brick `from` to brick `to` says
   abbrev pub ReplySays : Stamping → BrickId → BrickId → Call → Reply → Type 0
-  ReplySays stamps from to call (Reply.Found order (Some version)) = FoundSays from.0 to.0 call order version
+  ReplySays stamps from to call (Reply.Found order (Some version)) = FoundSays stamps from.0 to.0 call order version
   ReplySays stamps from to call Reply.Ordered = OrderedSays w stamps from.0 to.0 call
   ReplySays stamps from to call (Reply.OrderedRead found) = OrderedReadSays stamps from.0 to.0 call found
   ReplySays stamps from to call Reply.Stored =

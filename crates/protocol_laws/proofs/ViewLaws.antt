@@ -19,21 +19,24 @@ use Rattle.fab_base.proofs.Seats.{seat_within, brick_at_seat}
 use Rattle.messages.specs.declared.calls.Call.{Call}
 use Rattle.messages.specs.declared.requests.Request.{Request}
 use Rattle.messages.specs.declared.requests.Version.{Version}
+use Rattle.messages.specs.declared.requests.Want.{Want}
 use Rattle.messages.specs.declared.replies.Reply.{Reply}
 use Rattle.quorum.specs.Quorums.{IsWithinLimits}
 use Rattle.quorum.proofs.Counts.{count_monotone}
 use Rattle.protocol.specs.Settings.{Setting, IsSound}
 use Rattle.protocol.specs.Views.{Views, layout_views, view_of, group_in, views_in, first_learn, group_kept}
-use Rattle.protocol.specs.Replicas.{is_held}
+use Rattle.protocol.specs.Replicas.{is_held, is_wanted}
+use Rattle.protocol.specs.declared.phases.Phase.{Phase}
 use Rattle.protocol.specs.declared.phases.Phase.TheVariants.{Modifies, Stores}
 use Rattle.protocol.specs.Coordinators.{told_in}
 use Rattle.protocol.specs.Nodes.{view_at}
 use Rattle.protocol.specs.Worlds.{World, Event, first_world, run, Operation}
-use Rattle.protocol_laws.specs.Laws.{part_in, top_in, EveryRunFollowsItsViews, Follows, RunFollows, IsBlocked, RequestSent, OneContent, BasesAreNewest, WritesAreGuarded, NoEventLowers, IsLost, NeverSurfaces, CollectsStand, IsHeldByQuorum, DropsOnlyOlder, NothingFalls}
+use Rattle.protocol_laws.specs.Laws.{part_in, top_in, EveryRunFollowsItsViews, Follows, RunFollows, IsBlocked, RequestSent, want_in, OneContent, BasesAreNewest, WritesAreGuarded, NoEventLowers, IsLost, NeverSurfaces, CollectsStand, IsHeldByQuorum, DropsOnlyOlder, NothingFalls}
 use Rattle.protocol_laws.proofs.FirstViews.{own_members, view_first}
 use Rattle.protocol_laws.proofs.Logs.{below_above, IsUnder, IsKept, place_held}
 use Rattle.protocol_laws.proofs.Blocking.{was_kept, passes_by, passes, blocked_by, blocked_stays, blocked_never_stands, count_split}
-use Rattle.protocol_laws.proofs.Said.{Stamping, Said, IsBlockOf, ToldSays, MakerSays, WriteSays, ModifySays, RequestSays, ReplySays, WritesWhole, ReadsBack, WasCollected, Stands, CollectSays, IsBottom}
+use Rattle.protocol_laws.proofs.Said.{Stamping, Said, IsBegun, want_of, IsBlockOf, ToldSays, MakerSays, WriteSays, ModifySays, RequestSays, ReplySays, WritesWhole, ReadsBack, WasCollected, Stands, CollectSays, IsBottom}
+use Rattle.protocol_laws.proofs.Stampings.{begun_once}
 use Rattle.protocol_laws.proofs.Falls.{parts_stay}
 
 module _ (setting : Setting) (views : Views) (w : World) (stamps : Stamping) (said : Said setting views w stamps) where
@@ -44,12 +47,26 @@ module _ (setting : Setting) (views : Views) (w : World) (stamps : Stamping) (sa
 
   -- the version that a reply tells has its content
   found_says : (from to : BrickId) (call : Call) (reply : Reply) (version : Version) → ReplySays setting views w stamps from to call reply
-      → told_in reply ≡ Some version → ToldSays setting views w call.group.0 call.view.0 call.stripe.0 from.0 version
+      → told_in reply ≡ Some version → (phase : Phase) × (stamp : Stamp) × IsBegun stamps to.0 call.boot call.seq call.phase phase stamp
+      × ToldSays setting views w (want_of phase) call.group.0 call.view.0 call.stripe.0 from.0 version
   found_says from to call (Reply.Found order (Some found)) version says told =
-      let same : found ≡ version = same_Some found version told in
-      subst (λ (z : Version). ToldSays setting views w call.group.0 call.view.0 call.stripe.0 from.0 z) same says.says
-  found_says from to call (Reply.OrderedRead found) version says told = says.says version told
+      let same : found ≡ version = same_Some found version told in (
+        says.phase,
+        says.stamp,
+        says.begun,
+        subst (λ (z : Version). ToldSays setting views w (want_of says.phase) call.group.0 call.view.0 call.stripe.0 from.0 z) same says.says,
+      )
+  found_says from to call (Reply.OrderedRead found) version says told = (says.phase, says.stamp, says.begun, says.says version told)
   found_says from to call reply version says told = cc
+
+  -- a request wants what its phase does
+  wants_says : (from to : ℕ) (call : Call) (request : Request) (want : Want) → RequestSays setting views w stamps from to call request
+      → want_in request ≡ Some want → (phase : Phase) × (stamp : Stamp) × IsBegun stamps from call.boot call.seq call.phase phase stamp × (want_of phase ≡ want)
+  wants_says from to call (Request.Read found) want says is =
+      let same : found ≡ want = cc in (says.phase, says.stamp, says.begun, says.want_is ∙ same)
+  wants_says from to call (Request.OrderRead t look found) want says is =
+      let same : found ≡ want = cc in (says.phase, t, says.begun, says.want_is ∙ same)
+  wants_says from to call request want says is = cc
 
   pub one_content : OneContent setting views w
   one_content = record {
@@ -71,13 +88,20 @@ module _ (setting : Setting) (views : Views) (w : World) (stamps : Stamping) (sa
           (change.delta, change.sent_is, change.is),
         );
     found = λ call from to seat reply version group found at sent told.
-        let says = found_says from to call reply version
-        (said.packets sent.0 (record { from = from; to = to; message = Message.Reply call reply }) sent.1) told in
+        let says = (found_says from to call reply version
+        (said.packets sent.0 (record { from = from; to = to; message = Message.Reply call reply }) sent.1) told).3 in
         ⊎_elim
         (λ (none : version.block ≡ []). inl none)
         (λ (whole : IsBlockOf setting views w call.group.0 call.view.0 call.stripe.0 from.0 version.stamp version.block).
         inr (whole group seat found at))
         says.block;
+    wanted = λ call from to seat request want reply version group found at asked wants wanted sent told.
+        let asks = wants_says to.0 from.0 call request want (sent_says call to from request asked) wants in
+        let says = found_says from to call reply version
+        (said.packets sent.0 (record { from = from; to = to; message = Message.Reply call reply }) sent.1) told in
+        let same : asks.0 ≡ says.0 = (begun_once stamps to.0 call.boot call.seq call.phase asks.0 says.0 asks.1 says.1 asks.2 says.2).0 in
+        says.3.wanted group seat found at
+        (subst (λ (z : Want). is_wanted z seat ≡ true) (sym asks.3 ∙ ap want_of same) wanted);
     kept = λ g e s i seat k version group found seat_is at. (said.logs g e s i k version at).block group seat found seat_is;
   }
 

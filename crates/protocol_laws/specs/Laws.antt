@@ -14,7 +14,7 @@ use Rattle.messages.specs.declared.packets.Packet.{Packet}
 use Rattle.messages.specs.declared.requests.Version.{Version}
 use Rattle.messages.specs.declared.requests.Request.{Request}
 use Rattle.messages.specs.declared.requests.Look.TheVariants as Look
-use Rattle.messages.specs.declared.requests.Want.TheVariants as Want
+use Rattle.messages.specs.declared.requests.Want.{Want}
 use Rattle.messages.specs.declared.replies.Reply.{Reply}
 use Rattle.quorum.specs.Quorums.{count}
 use Rattle.reg_model.specs.declared.marks.Mark.TheVariants.{End}
@@ -26,7 +26,7 @@ use Rattle.fab_base.specs.Layouts.{Layout, Group, group_of, seat_in, brick_at}
 use Rattle.quorum.specs.Quorums.{quorum_of, IsWithinLimits}
 use Rattle.protocol.specs.Settings.{Setting, IsSound}
 use Rattle.protocol.specs.Views.{Views, views_in, view_of, floor_of, group_in}
-use Rattle.protocol.specs.Replicas.{Replica, is_held}
+use Rattle.protocol.specs.Replicas.{Replica, is_held, is_wanted}
 use Rattle.protocol.specs.declared.phases.Counted.{Counted}
 use Rattle.protocol.specs.declared.phases.Phase.TheVariants.{Bases}
 use Rattle.protocol.specs.Coordinators.{Coordinator, most_rounds, greatest_refuser, lowest_full, told_in, counts_at, with_reply, pieces_at, delta_at}
@@ -99,8 +99,14 @@ pub record IsModified (setting : Setting) (w : World) (group stripe : ℕ) (vers
   pub delta_is : delta ≡ setting.code.delta (block_of setting.layout.block j (w.contents group stripe base)) (block_of setting.layout.block j (w.contents group stripe version))
   pub others : w.contents group stripe version ≡ with_block setting.layout.block j (block_of setting.layout.block j (w.contents group stripe version)) (w.contents group stripe base)
 
+-- whose block a request wants to be told, if it has a version told
+abbrev pub want_in : Request → Option Want
+want_in (Request.Read want) = Some want
+want_in (Request.OrderRead t look want) = Some want
+want_in request = None
+
 -- One stamp has one content: each block of a version that was sent, or was found, or is kept is its seat's
--- block of the version's content, the seat being one of the view of the message, or of the part; but one that was found and not wanted is empty. What a
+-- block of the version's content, the seat being one of the view of the message, or of the part; but one that was found and not wanted may be empty. What a
 -- member is sent to modify a base by is what data block j changes by from the base's content to the version's, where that changes its seat's block, and
 -- else nothing; all other data blocks are the base's.
 pub record OneContent (setting : Setting) (views : Views) (w : World) : Type 0 where
@@ -116,6 +122,11 @@ pub record OneContent (setting : Setting) (views : Views) (w : World) : Type 0 w
       → group_in setting.layout views call.group.0 call.view.0 ≡ Some group → seat_in group.members from.0 ≡ Some seat
       → WasSent w (record { from = from; to = to; message = Message.Reply call reply }) → told_in reply ≡ Some version
       → (version.block ≡ []) ⊎ (version.block ≡ setting.code.encode group.m (w.contents call.group.0 call.stripe.0 version.stamp) seat)
+  pub wanted : (call : Call) (from to : BrickId) (seat : ℕ) (request : Request) (want : Want) (reply : Reply) (version : Version) (group : Group)
+      → group_in setting.layout views call.group.0 call.view.0 ≡ Some group → seat_in group.members from.0 ≡ Some seat
+      → RequestSent w call to from request → want_in request ≡ Some want → is_wanted want seat ≡ true
+      → WasSent w (record { from = from; to = to; message = Message.Reply call reply }) → told_in reply ≡ Some version
+      → version.block ≡ setting.code.encode group.m (w.contents call.group.0 call.stripe.0 version.stamp) seat
   pub kept : (number view stripe brick seat k : ℕ) (version : Version) (group : Group) → group_in setting.layout views number view ≡ Some group
       → seat_in group.members brick ≡ Some seat → slice_get (part_in w number view stripe brick).log k ≡ Some version
       → version.block ≡ setting.code.encode group.m (w.contents number stripe version.stamp) seat

@@ -26,7 +26,8 @@ pub fn every_run_follows_its_views()
 ///   that was answered is among them.
 /// - Versions follow real time (Frølund et al., "A Decentralized Algorithm for Erasure-Coded Virtual Disks", DSN 2004).
 /// - One stamp has one content: every block that was sent to be written under a stamp, that was found under it, or that a member
-///   keeps under it, is its seat's block of that content. What is sent to modify a base is what one data block changes by from the
+///   keeps under it, is its seat's block of that content. A member that is asked for its block with a version, and tells one, tells
+///   that block. What is sent to modify a base is what one data block changes by from the
 ///   base's content to the version's, and every other data block is the base's.
 /// - Whenever a version was sent to be stored, a quorum of its view took nothing below its stamp then, and has so ever since; and its
 ///   operation had not ended.
@@ -54,7 +55,7 @@ pub fn every_run_follows_its_views()
 /// - Each answer has the word of its operation: a read is answered the data of its block, or of its m blocks, a write that it is
 ///   done; any may be aborted.
 /// - Marks are well formed: positions and numbers rise, and only an operation that is open ends. They have no gaps: positions are
-///   0, 1, 2 and so on, and operations are numbered 1, 2, 3 and so on.
+///   0, 1, 2 and so on, and operations are numbered 1, 2, 3 and so on. The number of an operation's marks is that of the operation.
 pub fn every_run_keeps_the_laws()
     ensures { EveryRunKeepsTheLaws }
 {}
