@@ -31,7 +31,7 @@ use Rattle.protocol.specs.declared.phases.Phase.TheVariants.{Modifies, Stores}
 use Rattle.protocol.specs.Coordinators.{told_in}
 use Rattle.protocol.specs.Nodes.{view_at}
 use Rattle.protocol.specs.Worlds.{World, Event, first_world, run, Operation}
-use Rattle.protocol_laws.specs.Laws.{part_in, top_in, EveryRunFollowsItsViews, Follows, RunFollows, IsBlocked, RequestSent, want_in, OneContent, BasesAreNewest, WritesAreGuarded, NoEventLowers, IsLost, NeverSurfaces, CollectsStand, IsHeldByQuorum, DropsOnlyOlder, NothingFalls}
+use Rattle.protocol_laws.specs.Laws.{part_in, top_in, EveryRunFollowsItsViews, EveryRunKeepsItsMembers, Follows, RunFollows, IsBlocked, RequestSent, want_in, OneContent, BasesAreNewest, WritesAreGuarded, NoEventLowers, IsLost, NeverSurfaces, CollectsStand, IsHeldByQuorum, DropsOnlyOlder, NothingFalls}
 use Rattle.protocol_laws.proofs.FirstViews.{own_members, view_first}
 use Rattle.protocol_laws.proofs.Logs.{below_above, IsUnder, IsKept, place_held}
 use Rattle.protocol_laws.proofs.Blocking.{was_kept, passes_by, passes, blocked_by, blocked_stays, blocked_never_stands, count_split}
@@ -197,8 +197,7 @@ none_taught g e (packet ∷ packets) are =
     skipped message is = refl
 
 -- so they are the layout's in every view
-views_are : (setting : Setting) (events : List Event) (g e : ℕ)
-    → views_in setting.layout (run setting events (first_world setting.layout)).packets g e ≡ layout_views setting.layout g e
+pub views_are : EveryRunKeepsItsMembers
 views_are setting events g e =
     let packets : List Packet = (run setting events (first_world setting.layout)).packets in
     cond_both (nat_lt 1 e) (unwrap_or (option_map (λ (view : View). view.members) (first_learn g e packets)) (layout_views setting.layout g e))

@@ -25,7 +25,7 @@ use Rattle.reg_model.specs.Walk.{last_of}
 use Rattle.fab_base.specs.Layouts.{Layout, Group, group_of, seat_in, brick_at}
 use Rattle.quorum.specs.Quorums.{quorum_of, IsWithinLimits}
 use Rattle.protocol.specs.Settings.{Setting, IsSound}
-use Rattle.protocol.specs.Views.{Views, views_in, view_of, floor_of, group_in}
+use Rattle.protocol.specs.Views.{Views, layout_views, views_in, view_of, floor_of, group_in}
 use Rattle.protocol.specs.Replicas.{Replica, is_held, is_wanted}
 use Rattle.protocol.specs.declared.phases.Counted.{Counted}
 use Rattle.protocol.specs.declared.phases.Phase.TheVariants.{Bases}
@@ -75,6 +75,12 @@ abbrev pub EveryRunFollowsItsViews : Type 0
 EveryRunFollowsItsViews =
     (setting : Setting) (events : List Event) → IsSound setting
     → RunFollows setting (views_in setting.layout (run setting events (first_world setting.layout)).packets) events
+
+-- the members that a run's messages teach are the layout's, in every view: no message names any yet
+abbrev pub EveryRunKeepsItsMembers : Type 0
+EveryRunKeepsItsMembers =
+    (setting : Setting) (events : List Event) (group view : ℕ)
+    → views_in setting.layout (run setting events (first_world setting.layout)).packets group view ≡ layout_views setting.layout group view
 
 -- a request was sent, under a call, to a brick
 abbrev pub RequestSent : World → Call → BrickId → BrickId → Request → Type 0
