@@ -1,0 +1,4 @@
+pub mod LeftBricks
+pub mod Replacing
+pub mod Soundness
+mod Worked

@@ -1,0 +1,2 @@
+pub mod Suspicions
+pub mod Replacements
