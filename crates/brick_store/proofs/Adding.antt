@@ -132,7 +132,7 @@ module _ {D : Type 0} (d : on_disk.Ghosts D) where
         (slots_both (IsCached frames.shape.block blocks) (SameUnder blocks now) (state_of index) standing.cached_all same);
     zero_is = standing.zero_is;
     on_disk = λ told runs. let was = standing.on_disk told runs in record {
-      durable = was.durable;
+      only = was.only;
       shows = was.shows;
       closed = was.closed;
       stored = slots_imply (λ slot. IsStored frames.shape blocks (d.seen frames.disk) slot × SameUnder blocks now slot)

@@ -189,7 +189,7 @@ module _ {D : Type 0} (d : on_disk.Ghosts D) where
     runs = runs;
     leads = standing.indexed.leads;
     settled = λ told. let was = standing.on_disk told runs in
-        record { durable = was.durable; shows = was.shows; closed = was.closed };
+        record { only = was.only; shows = was.shows; closed = was.closed };
   }
 
   -- what the change of the list says of the whole call
@@ -282,7 +282,7 @@ module _ {D : Type 0} (d : on_disk.Ghosts D) where
       on_new : (st : StateOf Entry) → d.tells → new.halted ≡ false → Only (d.seen new.disk) (d.may_leave new.disk)
           → AllSlots (IsStored old.shape blocks (d.seen new.disk)) st → IsOnDisk d.tells d.seen d.may_leave blocks new st
       on_new st told runs only stored = record {
-        durable = record { told = told; runs = runs; only = only };
+        only = only;
         shows = step.shows told runs;
         closed = step.closed (standing.on_disk told started_running).closed;
         stored = subst (λ (h : Shape). AllSlots (IsStored h blocks (d.seen new.disk)) st) (sym step.shape) stored;
@@ -310,7 +310,7 @@ module _ {D : Type 0} (d : on_disk.Ghosts D) where
           let was = standing.on_disk told started_running in
           let untouched = not_begun.not_begun (ap (λ (r : Result (Unit {0}) StoreFault). end_of r) memory) in
           on_new (state_of index) told runs
-          (λ image left. was.durable.only image (untouched.crash image left) ∙ sym untouched.content)
+          (λ image left. was.only image (untouched.crash image left) ∙ sym untouched.content)
           (subst (λ (x : List ℕ). AllSlots (IsStored old.shape blocks x) (state_of index)) (sym untouched.content) was.stored))
 
   -- a store of which a call was refused before it tried

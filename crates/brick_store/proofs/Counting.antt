@@ -1,5 +1,5 @@
 -- How many calls of the disk are made.
-use Rattle.std.proofs.Common.{◌≡◌, inl, inr, ℕ, ◌+◌, ◌≤◌, Bool, true, false, if◌then◌else◌, Result, Err, refl, arith, ◌&&◌, List, sym, ap, ◌∙◌}
+use Rattle.std.proofs.Common.{◌≡◌, inl, inr, ℕ, ◌+◌, ◌≤◌, Bool, true, false, if◌then◌else◌, Option, Some, None, Result, Err, refl, arith, ◌&&◌, List, sym, ap, ◌∙◌}
 use Rattle.std.proofs.lemmas.Bool.{cases_lt, le-leb}
 use Rattle.std.proofs.lemmas.Bool.Decides.{nat_tests}
 use Rattle.stamp_store.specs.declared.kept_records.Kept.TheVariants.{Boot, Ballots, Order}
@@ -13,7 +13,7 @@ use Rattle.frame_store.specs.declared.frames.Frame.{Frame}
 use Rattle.frame_store.specs.Layouts.{half_size}
 use Rattle.frame_store.specs.Listed.{size_of}
 use Rattle.frame_store.specs.Stores.{Held}
-use Rattle.brick_store.specs.Calls.{calls_with, has_room_for, is_appendable, opening_calls}
+use Rattle.brick_store.specs.Calls.{calls_with, version_calls, has_room_for, is_appendable, opening_calls}
 use Rattle.brick_store.specs.Sizes.{most}
 
 -- no frame of a record is longer
@@ -43,6 +43,11 @@ room_then shape listed body calls = by (has_room_for shape listed body)
     by : (b : Bool) → (if b then calls else (7 + calls)) ≡ (if b then 0 else (7 + 0)) + calls
     by true = omega arith
     by false = omega arith
+
+-- an append makes more than one call
+pub some_calls : {T : Type 0} (put : Option T) → 2 ≤ version_calls put
+some_calls None = omega arith
+some_calls (Some block) = omega arith
 
 -- the list was made ready for the count, and then the opening was counted
 pub start_sum : (b : Bool) → opening_calls b ≡ (if b then 1 else 8) + 4

@@ -87,7 +87,7 @@ standing_stands d blocks zero_block store index standing told runs =
     let opens : OpensAs store.shape store.frames true (d.seen store.disk) = subst
     (λ (b : Bool). OpensAs store.shape store.frames b (d.seen store.disk)) was.closed was.shows.opens in
     record {
-      only = was.durable.only;
+      only = was.only;
       has = stands_for store.shape blocks (state_of index) (d.seen store.disk)
           (record { frames = store.frames; opens = opens; leads = standing.indexed.leads }) was.stored;
     }

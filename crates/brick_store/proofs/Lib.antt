@@ -9,6 +9,7 @@ pub mod FreshLists
 pub mod Stepping
 pub mod Cutting
 pub mod StateChanges
+pub mod ListAnswers
 pub mod Changing
 pub mod Loads
 pub mod Changed
@@ -23,3 +24,4 @@ pub mod HeldLogs
 pub mod Counting
 pub mod KeptLogs
 pub mod Words
+pub mod PlainChanges

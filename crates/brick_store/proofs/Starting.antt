@@ -130,7 +130,7 @@ module _ {D : Type 0} (d : on_disk.Ghosts D) where
             (subst (λ (x : StateOf Entry). AllSlots (IsCached shape.block blocks) x) back loaded.held);
         zero_is = zero_is ∙ ap (λ (s : Shape). replicate s.block 0) to;
         on_disk = λ told runs. record {
-          durable = (settled told).durable;
+          only = (settled told).only;
           shows = (settled told).shows;
           closed = (settled told).closed;
           stored = subst (λ (s : Shape). AllSlots (IsStored s blocks (d.seen new.disk)) (state_of index)) to

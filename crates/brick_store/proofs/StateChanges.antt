@@ -144,7 +144,7 @@ module _ {D : Type 0} (d : on_disk.Ghosts D) where
     runs = step.halts;
     leads = subst (λ (s : Shape). Leads (limits_of s) new.frames empty after) (sym step.shape) step.made;
     settled = λ told. record {
-      durable = record { told = told; runs = step.halts; only = (change.whole refl told).only };
+      only = (change.whole refl told).only;
       shows = step.shows told step.halts;
       closed = step.closed (may.settled told).closed;
     };
@@ -170,7 +170,7 @@ module _ {D : Type 0} (d : on_disk.Ghosts D) where
   pub stands_before : (put : Option (ℕ × List ℕ)) (before : StateOf Entry) (old : Held D) → CanChange d before old → d.tells
       → Stands d (IsUnchanged old.shape put before (d.seen old.disk)) old.disk
   stands_before put before old may told = record {
-    only = (may.settled told).durable.only;
+    only = (may.settled told).only;
     has = record {
       opens = record {
         frames = old.frames;

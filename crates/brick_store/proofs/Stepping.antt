@@ -109,10 +109,9 @@ memory_refused frames.Halted is = absurd cc
 -- room for more is room for less
 pub room_less : {D : Type 0} (has_room : D → ℕ → ℕ → ℕ → Type 0) (for_less : (disk : D) (calls bytes end fewer less nearer : ℕ) → fewer ≤ calls
     → less ≤ bytes → nearer ≤ end → has_room disk calls bytes end → has_room disk fewer less nearer)
-    → (s : Held D) (calls bytes line listed body fewer less shorter some small : ℕ) → fewer ≤ calls → less ≤ bytes → shorter ≤ line → some ≤ listed
-    → small ≤ body
-    → HasRoom has_room s calls bytes line listed body → HasRoom has_room s fewer less shorter some small
-room_less has_room for_less s calls bytes line listed body fewer less shorter some small a b c d e room = record {
+    → (s : Held D) (calls bytes line fewer less shorter : ℕ) → fewer ≤ calls → less ≤ bytes → shorter ≤ line
+    → HasRoom has_room s calls bytes line → HasRoom has_room s fewer less shorter
+room_less has_room for_less s calls bytes line fewer less shorter a b c room = record {
   disk = for_less s.disk calls bytes (store_end s.shape) fewer less (store_end s.shape) a b (omega arith) room.disk;
   line = omega (arith, c, room.line);
 }
@@ -177,11 +176,7 @@ module _ {D : Type 0} (d : on_disk.Ghosts D) where
         leads = subst (λ (s : Shape). Leads (limits_of s) new.frames empty before) (sym same.shape)
             (subst (λ (fs : List Frame). Leads (limits_of old.shape) fs empty before) (sym same.frames) may.leads);
         settled = λ told. record {
-          durable = record {
-            told = told;
-            runs = runs;
-            only = λ image left. (may.settled told).durable.only image (untouched.crash image left) ∙ sym untouched.content;
-          };
+          only = λ image left. (may.settled told).only image (untouched.crash image left) ∙ sym untouched.content;
           shows = read told runs;
           closed = same.closed ∙ (may.settled told).closed;
         };

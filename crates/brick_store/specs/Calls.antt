@@ -1,5 +1,5 @@
 -- How many calls of the disk's `write_at` and `sync` a call of a brick's store makes.
-use Rattle.std.specs.Prelude.{ℕ, ◌+◌, Bool, ◌&&◌, nat_le, if◌then◌else◌, Option, Some, None, List}
+use Rattle.std.specs.Prelude.{ℕ, ◌+◌, Bool, ◌&&◌, nat_le, if◌then◌else◌, Option, Some, None}
 use Rattle.frame_store.specs.declared.shapes.Shape.{Shape}
 use Rattle.frame_store.specs.Layouts.{half_size}
 use Rattle.frame_store.specs.Listed.{size_of}
@@ -27,7 +27,10 @@ is_appendable whole frames body = (whole && frames.closed) && has_room_for frame
 abbrev pub opening_calls : Bool → ℕ
 opening_calls appendable = if appendable then 5 else 12
 
--- a block of its own is one call more
-abbrev pub version_calls : Option (List ℕ) → ℕ
-version_calls None = 4
-version_calls (Some bytes) = 5
+-- an append makes so many calls, and one more where a block is put in its slot
+abbrev pub append_calls : ℕ
+append_calls = 4
+
+abbrev pub version_calls : {T : Type 0} → Option T → ℕ
+version_calls None = append_calls
+version_calls (Some block) = append_calls + 1

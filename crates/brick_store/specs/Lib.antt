@@ -9,3 +9,4 @@ pub mod Changes
 pub mod Ends
 pub mod Sizes
 pub mod Logs
+pub mod PlainChanges

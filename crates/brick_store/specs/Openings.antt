@@ -16,6 +16,7 @@ use Rattle.brick_store.specs.declared.faults.OpenFault.{OpenFault}
 use Rattle.brick_store.specs.declared.faults.OpenFault.TheVariants.{Disk}
 use Rattle.brick_store.specs.Bricks.{Brick}
 use Rattle.brick_store.specs.Calls.{has_room_for, is_appendable, opening_calls}
+use Rattle.brick_store.specs.Sizes.{boot_size}
 use Rattle.frame_store.specs.declared.faults.FrameFault.{FrameFault}
 use Rattle.frame_store.specs.declared.faults.FrameFault.TheVariants as lists
 use Rattle.frame_store.specs.Stores.{Held}
@@ -127,7 +128,7 @@ found_in shape frames = folded (limits_of shape) (records_of frames) empty
 -- The list that these frames make can be appended to: each of them counts, a closed gate stands behind the last one, and the half
 -- has room for the count of an opening.
 abbrev pub opens_appendable : Shape → List Frame → Bool → Bool
-opens_appendable shape frames closed = (is_whole (limits_of shape) frames empty && closed) && has_room_for shape (size_of frames) 4
+opens_appendable shape frames closed = (is_whole (limits_of shape) frames empty && closed) && has_room_for shape (size_of frames) boot_size
 
 -- the disk that is in the answer of an opening
 abbrev pub disk_in : {D : Type 0} → Result (Brick D) (OpenFault × D) → D
@@ -185,10 +186,10 @@ module _ {D : Type 0} (d : on_disk.Ghosts D) where
   pub record Starts (whole : Bool) (st : StateOf Entry) (old : Held D) (new : D) (end : End) : Type 0 where
     pub moments : d.tells → old.closed ≡ true → LeavesOnly d.moment d.left_since old.disk new
         (IsAllowedOr (d.may_leave old.disk) (IsKeptInEither old.shape st (booted (st.boot + 1) st) (d.seen old.disk)))
-    pub run : IsRun d.tells d.moment d.plan d.unlisted (opening_calls (is_appendable whole old 4)) old.disk new (end ≡ Whole) (end ≡ Cut)
+    pub run : IsRun d.tells d.moment d.plan d.unlisted (opening_calls (is_appendable whole old boot_size)) old.disk new (end ≡ Whole) (end ≡ Cut)
     pub not_worn : end ≡ Cut → d.unlisted old.disk → st.boot < 2 ^ 32 - 1
     pub cut : end ≡ Cut → d.tells → d.unlisted old.disk → old.closed ≡ true
-        → StopsOpening d.seen d.certain d.moment (opening_calls (is_appendable whole old 4)) old.disk new
+        → StopsOpening d.seen d.certain d.moment (opening_calls (is_appendable whole old boot_size)) old.disk new
         (IsKeptIn old.shape st (d.seen old.disk)) (IsKeptIn old.shape (booted (st.boot + 1) st) (d.seen old.disk))
     pub not_begun : end ≡ NotBegun → IsUntouched d.seen d.may_leave d.moment d.left_since old.disk new
     pub cause : Kept (d.faults old.disk) (d.faults new) (d.sound old.disk) (d.sound new) (end ≡ Cut)

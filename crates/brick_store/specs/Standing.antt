@@ -4,6 +4,7 @@ use Rattle.std.specs.Ordering.{nat_cmp}
 use Rattle.std.specs.List.{AllByRecursion}
 use Rattle.std.specs.BTreeMap.{BTreeMap, get}
 use Rattle.fab_base.specs.declared.identities.BrickId.{BrickId}
+use Rattle.fab_disk.specs.Disk.{Only}
 use Rattle.fab_base.specs.declared.member_lists.View.{View}
 use Rattle.fab_base.specs.declared.stamps.Ballot.{Ballot}
 use Rattle.stamp_store.specs.Spelling.{AcceptedHasMembers}
@@ -11,7 +12,7 @@ use Rattle.frame_store.specs.declared.frames.Frame.{Frame}
 use Rattle.frame_store.specs.declared.shapes.Shape.{Shape}
 use Rattle.frame_store.specs.Layouts.{IsShape}
 use Rattle.frame_store.specs.Images.{HasSlot, block_in}
-use Rattle.frame_store.specs.Stores.{Held, IsDurable, Shows}
+use Rattle.frame_store.specs.Stores.{Held, Shows}
 use Rattle.brick_state.specs.declared.groups.Group.{Group}
 use Rattle.brick_state.specs.declared.indexes.Index.{Index}
 use Rattle.brick_state.specs.declared.records.Record.{Record}
@@ -66,7 +67,7 @@ pub record IsIndexed (shape : Shape) (frames : List Frame) (limits : Limits) (st
 -- memory lie in their slots.
 pub record IsOnDisk {D : Type 0} (tells : Type 0) (seen : D → List ℕ) (may_leave : D → List ℕ → Type 0) (blocks : BTreeMap ℕ (List ℕ))
     (frames : Held D) (st : StateOf Entry) : Type 0 where
-  pub durable : IsDurable tells seen may_leave frames
+  pub only : Only (seen frames.disk) (may_leave frames.disk)
   pub shows : Shows seen frames
   pub closed : frames.closed ≡ true
   pub stored : AllSlots (IsStored frames.shape blocks (seen frames.disk)) st

@@ -1,10 +1,13 @@
 -- One change of a store's list of frames.
-use Rattle.std.specs.Prelude.{◌≡◌, ◌⊎◌, ◌+◌, ℕ, Bool, true, false, Option, unwrap_or, List, length, Result, Err, OnOk, OnErr}
+use Rattle.std.specs.Prelude.{◌≡◌, ◌⊎◌, ◌+◌, ◌<◌, ℕ, Bool, true, false, Option, Some, None, unwrap_or, List, length, Result, Err, OnOk, OnErr}
 use Rattle.fab_disk.specs.declared.disk.Disk as on_disk
+use Rattle.fab_disk.specs.Disk.{Only}
 use Rattle.frame_store.specs.declared.frames.Frame.{Frame}
 use Rattle.frame_store.specs.declared.shapes.Shape.{Shape}
 use Rattle.frame_store.specs.Images.{OpensAs, StandsIn, KeepsSlots}
-use Rattle.frame_store.specs.Stores.{Held, IsDurable, IsRead, Shows, HasRoom}
+use Rattle.frame_store.specs.Stores.{Held, IsRead, IsSame, HasNow, IsAnswer, Shows, HasRoom}
+use Rattle.frame_store.specs.Ends.{end_of, ListChange}
+use Rattle.frame_store.specs.declared.faults.FrameFault.{FrameFault}
 use Rattle.frame_store.specs.Layouts.{IsShape}
 use Rattle.brick_state.specs.declared.records.Record.{Record}
 use Rattle.brick_state.specs.declared.records.Record.TheVariants as forms
@@ -46,10 +49,28 @@ pub record IsChanged (shape : Shape) (put : Option (ℕ × List ℕ)) (st : Stat
   pub stands : StandsIn shape put image
   pub slots : KeepsSlots shape put content image
 
+-- a block that is put in a slot
+abbrev pub put_in : ℕ → List ℕ → ℕ × List ℕ
+put_in slot block = (slot, block)
+
+-- the slot is one of the store's, and the block is as long as each
+abbrev pub FitsSlot : Shape → Option (ℕ × List ℕ) → Type 0
+FitsSlot shape None = Unit {0}
+FitsSlot shape (Some put) = (put.0 < shape.records) × (length put.1 ≡ shape.block)
+
 module _ {D : Type 0} (d : on_disk.Ghosts D) where
+  -- A call made the list these frames, with a block put in its slot if one is, or was refused and left the list as it was.
+  pub record ListAnswer (calls : ℕ) (listed : List Frame) (put : Option (ℕ × List ℕ)) (old new : Held D) (result : Result (Unit {0}) FrameFault)
+      : Type 0 where
+    pub change : ListChange d calls old listed put new.disk (end_of result)
+    pub ok : OnOk result (HasNow listed old new)
+    pub answer : IsAnswer old.halted new.halted result
+    pub refused : OnErr result (IsSame old new)
+    pub read : IsRead d.tells d.seen new
+
   -- a crash leaves what a read gives, which opens as the frames, with a closed gate behind them
   pub record IsSettled (frames : Held D) : Type 0 where
-    pub durable : IsDurable d.tells d.seen d.may_leave frames
+    pub only : Only (d.seen frames.disk) (d.may_leave frames.disk)
     pub shows : Shows d.seen frames
     pub closed : frames.closed ≡ true
 
@@ -94,4 +115,4 @@ IsRefused halted adds records live result =
 
 -- room for one append
 abbrev pub HasAppendRoom : {D : Type 0} → (D → ℕ → ℕ → ℕ → Type 0) → Held D → ℕ → Type 0
-HasAppendRoom has_room frames body = HasRoom has_room frames 5 (frames.shape.block + body + 7) (body + 6) (length frames.frames + 1) body
+HasAppendRoom has_room frames body = HasRoom has_room frames 5 (frames.shape.block + body + 7) (body + 6)

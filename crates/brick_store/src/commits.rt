@@ -1,18 +1,19 @@
 //! One change: its record is appended to the list of frames, and then it is made in the index.
 
-ghost use Rattle.std.specs.Prelude.{◌≡◌, ◌≢◌, ◌⊎◌, ◌+◌, ◌≤◌, ◌<◌, Some, None, IsSome, Err, true, false, OnOk, OnErr, IsOk, Bool, length};
+ghost use Rattle.std.specs.Prelude.{◌≡◌, ◌⊎◌, ◌≤◌, None, IsSome, true, false, OnOk, OnErr, option_map};
 ghost use Rattle.std.specs.List.{AllByRecursion};
 ghost use Rattle.frame_store.specs.Listed.{Fits, size_of};
 ghost use Rattle.brick_state.specs.States.{live};
 ghost use Rattle.brick_state.specs.Indexes.{state_of, limits_of};
 ghost use Rattle.brick_state.specs.Folds.{applied, is_full};
 ghost use Rattle.brick_state.specs.KeptStates.{IsKeptState};
-ghost use Rattle.brick_store.specs.Calls.{calls_with};
+ghost use Rattle.brick_store.specs.Calls.{calls_with, version_calls};
 ghost use Rattle.brick_store.specs.Ends.{end_of, StateChange};
-ghost use Rattle.brick_store.specs.Sizes.{body_size};
+ghost use Rattle.brick_store.specs.Sizes.{body_size, longest_frame};
 ghost use Rattle.brick_store.specs.Standing.{GroupHasMembers};
-ghost use Rattle.brick_store.specs.Steps.{RecordHasMembers, Step, CanCommit, changed, HasAppendRoom, IsRefused};
+ghost use Rattle.brick_store.specs.Steps.{RecordHasMembers, Step, CanCommit, changed, put_in, FitsSlot, HasAppendRoom, IsRefused};
 
+use crate::appends::append_frame;
 use crate::faults::StoreFault;
 use crate::index_steps::apply;
 use crate::rewrites::{frame_of, live_frames};
@@ -29,7 +30,7 @@ fn rewrite<D: Disk>(
     body: usize,
 ) -> Result<(), StoreFault>
     requires store { CanCommit D.Disk (limits_of index.now) (state_of index.now) frames.old }
-    requires small { body ≤ 145 }
+    requires small { body ≤ longest_frame }
     ensures step { Step D.Disk (state_of index.now) (state_of index.now) frames.old frames.new result }
     ensures fits { OnOk result (Fits frames.new.shape frames.new.frames body) }
     ensures room { OnOk result (HasAppendRoom D.has_room frames.new body) }
@@ -51,7 +52,7 @@ fn make_room<D: Disk>(
     body: usize,
 ) -> Result<(), StoreFault>
     requires store { CanCommit D.Disk (limits_of index.now) (state_of index.now) frames.old }
-    requires small { body ≤ 145 }
+    requires small { body ≤ longest_frame }
     ensures step { Step D.Disk (state_of index.now) (state_of index.now) frames.old frames.new result }
     ensures fits { OnOk result (Fits frames.new.shape frames.new.frames body) }
     ensures room { OnOk result ((frames.new ≡ frames.old) ⊎ HasAppendRoom D.has_room frames.new body) }
@@ -64,24 +65,27 @@ fn make_room<D: Disk>(
     rewrite(alloc, frames, index, body)
 }
 
-// Appends the frame of a record that can be.
+// Appends the frame of a record that can be, with a block in its slot where one is given.
 fn append_record<D: Disk>(
     alloc: Global,
     frames: &mut FrameStore<D>,
     index: &Index,
     item: &Record,
+    slot_block: Option<(u32, &[u8])>,
 ) -> Result<(), StoreFault>
     requires store { CanCommit D.Disk (limits_of index.now) (state_of index.now) frames.old }
     requires members { RecordHasMembers item.now }
     requires can { IsSome (applied (limits_of index.now) item.now (state_of index.now)) }
+    requires slot { FitsSlot frames.old.shape (option_map (λ b. put_in b.0 b.1.now) slot_block) }
     ensures step { Step D.Disk (state_of index.now)
         (changed (limits_of index.now) item.now (state_of index.now)) frames.old frames.new result }
-    ensures change { StateChange D.Disk (calls_with frames.old.shape (size_of frames.old.frames) (body_size item.now) 4) frames.old None (state_of index.now) (changed (limits_of index.now) item.now (state_of index.now))
-        frames.new.disk (end_of result) }
+    ensures change { let put = option_map (λ b. put_in b.0 b.1.now) slot_block.entry in
+        StateChange D.Disk (calls_with frames.old.shape (size_of frames.old.frames) (body_size item.now) (version_calls put)) frames.old put
+        (state_of index.now) (changed (limits_of index.now) item.now (state_of index.now)) frames.new.disk (end_of result) }
 {
     let frame = frame_of(alloc, item)?;
     make_room(alloc, frames, index, frame.body.len())?;
-    frames.append(frame.kind, frame.body.as_slice())?;
+    append_frame(frames, frame, slot_block)?;
     Ok(())
 }
 
@@ -105,33 +109,8 @@ pub fn ready<D: Disk>(frames: &FrameStore<D>, index: &Index, adds: bool) -> Resu
     Ok(())
 }
 
-// Appends the frame of a record that can be, with a block in its slot.
-fn append_version<D: Disk>(
-    alloc: Global,
-    frames: &mut FrameStore<D>,
-    index: &Index,
-    item: &Record,
-    slot: u32,
-    block: &[u8],
-) -> Result<(), StoreFault>
-    requires store { CanCommit D.Disk (limits_of index.now) (state_of index.now) frames.old }
-    requires members { RecordHasMembers item.now }
-    requires can { IsSome (applied (limits_of index.now) item.now (state_of index.now)) }
-    requires slot { slot < frames.old.shape.records }
-    requires block { length block.now ≡ frames.old.shape.block }
-    ensures step { Step D.Disk (state_of index.now)
-        (changed (limits_of index.now) item.now (state_of index.now)) frames.old frames.new result }
-    ensures change { StateChange D.Disk (calls_with frames.old.shape (size_of frames.old.frames) (body_size item.now) 5) frames.old (Some (slot, block.now)) (state_of index.now) (changed (limits_of index.now) item.now (state_of index.now))
-        frames.new.disk (end_of result) }
-{
-    let frame = frame_of(alloc, item)?;
-    make_room(alloc, frames, index, frame.body.len())?;
-    frames.append_with(slot, block, frame)?;
-    Ok(())
-}
-
-/// Makes the change of a record that can be, and that adds no block of its own. It makes four calls of `write_at` and `sync`,
-/// or eleven where the half has no room for the frame.
+/// Makes the change of a record that can be, with a block in its slot where one is given. It makes four calls of `write_at` and
+/// `sync`, one more with a block, and seven more where the half has no room for the frame.
 ///
 /// # Errors
 /// [`StoreFault::Disk`]; [`StoreFault::NoMemory`], before the disk changed.
@@ -140,52 +119,23 @@ pub fn commit<D: Disk>(
     frames: &mut FrameStore<D>,
     index: &mut Index,
     item: &Record,
+    slot_block: Option<(u32, &[u8])>,
 ) -> Result<(), StoreFault>
     requires store { CanCommit D.Disk (limits_of index.old) (state_of index.old) frames.old }
     requires members { RecordHasMembers item.now }
     requires can { IsSome (applied (limits_of index.old) item.now (state_of index.old)) }
+    requires slot { FitsSlot frames.old.shape (option_map (λ b. put_in b.0 b.1.now) slot_block) }
     ensures step { Step D.Disk (state_of index.old)
         (changed (limits_of index.old) item.now (state_of index.old)) frames.old frames.new result }
     ensures made { OnOk result (state_of index.new ≡ changed (limits_of index.old) item.now (state_of index.old)) }
     ensures not_made { OnErr result (state_of index.new ≡ state_of index.old) }
     ensures limits { limits_of index.new ≡ limits_of index.old }
-    ensures change { StateChange D.Disk (calls_with frames.old.shape (size_of frames.old.frames) (body_size item.now) 4) frames.old None (state_of index.old) (changed (limits_of index.old) item.now (state_of index.old))
-        frames.new.disk (end_of result) }
+    ensures change { let put = option_map (λ b. put_in b.0 b.1.now) slot_block.entry in
+        StateChange D.Disk (calls_with frames.old.shape (size_of frames.old.frames) (body_size item.now) (version_calls put)) frames.old put
+        (state_of index.old) (changed (limits_of index.old) item.now (state_of index.old)) frames.new.disk (end_of result) }
 {
     index.reserve(item)?;
-    append_record(alloc, frames, index, item)?;
-    apply(index, item);
-    Ok(())
-}
-
-/// Makes the change of a record that can be, with a block in its slot. It makes five calls of `write_at` and `sync`, or twelve
-/// where the half has no room for the frame.
-///
-/// # Errors
-/// [`StoreFault::Disk`]; [`StoreFault::NoMemory`], before the disk changed.
-pub fn commit_with<D: Disk>(
-    alloc: Global,
-    frames: &mut FrameStore<D>,
-    index: &mut Index,
-    item: &Record,
-    slot: u32,
-    block: &[u8],
-) -> Result<(), StoreFault>
-    requires store { CanCommit D.Disk (limits_of index.old) (state_of index.old) frames.old }
-    requires members { RecordHasMembers item.now }
-    requires can { IsSome (applied (limits_of index.old) item.now (state_of index.old)) }
-    requires slot { slot < frames.old.shape.records }
-    requires block { length block.now ≡ frames.old.shape.block }
-    ensures step { Step D.Disk (state_of index.old)
-        (changed (limits_of index.old) item.now (state_of index.old)) frames.old frames.new result }
-    ensures made { OnOk result (state_of index.new ≡ changed (limits_of index.old) item.now (state_of index.old)) }
-    ensures not_made { OnErr result (state_of index.new ≡ state_of index.old) }
-    ensures limits { limits_of index.new ≡ limits_of index.old }
-    ensures change { StateChange D.Disk (calls_with frames.old.shape (size_of frames.old.frames) (body_size item.now) 5) frames.old (Some (slot, block.now)) (state_of index.old) (changed (limits_of index.old) item.now (state_of index.old))
-        frames.new.disk (end_of result) }
-{
-    index.reserve(item)?;
-    append_version(alloc, frames, index, item, slot, block)?;
+    append_record(alloc, frames, index, item, slot_block)?;
     apply(index, item);
     Ok(())
 }

@@ -1,10 +1,10 @@
 //! Making a store.
 
-ghost use Rattle.std.specs.Prelude.{◌≡◌, ◌≤◌};
+ghost use Rattle.std.specs.Prelude.{◌≡◌, ◌≤◌, OnOk};
 ghost use Rattle.fab_disk.specs.Changing.{IsAny, Run};
 ghost use Rattle.frame_store.specs.Layouts.{shape_of};
 ghost use Rattle.brick_state.specs.States.{empty};
-ghost use Rattle.brick_store.specs.Images.{StandsFor};
+ghost use Rattle.brick_store.specs.Images.{StandsFor, IsListed};
 ghost use Rattle.brick_store.specs.Openings.{making_end, write_fault_of};
 
 use fab_base::{BrickId, IoFault};
@@ -28,6 +28,8 @@ pub fn format<D: Disk>(
     requires records_range { (1 ≤ records) × (records ≤ 1048576) }
     // After it the disk stands for a brick that keeps nothing, and so does whatever a crash leaves.
     ensures change { Run D.Disk 5 IsAny IsAny (StandsFor (shape_of me.0 block records) empty) disk.old disk.new (making_end result) }
+    // Its list of frames is empty.
+    ensures listed { D.tells → OnOk result (IsListed (shape_of me.0 block records) 0 (D.seen disk.new)) }
 {
     match frame_store::format(alloc, disk, me.0, block, records) {
         Ok(()) => Ok(()),

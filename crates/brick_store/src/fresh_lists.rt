@@ -10,6 +10,7 @@ ghost use Rattle.brick_state.specs.Indexes as indexes;
 ghost use Rattle.brick_store.specs.Images.{limits_of};
 ghost use Rattle.brick_store.specs.Standing.{Leads};
 ghost use Rattle.brick_store.specs.Calls.{is_appendable};
+ghost use Rattle.brick_store.specs.Sizes.{longest_frame};
 ghost use Rattle.brick_store.specs.Ends.{end_of};
 ghost use Rattle.brick_store.specs.Steps.{CanChange, IsReadAs, HasAppendRoom};
 ghost use Rattle.brick_store.specs.Openings.{Readies};
@@ -30,7 +31,7 @@ fn renew<D: Disk>(
     body: usize,
 ) -> Result<(), StoreFault>
     requires held { IsReadAs D.Disk (indexes.limits_of index.now) (state_of index.now) frames.old }
-    requires small { body ≤ 145 }
+    requires small { body ≤ longest_frame }
     ensures may { OnOk result (CanChange D.Disk (state_of index.now) frames.new) }
     ensures shape { frames.new.shape ≡ frames.old.shape }
     ensures slots { D.tells → OnOk result (KeepsSlots frames.old.shape None (D.seen frames.old.disk) (D.seen frames.new.disk)) }
@@ -67,7 +68,7 @@ pub fn make_appendable<D: Disk>(
 ) -> Result<(), StoreFault>
     requires held { IsReadAs D.Disk (indexes.limits_of index.now) (state_of index.now) frames.old }
     requires whole { whole ≡ true → Leads (limits_of frames.old.shape) frames.old.frames empty (state_of index.now) }
-    requires small { body ≤ 145 }
+    requires small { body ≤ longest_frame }
     ensures may { OnOk result (CanChange D.Disk (state_of index.now) frames.new) }
     ensures shape { frames.new.shape ≡ frames.old.shape }
     ensures slots { D.tells → OnOk result (KeepsSlots frames.old.shape None (D.seen frames.old.disk) (D.seen frames.new.disk)) }

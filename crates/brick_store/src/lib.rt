@@ -5,6 +5,7 @@
 #![tactic(auto)]
 
 mod additions;
+mod appends;
 mod caches;
 mod commits;
 pub mod faults;

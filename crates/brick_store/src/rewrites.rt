@@ -1,6 +1,6 @@
 //! The frames of records.
 
-ghost use Rattle.std.specs.Prelude.{◌≡◌, ◌+◌, ◌*◌, ◌≤◌, Some, map, length, IfOk};
+ghost use Rattle.std.specs.Prelude.{◌≡◌, ◌+◌, ◌≤◌, Some, map, length, IfOk};
 ghost use Rattle.std.specs.List.{AllByRecursion};
 ghost use Rattle.frame_store.specs.Listed.{size_of};
 ghost use Rattle.brick_state.specs.States.{live};
@@ -10,7 +10,7 @@ ghost use Rattle.brick_state.specs.Rewrites.{live_records};
 ghost use Rattle.brick_store.specs.Images.{record_of};
 ghost use Rattle.brick_store.specs.Standing.{GroupHasMembers};
 ghost use Rattle.brick_store.specs.Steps.{RecordHasMembers};
-ghost use Rattle.brick_store.specs.Sizes.{body_size, most, most_of};
+ghost use Rattle.brick_store.specs.Sizes.{body_size, most, most_listed, most_of};
 
 use brick_state::{Index, Record};
 use fab_base::NoMem;
@@ -41,7 +41,7 @@ pub fn live_frames(alloc: Global, index: &Index) -> Result<Vec<Frame>, NoMem>
     requires kept { IsKeptState (limits_of index.now) (state_of index.now) }
     requires members { AllByRecursion GroupHasMembers (state_of index.now).groups }
     ensures read { IfOk result (λ frames. map record_of frames.items ≡ map Some (live_records (state_of index.now))) }
-    ensures size { IfOk result (λ frames. size_of frames.items ≤ 15690 + 41 * live (state_of index.now)) }
+    ensures size { IfOk result (λ frames. size_of frames.items ≤ most_listed (live (state_of index.now))) }
 {
     let records = index.records()?;
     frames_of(alloc, &records)

@@ -8,11 +8,13 @@ ghost use Rattle.brick_state.specs.Folds.{applied};
 ghost use Rattle.brick_state.specs.Indexes.{state_of, IsReady};
 ghost use Rattle.brick_state.specs.Indexes as indexes;
 ghost use Rattle.brick_store.specs.Images.{record_of, limits_of};
+ghost use Rattle.brick_store.specs.Calls.{append_calls};
 ghost use Rattle.brick_store.specs.Standing.{Leads};
 ghost use Rattle.brick_store.specs.Ends.{end_of, StateChange};
 ghost use Rattle.brick_store.specs.Steps.{IsSettled, Step, CanChange, IsReadAs, changed, HasAppendRoom};
 ghost use Rattle.brick_store.specs.Openings.{Starts};
 
+use crate::appends::append_frame;
 use crate::faults::StoreFault;
 use crate::fresh_lists::make_appendable;
 use crate::index_steps::apply;
@@ -28,24 +30,24 @@ fn append_count<D: Disk>(
     frames: &mut FrameStore<D>,
     index: &mut Index,
     item: &Record,
-    frame: &Frame,
+    frame: Frame,
 ) -> Result<(), StoreFault>
     requires may { CanChange D.Disk (state_of index.old) frames.old }
     requires limits { indexes.limits_of index.old ≡ limits_of frames.old.shape }
-    requires read { record_of frame.now ≡ Some item.now }
+    requires read { record_of frame ≡ Some item.now }
     requires can { IsSome (applied (indexes.limits_of index.old) item.now (state_of index.old)) }
     requires ready { IsReady index.old item.now }
-    requires fits { Fits frames.old.shape frames.old.frames (length frame.now.body) }
-    requires room { HasAppendRoom D.has_room frames.old (length frame.now.body) }
+    requires fits { Fits frames.old.shape frames.old.frames (length frame.body) }
+    requires room { HasAppendRoom D.has_room frames.old (length frame.body) }
     ensures step { Step D.Disk (state_of index.old)
         (changed (indexes.limits_of index.old) item.now (state_of index.old)) frames.old frames.new result }
-    ensures change { StateChange D.Disk 4 frames.old None (state_of index.old)
+    ensures change { StateChange D.Disk append_calls frames.old None (state_of index.old)
         (changed (indexes.limits_of index.old) item.now (state_of index.old)) frames.new.disk (end_of result) }
     ensures made { OnOk result (state_of index.new ≡ changed (indexes.limits_of index.old) item.now (state_of index.old)) }
     ensures limits { indexes.limits_of index.new ≡ indexes.limits_of index.old }
     ensures no_memory { result ≢ Err StoreFault.NoMemory }
 {
-    frames.append(frame.kind, frame.body.as_slice())?;
+    append_frame(frames, frame, None)?;
     apply(index, item);
     Ok(())
 }
@@ -74,5 +76,5 @@ pub fn start<D: Disk>(
     let item = Record::Kept(Kept::Boot(index.boot() + 1));
     let frame = frame_of(alloc, &item)?;
     make_appendable(alloc, frames, index, whole, frame.body.len())?;
-    append_count(frames, index, &item, &frame)
+    append_count(frames, index, &item, frame)
 }

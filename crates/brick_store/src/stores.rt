@@ -5,13 +5,14 @@ ghost use Rattle.std.specs.Option.{ForSome};
 ghost use Rattle.brick_state.specs.States.{stripe_at, ordered, collected, viewed, balloted, group_at};
 ghost use Rattle.brick_state.specs.Folds.{place};
 ghost use Rattle.brick_store.specs.Blocks.{log_at, version_stamp, HasStamp, IsServed, adds_stamp, IsNext, with_version, accepted_of, learnt_of, all_synced};
-ghost use Rattle.brick_store.specs.Calls.{version_calls, calls_of};
-ghost use Rattle.brick_store.specs.Sizes.{ballots_size, view_size, known_size, version_size};
+ghost use Rattle.brick_store.specs.Calls.{append_calls, version_calls, calls_of};
+ghost use Rattle.brick_store.specs.PlainChanges.{CanMake, adds_record, made_by};
+ghost use Rattle.brick_store.specs.Sizes.{ballots_size, body_size, view_size, known_size, stamped_size, version_size};
 ghost use Rattle.brick_store.specs.Changes.{Answers};
 ghost use Rattle.brick_store.specs.Ends.{end_of, BrickChange};
 
 use crate::additions::{forget_refused, held_under, hold_new};
-use crate::commits::{commit, commit_with, ready};
+use crate::commits::{commit, ready};
 use crate::faults::StoreFault;
 use crate::index_steps::{accepted_of, adds_stamp, learnt_view};
 use brick_state::{Index, Record};
@@ -77,7 +78,7 @@ impl<D: Disk> BrickStore<D> {
     ) -> Result<(), StoreFault>
         requires group { group.0 < 64 }
         requires view { IsServed (group_at self.old.state group.0) view.0 }
-        ensures change { BrickChange D.Disk (calls_of self.old 30 4) self.old
+        ensures change { BrickChange D.Disk (calls_of self.old stamped_size append_calls) self.old
             (ordered (place group view stripe) stamp self.old.state) self.new.disk (end_of result) }
         ensures answer { Answers self.old self.new (ordered (place group view stripe) stamp self.old.state)
             (adds_stamp stamp (stripe_at self.old.state (place group view stripe)).order) result }
@@ -90,8 +91,7 @@ impl<D: Disk> BrickStore<D> {
             stripe,
             stamp,
         });
-        ready(&self.frames, &self.index, adds)?;
-        commit(self.alloc, &mut self.frames, &mut self.index, &item)
+        self.change(&item, adds)
     }
 
     /// Promises a ballot for the successor of the learnt view.
@@ -106,7 +106,7 @@ impl<D: Disk> BrickStore<D> {
     ) -> Result<(), StoreFault>
         requires group { group.0 < 64 }
         requires view { view.0 ≡ learnt_of (group_at self.old.state group.0) }
-        ensures change { BrickChange D.Disk (calls_of self.old (ballots_size (accepted_of (group_at self.old.state group.0))) 4) self.old
+        ensures change { BrickChange D.Disk (calls_of self.old (ballots_size (accepted_of (group_at self.old.state group.0))) append_calls) self.old
             (balloted group.0 promised (accepted_of (group_at self.old.state group.0)) self.old.state) self.new.disk (end_of result) }
         ensures answer { Answers self.old self.new (balloted group.0 promised (accepted_of (group_at self.old.state group.0)) self.old.state)
             false result }
@@ -118,8 +118,7 @@ impl<D: Disk> BrickStore<D> {
             promised,
             accepted,
         });
-        ready(&self.frames, &self.index, false)?;
-        commit(self.alloc, &mut self.frames, &mut self.index, &item)
+        self.change(&item, false)
     }
 
     /// Accepts a list of members as the successor of the learnt view, under a ballot that it also promises.
@@ -136,7 +135,7 @@ impl<D: Disk> BrickStore<D> {
         requires group { group.0 < 64 }
         requires view { view.0 ≡ learnt_of (group_at self.old.state group.0) }
         requires members { 1 ≤ length members }
-        ensures change { BrickChange D.Disk (calls_of self.old (ballots_size (Some (ballot, members))) 4) self.old
+        ensures change { BrickChange D.Disk (calls_of self.old (ballots_size (Some (ballot, members))) append_calls) self.old
             (balloted group.0 ballot (Some (ballot, members)) self.old.state) self.new.disk (end_of result) }
         ensures answer { Answers self.old self.new (balloted group.0 ballot (Some (ballot, members)) self.old.state)
             false result }
@@ -147,8 +146,7 @@ impl<D: Disk> BrickStore<D> {
             promised: ballot,
             accepted: Some((ballot, members)),
         });
-        ready(&self.frames, &self.index, false)?;
-        commit(self.alloc, &mut self.frames, &mut self.index, &item)
+        self.change(&item, false)
     }
 
     /// Learns a view above the learnt one: what was promised and accepted is forgotten, and the logs of the views below its
@@ -160,7 +158,7 @@ impl<D: Disk> BrickStore<D> {
         requires group { group.0 < 64 }
         requires above { learnt_of (group_at self.old.state group.0) < view.number.0 }
         requires members { (1 ≤ length view.members) × (1 ≤ length view.prior) }
-        ensures change { BrickChange D.Disk (calls_of self.old (view_size view) 4) self.old
+        ensures change { BrickChange D.Disk (calls_of self.old (view_size view) append_calls) self.old
             (viewed group.0 view false self.old.state) self.new.disk (end_of result) }
         ensures answer { Answers self.old self.new (viewed group.0 view false self.old.state)
             false result }
@@ -170,8 +168,7 @@ impl<D: Disk> BrickStore<D> {
             view,
             synced: false,
         });
-        ready(&self.frames, &self.index, false)?;
-        commit(self.alloc, &mut self.frames, &mut self.index, &item)
+        self.change(&item, false)
     }
 
     /// Keeps that all stripes of a group are known to be in the view that it learnt, and drops the logs of the view before it.
@@ -182,7 +179,7 @@ impl<D: Disk> BrickStore<D> {
         requires group { group.0 < 64 }
         requires view { view.0 ≡ learnt_of (group_at self.old.state group.0) }
         requires learnt { IsSome (group_at self.old.state group.0).known }
-        ensures change { BrickChange D.Disk (calls_of self.old (known_size (group_at self.old.state group.0).known) 4) self.old
+        ensures change { BrickChange D.Disk (calls_of self.old (known_size (group_at self.old.state group.0).known) append_calls) self.old
             (all_synced group.0 self.old.state) self.new.disk (end_of result) }
         ensures answer { Answers self.old self.new (all_synced group.0 self.old.state)
             false result }
@@ -193,8 +190,7 @@ impl<D: Disk> BrickStore<D> {
             view: learnt_view(self.index.group(group.0)),
             synced: true,
         });
-        ready(&self.frames, &self.index, false)?;
-        commit(self.alloc, &mut self.frames, &mut self.index, &item)
+        self.change(&item, false)
     }
 
     /// Drops the versions of a stripe below one that it has.
@@ -211,7 +207,7 @@ impl<D: Disk> BrickStore<D> {
         requires group { group.0 < 64 }
         requires view { IsServed (group_at self.old.state group.0) view.0 }
         requires held { HasStamp stamp (log_at self.old.shape.block self.old.state (place group view stripe)) }
-        ensures change { BrickChange D.Disk (calls_of self.old 30 4) self.old
+        ensures change { BrickChange D.Disk (calls_of self.old stamped_size append_calls) self.old
             (collected version_stamp (place group view stripe) stamp self.old.state) self.new.disk (end_of result) }
         ensures answer { Answers self.old self.new (collected version_stamp (place group view stripe) stamp self.old.state)
             false result }
@@ -223,8 +219,7 @@ impl<D: Disk> BrickStore<D> {
             stamp,
             change: LogChange::Collect,
         });
-        ready(&self.frames, &self.index, false)?;
-        commit(self.alloc, &mut self.frames, &mut self.index, &item)
+        self.change(&item, false)
     }
 
     /// Adds a version to the log of a stripe, with this block, or with the newest version's where none is given.
@@ -254,6 +249,19 @@ impl<D: Disk> BrickStore<D> {
         }
     }
 
+    // Makes the change of a record that puts no block of its own in a slot; `adds` says whether it adds a live record.
+    fn change(&mut self, item: &Record, adds: bool) -> Result<(), StoreFault>
+        requires can { CanMake self.old.shape.block item.now self.old.state }
+        requires adds { adds ≡ adds_record item.now self.old.state }
+        ensures change { BrickChange D.Disk (calls_of self.old (body_size item.now) append_calls) self.old
+            (made_by self.old.shape.block item.now self.old.state) self.new.disk (end_of result) }
+        ensures answer { Answers self.old self.new (made_by self.old.shape.block item.now self.old.state)
+            (adds_record item.now self.old.state) result }
+    {
+        ready(&self.frames, &self.index, adds)?;
+        commit(self.alloc, &mut self.frames, &mut self.index, item, None)
+    }
+
     // Adds a version with the newest version's block.
     fn add_same(
         &mut self,
@@ -264,7 +272,7 @@ impl<D: Disk> BrickStore<D> {
     ) -> Result<(), StoreFault>
         requires group { group.0 < 64 }
         requires above { IsNext stamp (log_at self.old.shape.block self.old.state (place group view stripe)) None }
-        ensures change { BrickChange D.Disk (calls_of self.old 30 4) self.old
+        ensures change { BrickChange D.Disk (calls_of self.old stamped_size append_calls) self.old
             (with_version self.old.shape.block (place group view stripe) stamp None self.old.state) self.new.disk (end_of result) }
         ensures answer { Answers self.old self.new (with_version self.old.shape.block (place group view stripe) stamp None self.old.state)
             true result }
@@ -276,8 +284,7 @@ impl<D: Disk> BrickStore<D> {
             stamp,
             change: LogChange::Same,
         });
-        ready(&self.frames, &self.index, true)?;
-        commit(self.alloc, &mut self.frames, &mut self.index, &item)
+        self.change(&item, true)
     }
 
     // Adds a version with a block of its own, which is held as it was given: nothing is copied between the call and the disk.
@@ -292,7 +299,7 @@ impl<D: Disk> BrickStore<D> {
         requires group { group.0 < 64 }
         requires above { IsNext stamp (log_at self.old.shape.block self.old.state (place group view stripe)) (Some block) }
         requires block { length block ≡ self.old.shape.block }
-        ensures change { BrickChange D.Disk (calls_of self.old 35 5) self.old
+        ensures change { BrickChange D.Disk (calls_of self.old (version_size (Some block)) (version_calls (Some block))) self.old
             (with_version self.old.shape.block (place group view stripe) stamp (Some block) self.old.state) self.new.disk (end_of result) }
         ensures answer { Answers self.old self.new (with_version self.old.shape.block (place group view stripe) stamp (Some block) self.old.state)
             true result }
@@ -309,13 +316,12 @@ impl<D: Disk> BrickStore<D> {
                 slot,
             },
         });
-        let answer = commit_with(
+        let answer = commit(
             self.alloc,
             &mut self.frames,
             &mut self.index,
             &item,
-            slot,
-            held_under(&self.blocks, slot),
+            Some((slot, held_under(&self.blocks, slot))),
         );
         forget_refused(&mut self.blocks, slot, answer)
     }

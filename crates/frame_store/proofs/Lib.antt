@@ -17,3 +17,4 @@ pub mod Pieces
 pub mod Stills
 pub mod Formatting
 pub mod Words
+pub mod Writes

@@ -5,7 +5,7 @@ use Rattle.frame_store.specs.declared.frames.Frame.{Frame}
 use Rattle.frame_store.specs.declared.shapes.Shape.{Shape}
 use Rattle.frame_store.specs.declared.shapes.Half.{Half}
 use Rattle.frame_store.specs.declared.shapes.Half.TheVariants.{A, B}
-use Rattle.frame_store.specs.Layouts.{open_gate, header_at, slot_at, half_at, half_size, identity}
+use Rattle.frame_store.specs.Layouts.{headers_size, open_gate, header_at, slot_at, half_at, half_size, identity}
 use Rattle.frame_store.specs.Listed.{frames_of, size_of}
 
 -- n bytes from a place on
@@ -14,7 +14,7 @@ part at n image = take n (drop at image)
 
 -- a header is open: both headers are there, its gate is open, and it is of this store
 pub record IsOpen (shape : Shape) (half : Half) (image : List ℕ) : Type 0 where
-  pub whole : 64 ≤ length image
+  pub whole : headers_size ≤ length image
   pub front : part (header_at half) 17 image ≡ open_gate ∷ identity shape
 
 -- how often the index had been rewritten when the header was

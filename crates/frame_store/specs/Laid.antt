@@ -4,7 +4,7 @@ use Rattle.frame_store.specs.declared.frames.Frame.{Frame}
 use Rattle.frame_store.specs.declared.shapes.Shape.{Shape}
 use Rattle.frame_store.specs.declared.shapes.Half.{Half}
 use Rattle.frame_store.specs.declared.shapes.Half.TheVariants.{A, B}
-use Rattle.frame_store.specs.Layouts.{IsShape, header_at, half_at, half_size}
+use Rattle.frame_store.specs.Layouts.{IsShape, open_gate, header_at, half_at, half_size}
 use Rattle.frame_store.specs.Listed.{frames_of, size_of, spelled}
 use Rattle.frame_store.specs.Steps.{next_of}
 use Rattle.frame_store.specs.Images.{part, InForce, IsShut, EndsClosed, generation_at, half_bytes}
@@ -26,7 +26,7 @@ pub record Laid (shape : Shape) (half : Half) (number : ℕ) (other_shut : Bool)
   pub listed : frames_of (half_bytes shape half image) ≡ frames
   pub stands : part (half_at shape half) (size_of frames) image ≡ spelled frames
   pub shut : other_shut ≡ true → IsShut (header_at (other half)) image
-  pub unshut : other_shut ≡ false → get_or image (header_at (other half)) 0 ≡ 165
+  pub unshut : other_shut ≡ false → get_or image (header_at (other half)) 0 ≡ open_gate
   pub ended : closed ≡ true → EndsClosed shape half frames image
   pub not_ended : EndsClosed shape half frames image → closed ≡ true
 

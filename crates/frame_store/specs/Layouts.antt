@@ -5,9 +5,13 @@ use Rattle.frame_store.specs.declared.shapes.Shape.{Shape}
 use Rattle.frame_store.specs.declared.shapes.Half.{Half}
 use Rattle.frame_store.specs.declared.shapes.Half.TheVariants.{A, B}
 
+-- the bytes of the two headers, with which a disk begins
+abbrev pub headers_size : ℕ
+headers_size = 64
+
 -- what a store is made for: a brick, the bytes of a block, and how many slots there are, which begin behind the headers
 abbrev pub shape_of : ℕ → ℕ → ℕ → Shape
-shape_of me block records = record { me = me; block = block; records = records; start = 64 }
+shape_of me block records = record { me = me; block = block; records = records; start = headers_size }
 
 -- the limits of a shape
 pub record IsShape (shape : Shape) : Type 0 where
@@ -15,7 +19,7 @@ pub record IsShape (shape : Shape) : Type 0 where
   pub few_bytes : shape.block ≤ 4096
   pub some_slots : 1 ≤ shape.records
   pub few_slots : shape.records ≤ 1048576
-  pub behind : 64 ≤ shape.start
+  pub behind : headers_size ≤ shape.start
   pub near : shape.start ≤ 2 ^ 39
 
 -- the byte that opens the gate of a header or of a frame

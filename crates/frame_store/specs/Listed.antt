@@ -3,7 +3,7 @@ use Rattle.std.specs.Prelude.{ℕ, zero, suc, ◌+◌, ◌≤◌, ◌&&◌, nat_
 use Rattle.std.specs.Int.{w32, to_be_bytes, from_be_bytes}
 use Rattle.frame_store.specs.declared.frames.Frame.{Frame}
 use Rattle.frame_store.specs.declared.shapes.Shape.{Shape}
-use Rattle.frame_store.specs.Layouts.{half_size}
+use Rattle.frame_store.specs.Layouts.{half_size, open_gate}
 
 -- a frame after its gate
 abbrev pub frame_rest : Frame → List ℕ
@@ -12,7 +12,7 @@ frame_rest frame = frame.kind ∷ (to_be_bytes w32 (length frame.body) ++ frame.
 -- frames with open gates, one after the other
 abbrev pub spelled : List Frame → List ℕ
 spelled [] = []
-spelled (frame ∷ frames) = 165 ∷ (frame_rest frame ++ spelled frames)
+spelled (frame ∷ frames) = open_gate ∷ (frame_rest frame ++ spelled frames)
 
 -- what is written behind a gate for a frame: the rest of it, and the next gate, which is closed
 abbrev pub line_of : Frame → List ℕ
@@ -38,7 +38,7 @@ frame_of kind body = record { kind = kind; body = body }
 unfoldable pub frame_at : List ℕ → Option (Frame × List ℕ)
 frame_at (gate ∷ kind ∷ a ∷ b ∷ c ∷ d ∷ rest) =
     let len = from_be_bytes w32 (a ∷ b ∷ c ∷ d ∷ []) in
-    if (gate == 165) && nat_le len (length rest) then Some (frame_of kind (take len rest), drop len rest) else None
+    if (gate == open_gate) && nat_le len (length rest) then Some (frame_of kind (take len rest), drop len rest) else None
 frame_at bytes = None
 
 abbrev pub onto : {X : Type 0} → Option (Frame × X) → (X → List Frame) → List Frame

@@ -1,6 +1,5 @@
 -- What a clause sees of a store.
 use Rattle.std.specs.Prelude.{◌≡◌, ℕ, ◌≤◌, Bool, true, false, List, length, Result, Ok, Err}
-use Rattle.fab_disk.specs.Disk.{Only}
 use Rattle.frame_store.specs.declared.faults.FrameFault.{FrameFault}
 use Rattle.frame_store.specs.declared.faults.FrameFault.TheVariants.{Disk, Halted}
 use Rattle.frame_store.specs.declared.frames.Frame.{Frame}
@@ -31,12 +30,6 @@ pub record Shows {D : Type 0} (seen : D → List ℕ) (store : Held D) : Type 0 
 abbrev pub IsRead : {D : Type 0} → Type 0 → (D → List ℕ) → Held D → Type 0
 IsRead tells seen store = tells → store.halted ≡ false → Shows seen store
 
--- A crash leaves what a read gives: a sync succeeded since the last change, and the store is not halted.
-pub record IsDurable {D : Type 0} (tells : Type 0) (seen : D → List ℕ) (may_leave : D → List ℕ → Type 0) (store : Held D) : Type 0 where
-  pub told : tells
-  pub runs : store.halted ≡ false
-  pub only : Only (seen store.disk) (may_leave store.disk)
-
 -- the same store, but for the disk, the room, and whether it is halted
 pub record IsSame {D : Type 0} (old new : Held D) : Type 0 where
   pub shape : new.shape ≡ old.shape
@@ -63,7 +56,7 @@ pub record IsAnswer {T : Type 0} (halted halted_now : Bool) (result : Result T F
   pub only_then : result ≡ Err Halted → halted ≡ true
   pub halts : halted_now ≡ halted_after halted result
 
--- Room for so many calls of the disk, with so many bytes in all, and in memory for so many bytes of a write. Frames and a body need none.
-pub record HasRoom {D : Type 0} (has_room : D → ℕ → ℕ → ℕ → Type 0) (store : Held D) (calls bytes written frames body : ℕ) : Type 0 where
+-- room for so many calls of the disk, with so many bytes in all, and in memory for so many bytes of a write
+pub record HasRoom {D : Type 0} (has_room : D → ℕ → ℕ → ℕ → Type 0) (store : Held D) (calls bytes written : ℕ) : Type 0 where
   pub disk : has_room store.disk calls bytes (store_end store.shape)
   pub line : written ≤ store.room.line

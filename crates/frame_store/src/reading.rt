@@ -4,7 +4,7 @@ ghost use Rattle.std.specs.Prelude.{◌≡◌, ◌≢◌, ℕ, ◌+◌, ◌^◌,
 ghost use Rattle.std.specs.Int.{w64, from_be_bytes};
 ghost use Rattle.fab_disk.specs.Changing.{Still};
 ghost use Rattle.frame_store.specs.declared.frames.Frame.{Frame};
-ghost use Rattle.frame_store.specs.Layouts.{IsShape, identity};
+ghost use Rattle.frame_store.specs.Layouts.{IsShape, headers_size, open_gate, identity};
 ghost use Rattle.frame_store.specs.Listed.{frame_at, frame_of, frame_rest, size_of};
 ghost use Rattle.frame_store.specs.Images.{part, IsOpen, IsLater, InForce, IsNoStore, generation_at};
 ghost use Rattle.frame_store.specs.Laid.{Laid, IsCounted};
@@ -65,7 +65,7 @@ fn number_of(bytes: &[u8]) -> u64
 
 // The bytes that an open header begins with.
 fn front_of(shape: Shape) -> [u8; 17]
-    ensures { result ≡ 165 ∷ identity shape }
+    ensures { result ≡ open_gate ∷ identity shape }
 {
     let [a, b, c, d, e, f, g, h, i, j, k, l, m, n, o, p] = identity(shape);
     [OPEN, a, b, c, d, e, f, g, h, i, j, k, l, m, n, o, p]
@@ -73,7 +73,7 @@ fn front_of(shape: Shape) -> [u8; 17]
 
 // The generation of a header, if it is open.
 fn generation_of(shape: Shape, half: Half, headers: &[u8]) -> Option<u64>
-    requires { length headers.now ≡ 64 }
+    requires { length headers.now ≡ headers_size }
     ensures open { IfSome result (λ n. IsOpen shape half headers.now × (generation_at half headers.now ≡ n)) }
     ensures shut { IfNone result (IsOpen shape half headers.now → ⊥) }
 {
@@ -95,7 +95,7 @@ fn is_later(first: u64, second: u64) -> bool
 
 // The half that a disk is read by, and its generation.
 fn choose(shape: Shape, headers: &[u8]) -> Option<(Half, u64)>
-    requires { length headers.now ≡ 64 }
+    requires { length headers.now ≡ headers_size }
     ensures found { IfSome result (λ f. InForce shape f.0 headers.now × (generation_at f.0 headers.now ≡ f.1)) }
     ensures none { IfNone result (IsNoStore shape headers.now) }
 {
@@ -123,7 +123,7 @@ fn choose(shape: Shape, headers: &[u8]) -> Option<(Half, u64)>
 #[tactic(auto, unfolding(crate::specs::Listed::frame_at))]
 fn frame_at(bytes: &[u8]) -> Option<(u8, &[u8], &[u8])>
     ensures found { IfSome result (λ f. frame_at bytes.now ≡ Some (frame_of f.0 f.1.now, f.2.now)) }
-    ensures spelled { IfSome result (λ f. bytes.now ≡ 165 ∷ (frame_rest (frame_of f.0 f.1.now) ++ f.2.now)) }
+    ensures spelled { IfSome result (λ f. bytes.now ≡ open_gate ∷ (frame_rest (frame_of f.0 f.1.now) ++ f.2.now)) }
     ensures none { IfNone result (frame_at bytes.now ≡ None) }
 {
     let [gate, kind, a, b, c, d, rest @ ..] = bytes else {
@@ -274,8 +274,8 @@ pub(crate) struct Found {
 
 // Reads the headers.
 fn read_headers<D: Disk>(disk: &mut D) -> Result<[u8; 64], OpenFault>
-    requires whole { D.tells → 64 ≤ length (D.seen disk.old) }
-    ensures bytes { D.tells → IfOk result (λ headers. headers ≡ slice_range (D.seen disk.old) 0 64) }
+    requires whole { D.tells → headers_size ≤ length (D.seen disk.old) }
+    ensures bytes { D.tells → IfOk result (λ headers. headers ≡ slice_range (D.seen disk.old) 0 headers_size) }
     ensures still { Still D.Disk disk.old disk.new (result ≡ Err OpenFault.Disk) }
     ensures certain { D.certain disk.new ≡ D.certain disk.old }
     ensures only { result ≢ Err OpenFault.NotAStore }

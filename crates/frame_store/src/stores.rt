@@ -2,13 +2,13 @@
 
 ghost use Rattle.std.specs.Prelude.{max, ◌≡◌, ◌≢◌, ◌⊎◌, ◌↔◌, ◌+◌, ◌≤◌, ◌<◌, ◌^◌, ◌++◌, ◌∷◌, [], ℕ, List, true, false, length, IsTrue, IsOk, IfOk, IfErr, OnOk, OnErr, Some, None};
 ghost use Rattle.fab_disk.specs.Changing.{Run, Still, IsAny};
-ghost use Rattle.fab_disk.specs.Disk.{Elapses, IsUntouched, Kept, KeepsRoom};
+ghost use Rattle.fab_disk.specs.Disk.{Elapses, IsUntouched, Kept, KeepsRoom, Only};
 ghost use Rattle.fab_disk.specs.Plan.{IsRun, KeepsPlan};
 ghost use Rattle.frame_store.specs.Layouts.{shape_of, half_size};
 ghost use Rattle.frame_store.specs.Listed.{Fits, size_of, frame_of};
 ghost use Rattle.frame_store.specs.Images.{IsNoStore, IsEmptyStore, HasSlot, block_in};
 ghost use Rattle.frame_store.specs.Ends.{end_of, ListChange};
-ghost use Rattle.frame_store.specs.Stores.{Shows, IsRead, IsDurable, IsSame, HasNow, IsAnswer, HasRoom};
+ghost use Rattle.frame_store.specs.Stores.{Shows, IsRead, IsSame, HasNow, IsAnswer, HasRoom};
 
 use crate::buffers::{closing, header_rest, shut_headers, size_of};
 use crate::faults::{FrameFault, OpenFault};
@@ -222,7 +222,7 @@ impl<D: Disk> FrameStore<D> {
         ensures no_call { result ≡ Err FrameFault.Halted → self.new ≡ self.old }
         ensures read { IsRead D.tells D.seen self.new }
         // Within what `reserve` made, memory is not refused.
-        ensures room { HasRoom D.has_room self.old 4 (length body.now + 7) (length body.now + 6) (length self.old.frames + 1) (length body.now)
+        ensures room { HasRoom D.has_room self.old 4 (length body.now + 7) (length body.now + 6)
             → result ≢ Err FrameFault.NoMemory }
     {
         if self.halted {
@@ -265,7 +265,7 @@ impl<D: Disk> FrameStore<D> {
         ensures read { IsRead D.tells D.seen self.new }
         // Within what `reserve` made, memory is not refused.
         ensures room { HasRoom D.has_room self.old 5 (self.old.shape.block + (length frame.body + 7)) (length frame.body + 6)
-            (length self.old.frames + 1) 0 → result ≢ Err FrameFault.NoMemory }
+            → result ≢ Err FrameFault.NoMemory }
     {
         if self.halted {
             return Err(FrameFault::Halted);
@@ -315,10 +315,10 @@ impl<D: Disk> FrameStore<D> {
         ensures no_call { result ≡ Err FrameFault.Halted → self.new ≡ self.old }
         ensures read { IsRead D.tells D.seen self.new }
         // Within what `reserve` made, memory is not refused, and what was made beyond this call is left.
-        ensures room { HasRoom D.has_room self.old 7 (size_of frames.items + 34) (size_of frames.items + 1) (length frames.items) 0
+        ensures room { HasRoom D.has_room self.old 7 (size_of frames.items + 34) (size_of frames.items + 1)
             → result ≢ Err FrameFault.NoMemory }
-        ensures left { OnOk result ((calls bytes written listed body : ℕ) → HasRoom D.has_room self.old (calls + 7)
-            (bytes + (size_of frames.items + 34)) written listed body → HasRoom D.has_room self.new calls bytes written listed body) }
+        ensures left { OnOk result ((calls bytes written : ℕ) → HasRoom D.has_room self.old (calls + 7)
+            (bytes + (size_of frames.items + 34)) written → HasRoom D.has_room self.new calls bytes written) }
     {
         if self.halted {
             return Err(FrameFault::Halted);
@@ -365,7 +365,7 @@ impl<D: Disk> FrameStore<D> {
         ensures no_call { result ≡ Err FrameFault.Halted → self.new ≡ self.old }
         ensures read { IsRead D.tells D.seen self.new }
         ensures room { OnOk result (HasRoom D.has_room self.new 13 (size_of frames.now + 34 + (self.old.shape.block + body + 7))
-            (max (size_of frames.now + 1) (body + 6)) (max (length self.old.frames + 1) (length frames.now + 1)) body) }
+            (max (size_of frames.now + 1) (body + 6))) }
     {
         if self.halted {
             return Err(FrameFault::Halted);
@@ -384,7 +384,7 @@ impl<D: Disk> FrameStore<D> {
     /// # Errors
     /// [`FrameFault::Halted`], [`FrameFault::Disk`]; [`FrameFault::NoMemory`], where nothing changed.
     pub fn sync(&mut self) -> Result<(), FrameFault>
-        ensures durable { D.tells → OnOk result (IsDurable D.tells D.seen D.may_leave self.new) }
+        ensures certain_now { D.tells → OnOk result (Only (D.seen self.new.disk) (D.may_leave self.new.disk)) }
         ensures same { IsSame self.old self.new }
         ensures content { D.seen self.new.disk ≡ D.seen self.old.disk }
         // A sync that did not succeed makes nothing certain.
@@ -400,10 +400,10 @@ impl<D: Disk> FrameStore<D> {
             (result ≡ Err FrameFault.Disk) }
         ensures read { IsRead D.tells D.seen self.new }
         // Within what `reserve` made, memory is not refused, and what was made beyond this call is left.
-        ensures room { (calls bytes written listed body : ℕ) → HasRoom D.has_room self.old (calls + 1) bytes written listed body
+        ensures room { (calls bytes written : ℕ) → HasRoom D.has_room self.old (calls + 1) bytes written
             → result ≢ Err FrameFault.NoMemory }
-        ensures left { OnOk result ((calls bytes written listed body : ℕ) → HasRoom D.has_room self.old (calls + 1) bytes written listed body
-            → HasRoom D.has_room self.new calls bytes written listed body) }
+        ensures left { OnOk result ((calls bytes written : ℕ) → HasRoom D.has_room self.old (calls + 1) bytes written
+            → HasRoom D.has_room self.new calls bytes written) }
     {
         if self.halted {
             return Err(FrameFault::Halted);

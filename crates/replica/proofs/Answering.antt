@@ -229,6 +229,16 @@ module _ {D : Type 0} (d : on_disk.Ghosts D) (Follows : Option Reply → StateOf
     change_next only_now given some zero (Err faults.NoMemory) run change =
         next_refused d only_now Follows old new.disk (still_of d calls old after new.disk run) given
 
+    -- and both of the answer that the brick gave
+    pub changed_next : ((disk : D) (image : List ℕ) → d.left_since disk (d.moment disk) image → d.may_leave disk image) → (given : ℕ)
+        → ((adds ≡ true → live old.state ≡ old.shape.records → ⊥) → given ≡ calls) → (adds ≡ true → live old.state ≡ old.shape.records → given ≡ 0)
+        → (answer : Result (Unit {0}) StoreFault) (result : AnswerOf Reply) → result ≡ answered reply answer
+        → BrickChange d calls old after new.disk (store_ends.end_of answer) → Answers old new after adds answer
+        → Handles d Follows old new result × NextChange d given old Follows new.disk (end_of result)
+    changed_next only_now given some zero answer result is run change =
+        subst (λ (r : AnswerOf Reply). Handles d Follows old new r × NextChange d given old Follows new.disk (end_of r)) (sym is)
+        (handles_change answer run change, change_next only_now given some zero answer run change)
+
 abbrev fails : (A : Type 0) → ReplicaFault → AnswerOf A
 fails A fault = Err fault
 

@@ -1,5 +1,5 @@
 -- A list that can be appended to needs nothing but room in memory and a sync.
-use Rattle.std.proofs.Common.{rules, ◌≡◌, ◌+◌, ◌≤◌, ◌∙◌, ℕ, Bool, true, false, if◌then◌else◌, Ok, length, sym, ap, subst, arith}
+use Rattle.std.proofs.Common.{rules, ◌≡◌, ◌+◌, ◌≤◌, ◌∙◌, ℕ, Bool, true, false, if◌then◌else◌, Ok, sym, ap, subst, arith}
 use Rattle.std.specs.Prelude.{IsOk}
 use Rattle.std.proofs.lemmas.Result.{err_from_is_err_and}
 use Rattle.frame_store.specs.declared.faults.FrameFault.{FrameFault}
@@ -31,9 +31,7 @@ returns-then-is_appendable-clause-room g c =
     let made = c.in_ok-reserve.ensures in
     let call = c.in_ok-sync.ensures in
     let block : new.shape.block ≡ old.shape.block = ap (λ (s : Shape). s.block) (call.same.shape ∙ made.same.shape) in
-    let listed : length new.frames ≡ length old.frames = ap length (call.same.frames ∙ made.same.frames) in
-    room_less d.has_room g.met.D.Disk.room_for_less new _ _ _ _ _ _ _ _ _ _ (omega arith) (omega (arith, block)) (omega arith) (omega (arith, listed))
-    (omega arith) (call.left 12 _ _ _ _ made.room)
+    room_less d.has_room g.met.D.Disk.room_for_less new _ _ _ _ _ _ (omega arith) (omega (arith, block)) (omega arith) (call.left 12 _ _ made.room)
 
 pub returns-then-is_appendable-clause-readies : goal.returns-then-is_appendable-clause-readies
 returns-then-is_appendable-clause-readies g c =

@@ -1,5 +1,5 @@
 -- The frames of the live records bring the state back, and all memory is taken first.
-use Rattle.std.proofs.Common.{rules, ◌≡◌, ◌+◌, false, List, length, None, Ok, Err, refl, sym, ap, subst, ◌∙◌, arith}
+use Rattle.std.proofs.Common.{rules, ◌≡◌, ◌+◌, true, false, List, None, Ok, Err, refl, sym, ap, subst, ◌∙◌, arith}
 use Rattle.std.specs.Prelude.{IsOk}
 use Rattle.std.proofs.lemmas.Result.{err_from_is_err_and}
 use Rattle.frame_store.specs.declared.faults.FrameFault.{FrameFault}
@@ -7,7 +7,8 @@ use Rattle.frame_store.specs.declared.frames.Frame.{Frame}
 use Rattle.frame_store.specs.declared.shapes.Shape.{Shape}
 use Rattle.frame_store.specs.Listed.{size_of}
 use Rattle.frame_store.specs.Stores.{HasRoom}
-use Rattle.frame_store.proofs.Words.{run_by, cause_by, words_of}
+use Rattle.frame_store.specs.Ends.{end_of}
+use Rattle.frame_store.proofs.Words.{run_by, cause_by, stands_of}
 use Rattle.brick_state.specs.States.{empty}
 use Rattle.brick_state.specs.Indexes.{state_of}
 use Rattle.brick_store.specs.Bricks.{fault_of}
@@ -70,12 +71,11 @@ returns-in_err-rewrite-clause-readies g c =
     let call = c.in_err-rewrite.ensures in
     let meant = λ (is : refused (fault_of f) ≡ refused Disk). ap (refused {E = FrameFault}) (disk_meant f is) in
     let leads = live_lead (limits_of old.shape) c.in_ok-live.live.items st c.requires.held.kept c.in_ok-live.ensures.read in
-    let words = words_of d 7 held c.rewrite.new.self c.in_ok-live.live.items None (refused f) synced.read tt call.change in
-    let are : c.deref.result.now ≡ c.in_ok-live.live.items = c.deref.ensures.value in
-    let never = call.room (room_less d.has_room g.met.D.Disk.room_for_less held _ _ _ _ _ _ _ _ _ _ (omega arith)
-    (omega (arith, ap size_of are)) (omega (arith, ap size_of are)) (omega (arith, ap length are)) (omega arith)
-    (synced.left 12 _ _ _ _ made.room)) in
+    let size = ap size_of c.deref.ensures.value in
+    let never = call.room (room_less d.has_room g.met.D.Disk.room_for_less held _ _ _ _ _ _ (omega arith) (omega (arith, size)) (omega (arith, size))
+    (synced.left 12 _ _ made.room)) in
     let runs : held.halted ≡ false = synced.answer.halts ∙ made.answer.halts ∙ c.requires.held.runs in
+    let stands = λ (told : d.tells) (closed : old.closed ≡ true). stands_of d held None synced.read runs (synced.same.closed ∙ made.same.closed ∙ closed) told (synced.certain_now told) in
     let is : f ≡ frames.Disk = disk_failed f held.halted runs call.answer.only_then never in
     let cause = cause_by d 7 _ _ _ held.disk new (refused f) call.change in
     let p = err_from_is_err_and c.from_residual-in_err-rewrite.result c.from_residual-in_err-rewrite.ensures.1 in
@@ -83,7 +83,7 @@ returns-in_err-rewrite-clause-readies g c =
     (λ told closed. renewed d.tells d.seen d.may_leave d.moment d.left_since g.met.D.Disk.only_now old held c.reserve.new.self.disk new
     c.in_ok-live.live.items st made.still.untouched
     synced.time synced.crash synced.content (synced.same.shape ∙ made.same.shape) (synced.same.frames ∙ made.same.frames) c.requires.held.found leads
-    (words.any_moment (synced.durable told) (synced.same.closed ∙ made.same.closed ∙ closed)))
+    (call.change.moments told (stands told closed)))
     (run_as d.tells d.moment d.plan d.unlisted 8 old.disk new _ _ _ _ (λ whole. absurd cc) (λ cut. ap Err is)
     (λ not_whole not_cut. absurd (not_cut (ap (refused {E = StoreFault}) (ap fault_of is))))
     (run_after d.tells d.moment d.plan d.unlisted 8 old.disk c.reserve.new.self.disk new _ _ _ made.still.plan made.still.untouched.clock
@@ -93,7 +93,7 @@ returns-in_err-rewrite-clause-readies g c =
     (λ told free closed cut. rewrite_cut d.seen d.certain d.may_leave d.moment d.left_since old held c.reserve.new.self.disk
     new c.in_ok-live.live.items st made.still.untouched synced.content (synced.run.counted told refl) (synced.same.shape ∙ made.same.shape)
     (synced.same.frames ∙ made.same.frames) c.requires.held.found leads
-    (words.cut (synced.durable told) (synced.same.closed ∙ made.same.closed ∙ closed) (meant cut)))
+    (call.change.cut (ap end_of (meant cut)) told (stands told closed)))
     (λ no. absurd (never (ap (refused {E = FrameFault}) (memory_refused f no)))) (search rules))
 
 pub returns-clause-readies : goal.returns-clause-readies
@@ -106,13 +106,14 @@ returns-clause-readies g c =
     let leads = live_lead (limits_of old.shape) c.in_ok-live.live.items st c.requires.held.kept c.in_ok-live.ensures.read in
     let held = c.sync.new.self in
     let change = c.in_ok-rewrite.ensures.change in
-    let words = words_of d 7 held c.rewrite.new.self c.in_ok-live.live.items None (Ok tt) call.read (c.in_ok-rewrite.ensures.answer.halts ∙ call.answer.halts ∙ made.answer.halts ∙ c.requires.held.runs) change in
+    let runs : held.halted ≡ false = call.answer.halts ∙ made.answer.halts ∙ c.requires.held.runs in
+    let stands = λ (told : d.tells) (closed : old.closed ≡ true). stands_of d held None call.read runs (call.same.closed ∙ made.same.closed ∙ closed) told (call.certain_now told) in
     let run = run_by d 7 _ _ _ held.disk c.rewrite.new.self.disk (Ok tt) change in
     let cause = cause_by d 7 _ _ _ held.disk c.rewrite.new.self.disk (Ok tt) change in
     ready_by d g.met.D.Disk.only_now 8 st old c.rewrite.new.self.disk (Ok tt) tt
     (λ told closed. renewed d.tells d.seen d.may_leave d.moment d.left_since g.met.D.Disk.only_now old held c.reserve.new.self.disk c.rewrite.new.self.disk c.in_ok-live.live.items st made.still.untouched
     call.time call.crash call.content (call.same.shape ∙ made.same.shape) (call.same.frames ∙ made.same.frames) c.requires.held.found leads
-    (words.any_moment (call.durable told) (call.same.closed ∙ made.same.closed ∙ closed)))
+    (change.moments told (stands told closed)))
     (search rules) (λ told free closed is. absurd cc) (λ is. absurd cc) (search rules)
 
 pub returns-clause-may : goal.returns-clause-may
@@ -130,7 +131,7 @@ returns-clause-may g c =
     record {
       runs = runs;
       leads = subst (λ (s : Shape). Leads (limits_of s) new.frames empty st) (sym shape) listed;
-      settled = λ told. record { durable = record { told = told; runs = runs; only = (here.change.whole refl told).only }; shows = here.read told runs; closed = here.ok.closed };
+      settled = λ told. record { only = (here.change.whole refl told).only; shows = here.read told runs; closed = here.ok.closed };
     }
 
 pub returns-clause-room : goal.returns-clause-room
@@ -142,24 +143,20 @@ returns-clause-room g c =
     let call = c.in_ok-rewrite.ensures in
     let made = c.in_ok-reserve.ensures in
     let synced = c.in_ok-sync.ensures in
-    let are : c.deref.result.now ≡ live = c.deref.ensures.value in
-    let size = ap size_of are in
-    let count = ap length are in
+    let size = ap size_of c.deref.ensures.value in
     let block = λ (a b : Shape) (same : a ≡ b). ap (λ (s : Shape). s.block) same in
     let bytes = mid.shape.block + c.args.body + 7 in
-    let before : HasRoom d.has_room mid (5 + 7) (bytes + (size_of live + 34)) (c.args.body + 6) (length live + 1) c.args.body =
-    room_less d.has_room g.met.D.Disk.room_for_less mid _ _ _ _ _ _ _ _ _ _ (omega arith)
+    let before : HasRoom d.has_room mid (5 + 7) (bytes + (size_of live + 34)) (c.args.body + 6) =
+    room_less d.has_room g.met.D.Disk.room_for_less mid _ _ _ _ _ _ (omega arith)
     (omega (
       arith,
       size,
       block mid.shape c.reserve.new.self.shape synced.same.shape,
       block c.reserve.new.self.shape c.args.frames.now.shape made.same.shape,
-    )) (omega arith) (omega (arith, count)) (omega arith)
-    (synced.left 12 _ _ _ _ made.room) in
-    let after = call.left 5 bytes (c.args.body + 6) (length live + 1) c.args.body before in
-    let listed = ap length call.ok.frames in
-    room_less d.has_room g.met.D.Disk.room_for_less new _ _ _ _ _ _ _ _ _ _ (omega arith) (omega (arith, block new.shape mid.shape call.ok.shape))
-    (omega arith) (omega (arith, listed)) (omega arith) after
+    )) (omega arith) (synced.left 12 _ _ made.room) in
+    let after = call.left 5 bytes (c.args.body + 6) before in
+    room_less d.has_room g.met.D.Disk.room_for_less new _ _ _ _ _ _ (omega arith) (omega (arith, block new.shape mid.shape call.ok.shape))
+    (omega arith) after
 
 pub returns-clause-slots : goal.returns-clause-slots
 returns-clause-slots g c =

@@ -24,7 +24,7 @@ use Rattle.replica.specs.Plans.{block_stored, planned, is_shared, IsChange}
 use Rattle.replica.specs.Reactions.{place_of, part_at, IsReacted}
 use Rattle.replica.specs.Handling.{Handles, NextChange, end_of}
 use Rattle.replica.specs.Calls.{stored_calls, part_calls}
-use Rattle.replica.proofs.Answering.{handles_change, change_next, next_none, still_here}
+use Rattle.replica.proofs.Answering.{changed_next, next_none, still_here}
 use Rattle.replica.proofs.Logs.{newest_seen, held_seen}
 use Rattle.replica.proofs.Reacting.{reacted_stays, promise_grows, order_made, store_made, none_made, order_moves, store_moves, reacted_collect, collect_moves, unless_room, unless_none}
 use Rattle.replica.proofs.Runs.{calls_kept, calls_ordered, calls_stored, version_stored}
@@ -52,33 +52,6 @@ add_version-answer-requires-clause-block g c =
     let change = changed_as old.shape.block part c.in-Store.is c.requires.change in
     own_long old.shape.block (newest_of part.log) c.in-Store.block change.1
 
-pub returns-in-Promise-clause-handles : goal.returns-in-Promise-clause-handles
-returns-in-Promise-clause-handles g c =
-    let d = g.D.Disk in
-    let B = Brick g.row.D.Denot in
-    let old = c.args.store.now in
-    let new = c.set_order.new.self in
-    let st = old.state in
-    let block = old.shape.block in
-    let call = c.args.call in
-    let t = c.in-Promise.stamp in
-    let reply = c.in-Promise.reply in
-    let part = part_at block st call in
-    let full = full_at old.shape.records (live st) in
-    let Follows = λ (p : Plan). IsReacted block call st (planned full part p) in
-    let sorted = c.requires.runs.ordered.sorted in
-    let later : stamp_below (stripe_at st (place_of call)).order t ≡ true = changed_as block part c.in-Promise.is c.requires.change in
-    subst (λ (p : Plan). Handles d (Follows p) old new c.answered.result)
-    (sym c.in-Promise.is)
-    (subst (λ (r : Result (Option Reply) ReplicaFault). Handles d
-    (Follows (Promise t reply)) old new r) (sym c.answered.ensures)
-    (handles_change d (Follows (Promise t reply)) call.group.0 call.view.0 call.stripe.0 old new
-    (ordered (place_of call) t st)
-    (adds_stamp t (stripe_at st (place_of call)).order) (calls_of old 30 4) (Some reply) c.requires.runs
-    (order_made block call st sorted old.shape.records t reply later)
-    (λ adds. none_made block call st sorted old.shape.records (promised part t reply) (promise_grows block call st sorted t reply ∙ adds))
-    (order_moves block call st sorted t later) c.set_order.result c.set_order.ensures.change c.set_order.ensures.answer))
-
 -- the reaction that is planned, with the block that the store adds
 module _ (full : Option ℕ) (part : Replica) (t : Stamp) (log : List Kept) (log_is : part.log ≡ map as_version log) where
   store_planned : (plan : Plan) (block : Option (List ℕ)) → plan ≡ Store t block
@@ -87,33 +60,6 @@ module _ (full : Option ℕ) (part : Replica) (t : Stamp) (log : List Kept) (log
       ap (planned full part) is
       ∙ ap (λ (vs : List Version). unless_full full part (stored part t (block_stored vs block))) log_is
       ∙ ap (λ (bytes : List ℕ). unless_full full part (stored part t bytes)) (stored_added log block)
-
-pub returns-in-Store-clause-handles : goal.returns-in-Store-clause-handles
-returns-in-Store-clause-handles g c =
-    let d = g.D.Disk in
-    let old = c.args.store.now in
-    let new = c.add_version-answer.new.self in
-    let st = old.state in
-    let block = old.shape.block in
-    let call = c.args.call in
-    let t = c.in-Store.stamp in
-    let log = log_at block st (place_of call) in
-    let bytes = block_added c.in-Store.block log in
-    let part = part_at block st call in
-    let full = full_at old.shape.records (live st) in
-    let Follows = λ (r : Reaction). IsReacted block call st r in
-    let reaction = unless_full full part (stored part t bytes) in
-    let sorted = c.requires.runs.ordered.sorted in
-    subst (λ (r : Reaction). Handles d (Follows r) old new c.answered-in-Store.result)
-    (sym (store_planned full part t log refl c.args.plan c.in-Store.block c.in-Store.is))
-    (subst (λ (r : Result (Option Reply) ReplicaFault). Handles d
-    (Follows reaction) old new r) (sym c.answered-in-Store.ensures)
-    (handles_change d (Follows reaction) call.group.0 call.view.0 call.stripe.0 old new
-    (added (place_of call) (version t bytes) st)
-    true (calls_of old (version_size c.in-Store.block) (version_calls c.in-Store.block)) (Some Stored) c.requires.runs
-    (store_made block call st sorted old.shape.records t bytes)
-    (none_made block call st sorted old.shape.records (stored part t bytes))
-    (store_moves block call st sorted t bytes) c.add_version-answer.result c.add_version-answer.ensures.change c.add_version-answer.ensures.answer))
 
 -- ---- what becomes of the disk
 
@@ -146,8 +92,8 @@ returns-in-Tell-clause-change g c =
     (next_none d g.met.D.Disk.only_now (Follows (Tell reply)) old old.disk (still_here d old.disk) c.requires.runs.stands (Some reply)
     (reacted_stays block c.args.call reply old.state)))
 
-pub returns-in-Promise-clause-change : goal.returns-in-Promise-clause-change
-returns-in-Promise-clause-change g c =
+pub returns-in-Promise : goal.returns-in-Promise
+returns-in-Promise g c =
     let d = g.D.Disk in
     let old = c.args.store.now in
     let new = c.set_order.new.self in
@@ -157,6 +103,7 @@ returns-in-Promise-clause-change g c =
     let records = old.shape.records in
     let t = c.in-Promise.stamp in
     let reply = c.in-Promise.reply in
+    let result = c.answered.result in
     let part = part_at block st call in
     let full = full_at records (live st) in
     let sorted = c.requires.runs.ordered.sorted in
@@ -166,20 +113,19 @@ returns-in-Promise-clause-change g c =
     let reaction = promised part t reply in
     let later : stamp_below part.order t ≡ true = changed_as block part c.in-Promise.is c.requires.change in
     let grows = promise_grows block call st sorted t reply in
-    subst (λ (p : Plan). NextChange d (calls p) old (Follows p) new.disk (end_of c.answered.result)) (sym c.in-Promise.is)
-    (subst (λ (r : Result (Option Reply) ReplicaFault). NextChange d (calls (Promise t reply)) old (Follows (Promise t reply)) new.disk (end_of r))
-    (sym c.answered.ensures)
-    (change_next d (Follows (Promise t reply)) call.group.0 call.view.0 call.stripe.0 old new (ordered (place_of call) t st)
+    let both = subst (λ (p : Plan). Handles d (Follows p) old new result × NextChange d (calls p) old (Follows p) new.disk (end_of result)) (sym c.in-Promise.is)
+    (changed_next d (Follows (Promise t reply)) call.group.0 call.view.0 call.stripe.0 old new (ordered (place_of call) t st)
     (adds_stamp t (stripe_at st (place_of call)).order) (calls_of old 30 4) (Some reply) c.requires.runs
     (order_made block call st sorted records t reply later)
     (λ adds. none_made block call st sorted records reaction (grows ∙ adds))
     (order_moves block call st sorted t later) g.met.D.Disk.only_now (calls (Promise t reply))
     (λ room. ap made (sym (unless_room block call st sorted records part reaction (λ more. room (sym grows ∙ more)))) ∙ calls_ordered old false part t later)
     (λ adds most. ap made (sym (unless_none block call st sorted records part reaction (grows ∙ adds) most)) ∙ calls_kept old false part)
-    c.set_order.result c.set_order.ensures.change c.set_order.ensures.answer))
+    c.set_order.result result c.answered.ensures c.set_order.ensures.change c.set_order.ensures.answer) in
+    record { handles = both.0; change = both.1 }
 
-pub returns-in-Store-clause-change : goal.returns-in-Store-clause-change
-returns-in-Store-clause-change g c =
+pub returns-in-Store : goal.returns-in-Store
+returns-in-Store g c =
     let d = g.D.Disk in
     let old = c.args.store.now in
     let new = c.add_version-answer.new.self in
@@ -189,6 +135,7 @@ returns-in-Store-clause-change g c =
     let records = old.shape.records in
     let t = c.in-Store.stamp in
     let own = c.in-Store.block in
+    let result = c.answered-in-Store.result in
     let log = log_at block st (place_of call) in
     let bytes = block_added own log in
     let part = part_at block st call in
@@ -198,18 +145,17 @@ returns-in-Store-clause-change g c =
     let calls = λ (r : Reaction). part_calls old.shape old.listed shared part r.replica in
     let Follows = λ (r : Reaction). IsReacted block call st r in
     let reaction = unless_full full part (stored part t bytes) in
-    subst (λ (r : Reaction). NextChange d (calls r) old (Follows r) new.disk (end_of c.answered-in-Store.result))
+    let both = subst (λ (r : Reaction). Handles d (Follows r) old new result × NextChange d (calls r) old (Follows r) new.disk (end_of result))
     (sym (store_planned full part t log refl c.args.plan own c.in-Store.is))
-    (subst (λ (r : Result (Option Reply) ReplicaFault). NextChange d (calls reaction) old (Follows reaction) new.disk (end_of r))
-    (sym c.answered-in-Store.ensures)
-    (change_next d (Follows reaction) call.group.0 call.view.0 call.stripe.0 old new (added (place_of call) (version t bytes) st) true
+    (changed_next d (Follows reaction) call.group.0 call.view.0 call.stripe.0 old new (added (place_of call) (version t bytes) st) true
     (calls_of old (version_size own) (version_calls own)) (Some Stored) c.requires.runs
     (store_made block call st sorted records t bytes) (none_made block call st sorted records (stored part t bytes))
     (store_moves block call st sorted t bytes) g.met.D.Disk.only_now (calls reaction)
     (λ room. ap calls (sym (unless_room block call st sorted records part (stored part t bytes) room)) ∙ calls_stored old shared part _
     ∙ ap (λ (p : Plan). stored_calls old.shape old.listed (is_shared p)) c.in-Store.is ∙ version_stored old own)
     (λ adds most. ap calls (sym (unless_none block call st sorted records part (stored part t bytes) adds most)) ∙ calls_kept old shared part)
-    c.add_version-answer.result c.add_version-answer.ensures.change c.add_version-answer.ensures.answer))
+    c.add_version-answer.result result c.answered-in-Store.ensures c.add_version-answer.ensures.change c.add_version-answer.ensures.answer) in
+    record { handles = both.0; change = both.1 }
 
 -- ---- what is dropped
 
@@ -220,8 +166,8 @@ collect-requires-clause-held g c =
     let change = changed_as old.shape.block (part_at old.shape.block old.state c.args.call) c.in-Collect.is c.requires.change in
     sym (held_seen c.in-Collect.stamp log) ∙ change.0
 
-pub returns-in-Collect-clause-handles : goal.returns-in-Collect-clause-handles
-returns-in-Collect-clause-handles g c =
+pub returns-in-Collect : goal.returns-in-Collect
+returns-in-Collect g c =
     let d = g.D.Disk in
     let old = c.args.store.now in
     let new = c.collect.new.self in
@@ -229,41 +175,17 @@ returns-in-Collect-clause-handles g c =
     let block = old.shape.block in
     let call = c.args.call in
     let t = c.in-Collect.stamp in
-    let part = part_at block st call in
-    let full = full_at old.shape.records (live st) in
-    let Follows = λ (p : Plan). IsReacted block call st (planned full part p) in
-    let sorted = c.requires.runs.ordered.sorted in
-    let change = changed_as block part c.in-Collect.is c.requires.change in
-    subst (λ (p : Plan). Handles d (Follows p) old new c.answered-in-Collect.result)
-    (sym c.in-Collect.is)
-    (subst (λ (r : Result (Option Reply) ReplicaFault). Handles d
-    (Follows (Collect t)) old new r) (sym c.answered-in-Collect.ensures)
-    (handles_change d (Follows (Collect t)) call.group.0 call.view.0 call.stripe.0 old new
-    (collected version_stamp (place_of call) t st) false (calls_of old 30 4) None c.requires.runs
-    (λ room. reacted_collect block call st sorted t change.0)
-    (λ adds. absurd cc)
-    (collect_moves block call st sorted t change.1) c.collect.result c.collect.ensures.change c.collect.ensures.answer))
-
-pub returns-in-Collect-clause-change : goal.returns-in-Collect-clause-change
-returns-in-Collect-clause-change g c =
-    let d = g.D.Disk in
-    let old = c.args.store.now in
-    let new = c.collect.new.self in
-    let st = old.state in
-    let block = old.shape.block in
-    let call = c.args.call in
-    let t = c.in-Collect.stamp in
+    let result = c.answered-in-Collect.result in
     let part = part_at block st call in
     let full = full_at old.shape.records (live st) in
     let sorted = c.requires.runs.ordered.sorted in
     let change = changed_as block part c.in-Collect.is c.requires.change in
     let calls = λ (p : Plan). part_calls old.shape old.listed (is_shared p) part (planned full part p).replica in
     let Follows = λ (p : Plan). IsReacted block call st (planned full part p) in
-    subst (λ (p : Plan). NextChange d (calls p) old (Follows p) new.disk (end_of c.answered-in-Collect.result)) (sym c.in-Collect.is)
-    (subst (λ (r : Result (Option Reply) ReplicaFault). NextChange d (calls (Collect t)) old (Follows (Collect t)) new.disk (end_of r))
-    (sym c.answered-in-Collect.ensures)
-    (change_next d (Follows (Collect t)) call.group.0 call.view.0 call.stripe.0 old new (collected version_stamp (place_of call) t st) false
+    let both = subst (λ (p : Plan). Handles d (Follows p) old new result × NextChange d (calls p) old (Follows p) new.disk (end_of result)) (sym c.in-Collect.is)
+    (changed_next d (Follows (Collect t)) call.group.0 call.view.0 call.stripe.0 old new (collected version_stamp (place_of call) t st) false
     (calls_of old 30 4) None c.requires.runs (λ room. reacted_collect block call st sorted t change.0) (λ adds. absurd cc)
     (collect_moves block call st sorted t change.1) g.met.D.Disk.only_now (calls (Collect t))
     (λ room. calls_collected old false part t change.0 change.1) (λ adds. absurd cc)
-    c.collect.result c.collect.ensures.change c.collect.ensures.answer))
+    c.collect.result result c.answered-in-Collect.ensures c.collect.ensures.change c.collect.ensures.answer) in
+    record { handles = both.0; change = both.1 }

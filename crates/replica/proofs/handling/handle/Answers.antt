@@ -28,31 +28,6 @@ carry_out-requires-clause-change g c =
     c.state-part.ensures.order c.state-part.ensures.log c.in_ok-plan.ensures.plan c.in_ok-plan.ensures.change in
     change_decided old layout (me_of old) c.args.from call request member.m member.seat plan is
 
-pub returns-clause-handles : goal.returns-clause-handles
-returns-clause-handles g c =
-    let d = g.D.Disk in
-    let old = c.args.store.now in
-    let layout = c.args.layout.now in
-    let call = c.in-Request.call in
-    let request = c.in-Request.request in
-    let member = c.in-Some.member in
-    let plan = c.in_ok-plan.plan in
-    let is = decided old layout call request member.m member.seat member.block c.state-part.result plan c.requires.shape c.in-Some.ensures.block
-    c.state-part.ensures.order c.state-part.ensures.log c.in_ok-plan.ensures.plan c.in_ok-plan.ensures.change in
-    let new = c.carry_out.new.store in
-    let me = me_of old in
-    let from = c.args.from in
-    let reaction = planned (full_at old.shape.records (live old.state)) (part_at old.shape.block old.state call) plan in
-    let in_first : call.view.0 ≡ 1 = c.in-Some.ensures.first refl in
-    let step = step_decided old layout me from call request member.m member.seat plan is c.in-Some.ensures.seat c.requires.view in_first in
-    subst (λ (m : Message). Handles d (IsStep layout me from m old.state) old new
-    c.answer.result) (sym c.in-Request.is)
-    (subst (λ (r : Result (Option Message) ReplicaFault). Handles d
-    (IsStep layout me from (Message.Request call request) old.state) old new r) (sym c.answer.ensures)
-    (handles_seen d (λ (r : Reply). Message.Reply call r)
-    (IsReacted old.shape.block call old.state reaction) (IsStep layout me from (Message.Request call request) old.state) step old new
-    c.carry_out.result c.carry_out.ensures.handles))
-
 -- ---- what becomes of the disk
 
 abbrev answers : Option Message → Result (Option Message) ReplicaFault
@@ -61,26 +36,8 @@ answers answer = Ok answer
 abbrev no_message : Option Message
 no_message = None
 
-pub returns-in_default-member_served-clause-change : goal.returns-in_default-member_served-clause-change
-returns-in_default-member_served-clause-change g c node parts =
-    let d = g.D.Disk in
-    let old = c.args.store.now in
-    let layout = c.args.layout.now in
-    let call = c.in-Request.call in
-    let me = me_of old in
-    let from = c.args.from in
-    let none : message_calls layout me from old.shape old.listed node c.args.message.now ≡ 0 =
-    ap (message_calls layout me from old.shape old.listed node) c.in-Request.is
-    ∙ calls_void layout me from call c.in-Request.request old.state old node parts c.in_default-member_served.ensures.seat in
-    let follows : IsStep layout me from c.args.message.now old.state None old.state =
-    subst (λ (m : Message). IsStep layout me from m old.state None old.state) (sym c.in-Request.is)
-    (step_void layout me from call c.in-Request.request old.state c.in_default-member_served.ensures.seat) in
-    subst (λ (n : ℕ). NextChange d n old (IsStep layout me from c.args.message.now old.state) old.disk Whole) (sym none)
-    (next_none d g.met.D.Disk.only_now (IsStep layout me from c.args.message.now old.state) old old.disk (still_here d old.disk)
-    (λ told. c.is_halted.ensures.stands told (sym c.is_halted.ensures.value ∙ c.if-is_halted.false)) None follows)
-
-pub returns-clause-change : goal.returns-clause-change
-returns-clause-change g c node parts =
+pub returns : goal.returns
+returns g c =
     let d = g.D.Disk in
     let old = c.args.store.now in
     let layout = c.args.layout.now in
@@ -93,18 +50,27 @@ returns-clause-change g c node parts =
     let new = c.carry_out.new.store in
     let me = me_of old in
     let from = c.args.from in
-    let reaction = planned (full_at old.shape.records (live old.state)) (part_at old.shape.block old.state call) plan in
+    let result = c.answer.result in
+    let part = part_at old.shape.block old.state call in
+    let reaction = planned (full_at old.shape.records (live old.state)) part plan in
     let in_first : call.view.0 ≡ 1 = c.in-Some.ensures.first refl in
     let step = step_decided old layout me from call request member.m member.seat plan is c.in-Some.ensures.seat c.requires.view in_first in
-    let calls = calls_decided old layout me from call request member.m member.seat plan is c.in-Some.ensures.seat node parts in
-    let made = part_calls old.shape old.listed (is_shared plan) (part_at old.shape.block old.state call) reaction.replica in
-    let Follows = IsStep layout me from (Message.Request call request) old.state in
-    subst (λ (m : Message). NextChange d (message_calls layout me from old.shape old.listed node m) old (IsStep layout me from m old.state) new.disk
-    (end_of c.answer.result)) (sym c.in-Request.is)
-    (subst (λ (n : ℕ). NextChange d n old Follows new.disk (end_of c.answer.result)) (sym calls)
-    (subst (λ (r : Result (Option Message) ReplicaFault). NextChange d made old Follows new.disk (end_of r)) (sym c.answer.ensures)
-    (next_seen d (λ (r : Reply). Message.Reply call r) (IsReacted old.shape.block call old.state reaction) Follows step made old new.disk
-    c.carry_out.result c.carry_out.ensures.change)))
+    let made = part_calls old.shape old.listed (is_shared plan) part reaction.replica in
+    let Reacted = IsReacted old.shape.block call old.state reaction in
+    let Follows = λ (m : Message). IsStep layout me from m old.state in
+    let asked = Message.Request call request in
+    let both = subst (λ (r : Result (Option Message) ReplicaFault). Handles d (Follows asked) old new r × NextChange d made old (Follows asked) new.disk (end_of r))
+    (sym c.answer.ensures) (
+      handles_seen d (λ (r : Reply). Message.Reply call r) Reacted (Follows asked) step old new c.carry_out.result c.carry_out.ensures.handles,
+      next_seen d (λ (r : Reply). Message.Reply call r) Reacted (Follows asked) step made old new.disk c.carry_out.result c.carry_out.ensures.change,
+    ) in
+    record {
+      handles = subst (λ (m : Message). Handles d (Follows m) old new result) (sym c.in-Request.is) both.0;
+      change = λ node parts. subst (λ (m : Message). NextChange d (message_calls layout me from old.shape old.listed node m) old (Follows m) new.disk (end_of result))
+          (sym c.in-Request.is)
+          (subst (λ (n : ℕ). NextChange d n old (Follows asked) new.disk (end_of result))
+          (sym (calls_decided old layout me from call request member.m member.seat plan is c.in-Some.ensures.seat node parts)) both.1);
+    }
 
 pub returns-then-is_halted-clause-change : goal.returns-then-is_halted-clause-change
 returns-then-is_halted-clause-change g c node parts =
@@ -124,20 +90,29 @@ returns-in_err-plan-clause-change g c node parts =
 pub returns-in_err-plan-clause-handles : goal.returns-in_err-plan-clause-handles
 returns-in_err-plan-clause-handles g c = search rules
 
-pub returns-in_default-member_served-clause-handles : goal.returns-in_default-member_served-clause-handles
-returns-in_default-member_served-clause-handles g c =
+pub returns-in_default-member_served : goal.returns-in_default-member_served
+returns-in_default-member_served g c =
     let d = g.D.Disk in
     let old = c.args.store.now in
     let layout = c.args.layout.now in
+    let call = c.in-Request.call in
+    let request = c.in-Request.request in
     let me = me_of old in
     let from = c.args.from in
+    let message = c.args.message.now in
+    let Follows = IsStep layout me from message old.state in
     let halted : old.halted ≡ false = sym c.is_halted.ensures.value ∙ c.if-is_halted.false in
     let runs : Runs d old = record { runs = halted; stands = λ told. c.is_halted.ensures.stands told halted; ordered = c.is_halted.ensures.ordered } in
-    let follows : IsStep layout me from c.args.message.now old.state None old.state =
-    subst (λ (m : Message). IsStep layout me from m old.state None old.state) (sym c.in-Request.is)
-    (step_void layout me from c.in-Request.call c.in-Request.request old.state c.in_default-member_served.ensures.seat) in
-    handles_untouched d (IsStep layout me from c.args.message.now old.state) old old (answers no_message) runs refl refl refl (still_here d old.disk).untouched
-    (λ h. absurd cc) (λ h. absurd cc) follows
+    let void = c.in_default-member_served.ensures.seat in
+    let follows : Follows None old.state = subst (λ (m : Message). IsStep layout me from m old.state None old.state) (sym c.in-Request.is)
+    (step_void layout me from call request old.state void) in
+    record {
+      handles = handles_untouched d Follows old old (answers no_message) runs refl refl refl (still_here d old.disk).untouched (λ h. absurd cc)
+          (λ h. absurd cc) follows;
+      change = λ node parts. subst (λ (n : ℕ). NextChange d n old Follows old.disk Whole)
+          (sym (ap (message_calls layout me from old.shape old.listed node) c.in-Request.is ∙ calls_void layout me from call request old.state old node parts void))
+          (next_none d g.met.D.Disk.only_now Follows old old.disk (still_here d old.disk) runs.stands None follows);
+    }
 
 pub returns-in_default-clause-handles : goal.returns-in_default-clause-handles
 returns-in_default-clause-handles g c = search rules

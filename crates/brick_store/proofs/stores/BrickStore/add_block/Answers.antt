@@ -35,8 +35,8 @@ invariant_of-self g c =
     let x = c.self.inside in
     standing_same d x.blocks c.hold_new.new.blocks x.zero x.frames x.index c.hold_new.ensures.same c.self.invariant
 
-pub commit_with-answer-requires-clause-can : goal.commit_with-answer-requires-clause-can
-commit_with-answer-requires-clause-can g c =
+pub commit-answer-requires-clause-can : goal.commit-answer-requires-clause-can
+commit-answer-requires-clause-can g c =
     let x = c.self.inside in
     let st = state_of x.index in
     let p = place c.args.group c.args.view c.args.stripe in
@@ -79,17 +79,17 @@ invariant_of-self-2 g c =
       c.self.invariant.limits.few_slots,
     ) in
     let last = c.forget_refused.new.blocks in
-    let settled = same_settled now last slot st (state_of c.commit_with-answer.new.index) c.commit_with-answer.result c.forget_refused.ensures.added c.forget_refused.ensures.others c.commit_with-answer.ensures.not_made c.in_ok-slot.ensures.unnamed in
-    standing_same d now last x.zero c.commit_with-answer.new.frames c.commit_with-answer.new.index settled
-    (standing_put d slot c.held_under.result.now now x.zero x.frames c.commit_with-answer.new.frames x.index c.commit_with-answer.new.index
+    let settled = same_settled now last slot st (state_of c.commit-answer.new.index) c.commit-answer.result c.forget_refused.ensures.added c.forget_refused.ensures.others c.commit-answer.ensures.not_made c.in_ok-slot.ensures.unnamed in
+    standing_same d now last x.zero c.commit-answer.new.frames c.commit-answer.new.index settled
+    (standing_put d slot c.held_under.result.now now x.zero x.frames c.commit-answer.new.frames x.index c.commit-answer.new.index
     (forms.Logged (record { group = c.args.group; view = c.args.view; stripe = c.args.stripe; stamp = t; change = Slot false slot }))
-    (added p (entry t slot) st) c.commit_with-answer.result standing c.in_ok-ready.ensures.runs
+    (added p (entry t slot) st) c.commit-answer.result standing c.in_ok-ready.ensures.runs
     (slot_applied (limits_of x.index) c.args.group c.args.view c.args.stripe t slot st c.requires.group
     (c.in_ok-ready.ensures.free refl) c.in_ok-slot.ensures.slot above)
     (λ P here all. slots_added P p t slot st here all) small c.held_under.ensures
     (ap length (same_Some _ _ (sym c.held_under.ensures ∙ c.in_ok-slot.ensures.held)) ∙ c.requires.block
     ∙ sym (ap (λ (b : Brick g.row.D.Denot). b.shape.block) c.self.view_is)) c.in_ok-slot.ensures.unnamed
-    c.self.invariant.indexed.members c.commit_with-answer.ensures.limits c.commit_with-answer.ensures.step c.commit_with-answer.ensures.made c.commit_with-answer.ensures.not_made c.commit_with-answer.ensures.change)
+    c.self.invariant.indexed.members c.commit-answer.ensures.limits c.commit-answer.ensures.step c.commit-answer.ensures.made c.commit-answer.ensures.not_made c.commit-answer.ensures.change)
 
 pub returns : goal.returns
 returns g c =
@@ -110,26 +110,26 @@ returns g c =
       c.self.invariant.limits.few_slots,
     ) in
     let view = brick_same x.blocks now x.frames st c.hold_new.ensures.same ∙ c.self.view_is in
-    let tried = changes_put d slot c.held_under.result.now now x.zero x.frames c.commit_with-answer.new.frames x.index
+    let tried = changes_put d slot c.held_under.result.now now x.zero x.frames c.commit-answer.new.frames x.index
     (forms.Logged (record { group = c.args.group; view = c.args.view; stripe = c.args.stripe; stamp = t; change = Slot false slot }))
-    (state_of c.commit_with-answer.new.index) (added p (entry t slot) st) c.commit_with-answer.result standing c.in_ok-ready.ensures.runs
+    (state_of c.commit-answer.new.index) (added p (entry t slot) st) c.commit-answer.result standing c.in_ok-ready.ensures.runs
     (c.in_ok-ready.ensures.free refl)
     (slot_applied (limits_of x.index) c.args.group c.args.view c.args.stripe t slot st c.requires.group
     (c.in_ok-ready.ensures.free refl) c.in_ok-slot.ensures.slot above)
     (λ P here all. slots_added P p t slot st here all) small
     c.held_under.ensures c.in_ok-slot.ensures.unnamed
-    c.commit_with-answer.ensures.step c.commit_with-answer.ensures.made c.commit_with-answer.ensures.not_made c.commit_with-answer.ensures.change in
+    c.commit-answer.ensures.step c.commit-answer.ensures.made c.commit-answer.ensures.not_made c.commit-answer.ensures.change in
     let last = c.forget_refused.new.blocks in
     let B = Brick g.row.D.Denot in
-    let settled = same_settled now last slot st (state_of c.commit_with-answer.new.index) c.commit_with-answer.result c.forget_refused.ensures.added c.forget_refused.ensures.others c.commit_with-answer.ensures.not_made c.in_ok-slot.ensures.unnamed in
+    let settled = same_settled now last slot st (state_of c.commit-answer.new.index) c.commit-answer.result c.forget_refused.ensures.added c.forget_refused.ensures.others c.commit-answer.ensures.not_made c.in_ok-slot.ensures.unnamed in
     let after = with_version c.args.self.now.shape.block p t (Some c.args.block) c.args.self.now.state in
     let both = subst (λ (r : Result (Unit {0}) StoreFault). Told d c.args.self.now
-    (brick_of last c.commit_with-answer.new.frames (state_of c.commit_with-answer.new.index)) after true (calls_of c.args.self.now 35 5) r)
+    (brick_of last c.commit-answer.new.frames (state_of c.commit-answer.new.index)) after true (calls_of c.args.self.now 35 5) r)
     (sym c.forget_refused.ensures.answer)
-    (subst (λ (b : B). Told d c.args.self.now b after true (calls_of c.args.self.now 35 5) c.commit_with-answer.result) (sym (brick_same now last c.commit_with-answer.new.frames (state_of c.commit_with-answer.new.index) settled))
-    (told_of d now x.frames c.commit_with-answer.new.frames st
-    (state_of c.commit_with-answer.new.index) (added p (entry t slot) st) c.args.self.now
-    (with_version c.args.self.now.shape.block p t (Some c.args.block)) (λ s. true) (λ b. calls_of b 35 5) true _ c.commit_with-answer.result view
+    (subst (λ (b : B). Told d c.args.self.now b after true (calls_of c.args.self.now 35 5) c.commit-answer.result) (sym (brick_same now last c.commit-answer.new.frames (state_of c.commit-answer.new.index) settled))
+    (told_of d now x.frames c.commit-answer.new.frames st
+    (state_of c.commit-answer.new.index) (added p (entry t slot) st) c.args.self.now
+    (with_version c.args.self.now.shape.block p t (Some c.args.block)) (λ s. true) (λ b. calls_of b 35 5) true _ c.commit-answer.result view
     (with_version_seen now x.frames st p t (Some c.args.block) slot c.args.self.now view
     (cached_is x.frames.shape.block now slot c.args.block small c.in_ok-slot.ensures.held)) refl refl tried)) in
     record { change = both.0; answer = both.1 }

@@ -3,65 +3,48 @@ use Rattle.std.proofs.Common.{◌≡◌, ◌++◌, ◌∷◌, [], ◌+◌, max, 
 use Rattle.fab_disk.specs.Changing.{Whole, Still}
 use Rattle.frame_store.specs.declared.frames.Frame.{Frame}
 use Rattle.frame_store.specs.Ends.{ListChange}
-use Rattle.frame_store.specs.Layouts.{half_at, slot_at}
 use Rattle.frame_store.specs.Listed.{frame_of, line_of}
 use Rattle.frame_store.specs.Laid.{Laid, IsCounted}
 use Rattle.frame_store.specs.Stores.{Held}
 use Rattle.frame_store.proofs.Changes.{laid_opens}
 use Rattle.frame_store.proofs.Ends.{of_refused}
-use Rattle.frame_store.proofs.Exits.{Ready, still_change, put_change, put_laid, append_counted}
+use Rattle.frame_store.proofs.Exits.{still_change}
+use Rattle.frame_store.proofs.Writes.{put}
 use Rattle.frame_store.proofs.stores.FrameStore.append_with.Goals as goal
 
 pub returns-in-Ok-clause-change : goal.returns-in-Ok-clause-change
 returns-in-Ok-clause-change g c =
     let x = c.self.inside in
-    let d = g.D.Disk in
-    let s = c.args.self.now in
-    let p = c.half_at.result + x.used in
-    let place : p ≡ half_at s.shape x.half + x.used =
-    ap (λ (n : ℕ). n + x.used) (c.half_at.ensures ∙ ap (λ (s : Held g.row.D.Denot). half_at s.shape x.half) c.self.view_is) in
-    let line_is : c.deref.result.now ≡ line_of c.args.frame = c.deref.ensures.value ∙ c.in_ok-stage.ensures.line
+    let line_is = c.deref.ensures.value ∙ c.in_ok-stage.ensures.line
     ∙ ap (λ (body : List ℕ). line_of (frame_of c.args.frame.kind body)) c.as_slice-body.ensures.value in
-    let ready = subst (Ready d x.half x.generation x.other_shut x.used c.stage.new.disk) c.self.view_is
-    (record { counted = c.self.invariant.0; invariant = c.self.invariant.1; runs = c.if-self.false; rest = c.stage.ensures.still }) in
-    let at_is : c.slot_at-at.result ≡ slot_at s.shape c.args.slot = c.slot_at-at.ensures
-    ∙ ap (λ (s : Held g.row.D.Denot). slot_at s.shape c.args.slot) c.self.view_is in
-    put_change d s x.half x.generation x.other_shut x.used c.stage.new.disk c.write_both_gated.new.disk ready p c.args.frame c.deref.result.now place c.requires.fits line_is
-    c.args.slot c.args.block.now c.requires.slot c.requires.block c.slot_at-at.result at_is g.met.D.Disk.only_now g.met.D.Disk.counts_now Whole c.in-Ok.ensures.change
+    let made = put g.D.Disk g.met.D.Disk.only_now g.met.D.Disk.counts_now x.half x.generation x.other_shut x.used _ c.args.self.now c.stage.new.disk
+    c.write_both_gated.new.disk Whole c.self.view_is c.self.invariant.0 c.self.invariant.1 c.if-self.false c.stage.ensures.still (c.half_at.result + x.used)
+    c.args.frame c.deref.result.now (ap (λ (n : ℕ). n + x.used) c.half_at.ensures) c.requires.fits line_is c.args.slot c.args.block.now
+    c.slot_at-at.result c.requires.slot c.requires.block c.slot_at-at.ensures c.in-Ok.ensures.change in
+    made.change
 
 -- the new list is laid, and counted
 pub invariant_of-self-in-Ok : goal.invariant_of-self-in-Ok
 invariant_of-self-in-Ok g c =
     let x = c.self.inside in
-    let d = g.D.Disk in
-    let s = c.args.self.now in
-    let p = c.half_at.result + x.used in
-    let place : p ≡ half_at s.shape x.half + x.used =
-    ap (λ (n : ℕ). n + x.used) (c.half_at.ensures ∙ ap (λ (s : Held g.row.D.Denot). half_at s.shape x.half) c.self.view_is) in
-    let line_is : c.deref.result.now ≡ line_of c.args.frame = c.deref.ensures.value ∙ c.in_ok-stage.ensures.line
+    let line_is = c.deref.ensures.value ∙ c.in_ok-stage.ensures.line
     ∙ ap (λ (body : List ℕ). line_of (frame_of c.args.frame.kind body)) c.as_slice-body.ensures.value in
-    let ready = subst (Ready d x.half x.generation x.other_shut x.used c.stage.new.disk) c.self.view_is
-    (record { counted = c.self.invariant.0; invariant = c.self.invariant.1; runs = c.if-self.false; rest = c.stage.ensures.still }) in
-    let at_is : c.slot_at-at.result ≡ slot_at s.shape c.args.slot = c.slot_at-at.ensures
-    ∙ ap (λ (s : Held g.row.D.Denot). slot_at s.shape c.args.slot) c.self.view_is in
+    let made = put g.D.Disk g.met.D.Disk.only_now g.met.D.Disk.counts_now x.half x.generation x.other_shut x.used _ c.args.self.now c.stage.new.disk
+    c.write_both_gated.new.disk Whole c.self.view_is c.self.invariant.0 c.self.invariant.1 c.if-self.false c.stage.ensures.still (c.half_at.result + x.used)
+    c.args.frame c.deref.result.now (ap (λ (n : ℕ). n + x.used) c.half_at.ensures) c.requires.fits line_is c.args.slot c.args.block.now
+    c.slot_at-at.result c.requires.slot c.requires.block c.slot_at-at.ensures c.in-Ok.ensures.change in
     let bytes : c.len-bytes.result ≡ length c.deref.result.now = omega arith in
     let items : c.with-self-inside.result.frames ≡ x.list.frames ++ c.args.frame ∷ [] = c.with-self-inside.ensures
     ∙ ap (λ (body : List ℕ). x.list.frames ++ frame_of c.args.frame.kind body ∷ []) c.as_slice-body.ensures.value in
-    let size : c.max-self-inside.result ≡ max x.size (p + 1 + length c.deref.result.now) = omega (arith, bytes, c.max-self-inside.ensures) in
-    let laid = subst (λ (s : Held g.row.D.Denot). d.tells → Laid s.shape x.half x.generation x.other_shut (s.frames ++ c.args.frame ∷ []) true
-    (d.seen c.write_both_gated.new.disk)
-    × (length (d.seen c.write_both_gated.new.disk) ≡ max s.size (p + 1 + length c.deref.result.now))) (sym c.self.view_is)
-    (put_laid d s x.half x.generation x.other_shut x.used c.stage.new.disk c.write_both_gated.new.disk ready p c.args.frame c.deref.result.now place c.requires.fits line_is
-    c.args.slot c.args.block.now c.requires.slot c.requires.block c.slot_at-at.result at_is (λ told. (c.in-Ok.ensures.change.whole refl told).has)) in
-    let counted = subst (λ (s : Held g.row.D.Denot). IsCounted s.shape (s.frames ++ c.args.frame ∷ []) (x.used + length c.deref.result.now))
-    (sym c.self.view_is)
-    (append_counted d s x.half x.generation x.other_shut x.used c.stage.new.disk c.write_both_gated.new.disk ready p c.args.frame c.deref.result.now place c.requires.fits line_is) in
+    let size : c.max-self-inside.result ≡ max x.size (c.half_at.result + x.used + 1 + length c.deref.result.now) =
+    omega (arith, bytes, c.max-self-inside.ensures) in
     let used : x.used + length c.deref.result.now ≡ x.used + c.len-bytes.result = omega (arith, bytes) in (
       subst (λ (n : ℕ). IsCounted x.shape c.with-self-inside.result.frames n) used
-          (subst (λ (fs : List Frame). IsCounted x.shape fs (x.used + length c.deref.result.now)) (sym items) counted),
+          (subst (λ (fs : List Frame). IsCounted x.shape fs (x.used + length c.deref.result.now)) (sym items) made.counted),
       λ told runs. (
-        subst (λ (fs : List Frame). Laid x.shape x.half x.generation x.other_shut fs true (d.seen c.write_both_gated.new.disk)) (sym items) (laid told).0,
-        (laid told).1 ∙ sym size,
+        subst (λ (fs : List Frame). Laid x.shape x.half x.generation x.other_shut fs true (g.D.Disk.seen c.write_both_gated.new.disk)) (sym items)
+            (made.laid refl told).0,
+        (made.laid refl told).1 ∙ sym size,
       ),
     )
 
@@ -87,19 +70,13 @@ returns-in_err-stage-clause-change g c =
 pub returns-clause-change : goal.returns-clause-change
 returns-clause-change g c =
     let x = c.self.inside in
-    let d = g.D.Disk in
-    let s = c.args.self.now in
-    let p = c.half_at.result + x.used in
-    let place : p ≡ half_at s.shape x.half + x.used =
-    ap (λ (n : ℕ). n + x.used) (c.half_at.ensures ∙ ap (λ (s : Held g.row.D.Denot). half_at s.shape x.half) c.self.view_is) in
-    let line_is : c.deref.result.now ≡ line_of c.args.frame = c.deref.ensures.value ∙ c.in_ok-stage.ensures.line
+    let line_is = c.deref.ensures.value ∙ c.in_ok-stage.ensures.line
     ∙ ap (λ (body : List ℕ). line_of (frame_of c.args.frame.kind body)) c.as_slice-body.ensures.value in
-    let ready = subst (Ready d x.half x.generation x.other_shut x.used c.stage.new.disk) c.self.view_is
-    (record { counted = c.self.invariant.0; invariant = c.self.invariant.1; runs = c.if-self.false; rest = c.stage.ensures.still }) in
-    let at_is : c.slot_at-at.result ≡ slot_at s.shape c.args.slot = c.slot_at-at.ensures
-    ∙ ap (λ (s : Held g.row.D.Denot). slot_at s.shape c.args.slot) c.self.view_is in
-    put_change d s x.half x.generation x.other_shut x.used c.stage.new.disk c.write_both_gated.new.disk ready p c.args.frame c.deref.result.now place c.requires.fits line_is
-    c.args.slot c.args.block.now c.requires.slot c.requires.block c.slot_at-at.result at_is g.met.D.Disk.only_now g.met.D.Disk.counts_now _ c.in-Err.ensures.change
+    let made = put g.D.Disk g.met.D.Disk.only_now g.met.D.Disk.counts_now x.half x.generation x.other_shut x.used _ c.args.self.now c.stage.new.disk
+    c.write_both_gated.new.disk _ c.self.view_is c.self.invariant.0 c.self.invariant.1 c.if-self.false c.stage.ensures.still (c.half_at.result + x.used)
+    c.args.frame c.deref.result.now (ap (λ (n : ℕ). n + x.used) c.half_at.ensures) c.requires.fits line_is c.args.slot c.args.block.now
+    c.slot_at-at.result c.requires.slot c.requires.block c.slot_at-at.ensures c.in-Err.ensures.change in
+    made.change
 
 pub write_both_gated-requires-clause-reach : goal.write_both_gated-requires-clause-reach
 write_both_gated-requires-clause-reach g c = grind (arith, common_steps)

@@ -11,7 +11,8 @@ use Rattle.frame_store.specs.Steps.{next_of}
 use Rattle.frame_store.specs.Stores.{Held, HasRoom}
 use Rattle.frame_store.proofs.Changes.{laid_opens}
 use Rattle.frame_store.proofs.Ends.{of_refused}
-use Rattle.frame_store.proofs.Exits.{Ready, end_small, half_within, closing_short, still_change, rewrite_change, rewrite_laid, rewrite_counted}
+use Rattle.frame_store.proofs.Exits.{end_small, half_within, closing_short, still_change}
+use Rattle.frame_store.proofs.Writes.{rewritten}
 use Rattle.frame_store.proofs.Headers.{renewed}
 use Rattle.frame_store.proofs.Rewriting.{length-closed_list}
 use Rattle.frame_store.proofs.stores.FrameStore.rewrite.Goals as goal
@@ -19,66 +20,37 @@ use Rattle.frame_store.proofs.stores.FrameStore.rewrite.Goals as goal
 pub returns-in-Ok-clause-change : goal.returns-in-Ok-clause-change
 returns-in-Ok-clause-change g c =
     let x = c.self.inside in
-    let d = g.D.Disk in
-    let s = c.args.self.now in
-    let fs = c.args.frames.items in
-    let gate = c.header_at-gate.result in
-    let at = c.half_at-at.result in
-    let line = c.deref-2.result.now in
-    let mid = c.stage_list.new.disk in
-    let new = c.rewrite_gated.new.disk in
-    let ready = subst (Ready d x.half x.generation x.other_shut x.used mid) c.self.view_is
-    (record { counted = c.self.invariant.0; invariant = c.self.invariant.1; runs = c.if-self.false; rest = c.stage_list.ensures.still }) in
-    let small : x.generation < 2 ^ 64 = omega arith in
-    let gate_is : gate ≡ header_at (other x.half) = c.header_at-gate.ensures ∙ ap header_at c.other-other.ensures in
-    let at_is : at ≡ half_at s.shape (other x.half) = c.half_at-at.ensures ∙ ap (half_at x.shape) c.other-other.ensures
-    ∙ ap (λ (s : Held g.row.D.Denot). half_at s.shape (other x.half)) c.self.view_is in
-    let rest_is : c.header_rest-rest.result ≡ header_rest s.shape (next_of x.generation) = c.header_rest-rest.ensures
-    ∙ ap (λ (s : Held g.row.D.Denot). header_rest s.shape (next_of x.generation)) c.self.view_is in
-    let line_is : line ≡ closed_list fs = c.deref-2.ensures.value ∙ c.in_ok-stage_list.ensures.line ∙ ap closed_list c.deref.ensures.value in
-    rewrite_change d s x.half x.generation x.other_shut x.used mid new ready fs gate at c.closing-shut.result.now
-    c.header_rest-rest.result line c.requires.fits small gate_is at_is c.closing-shut.ensures rest_is line_is
-    g.met.D.Disk.only_now g.met.D.Disk.counts_now Whole c.in-Ok.ensures.change
+    let made = rewritten g.D.Disk g.met.D.Disk.only_now g.met.D.Disk.counts_now x.half x.generation x.other_shut x.used _ c.args.self.now
+    c.stage_list.new.disk c.rewrite_gated.new.disk Whole c.self.view_is c.self.invariant.0 c.self.invariant.1 c.if-self.false c.stage_list.ensures.still
+    c.args.frames.items c.header_at-gate.result c.half_at-at.result c.closing-shut.result.now c.header_rest-rest.result c.deref-2.result.now
+    c.requires.fits (omega arith) (c.header_at-gate.ensures ∙ ap header_at c.other-other.ensures)
+    (c.half_at-at.ensures ∙ ap (half_at x.shape) c.other-other.ensures) c.closing-shut.ensures c.header_rest-rest.ensures
+    (c.deref-2.ensures.value ∙ c.in_ok-stage_list.ensures.line ∙ ap closed_list c.deref.ensures.value) c.in-Ok.ensures.change in
+    made.change
 
 -- the new list is laid in the other half, and counted
 pub invariant_of-self-in-Ok : goal.invariant_of-self-in-Ok
 invariant_of-self-in-Ok g c =
     let x = c.self.inside in
-    let d = g.D.Disk in
-    let s = c.args.self.now in
+    let made = rewritten g.D.Disk g.met.D.Disk.only_now g.met.D.Disk.counts_now x.half x.generation x.other_shut x.used _ c.args.self.now
+    c.stage_list.new.disk c.rewrite_gated.new.disk Whole c.self.view_is c.self.invariant.0 c.self.invariant.1 c.if-self.false c.stage_list.ensures.still
+    c.args.frames.items c.header_at-gate.result c.half_at-at.result c.closing-shut.result.now c.header_rest-rest.result c.deref-2.result.now
+    c.requires.fits (omega arith) (c.header_at-gate.ensures ∙ ap header_at c.other-other.ensures)
+    (c.half_at-at.ensures ∙ ap (half_at x.shape) c.other-other.ensures) c.closing-shut.ensures c.header_rest-rest.ensures
+    (c.deref-2.ensures.value ∙ c.in_ok-stage_list.ensures.line ∙ ap closed_list c.deref.ensures.value) c.in-Ok.ensures.change in
     let fs = c.args.frames.items in
-    let gate = c.header_at-gate.result in
-    let at = c.half_at-at.result in
     let line = c.deref-2.result.now in
-    let mid = c.stage_list.new.disk in
-    let new = c.rewrite_gated.new.disk in
-    let ready = subst (Ready d x.half x.generation x.other_shut x.used mid) c.self.view_is
-    (record { counted = c.self.invariant.0; invariant = c.self.invariant.1; runs = c.if-self.false; rest = c.stage_list.ensures.still }) in
-    let small : x.generation < 2 ^ 64 = omega arith in
-    let gate_is : gate ≡ header_at (other x.half) = c.header_at-gate.ensures ∙ ap header_at c.other-other.ensures in
-    let at_is : at ≡ half_at s.shape (other x.half) = c.half_at-at.ensures ∙ ap (half_at x.shape) c.other-other.ensures
-    ∙ ap (λ (s : Held g.row.D.Denot). half_at s.shape (other x.half)) c.self.view_is in
-    let rest_is : c.header_rest-rest.result ≡ header_rest s.shape (next_of x.generation) = c.header_rest-rest.ensures
-    ∙ ap (λ (s : Held g.row.D.Denot). header_rest s.shape (next_of x.generation)) c.self.view_is in
-    let line_is : line ≡ closed_list fs = c.deref-2.ensures.value ∙ c.in_ok-stage_list.ensures.line ∙ ap closed_list c.deref.ensures.value in
-    let laid = subst (λ (s : Held g.row.D.Denot). d.tells → Laid s.shape (other x.half) (next_of x.generation) false fs true (d.seen new)
-    × (length (d.seen new) ≡ max s.size (at + length line))) (sym c.self.view_is)
-    (rewrite_laid d s x.half x.generation x.other_shut x.used mid new ready fs gate at c.closing-shut.result.now
-    c.header_rest-rest.result line c.requires.fits small gate_is at_is c.closing-shut.ensures rest_is line_is
-    (λ told. (c.in-Ok.ensures.change.whole refl told).has)) in
-    let counts = subst (λ (s : Held g.row.D.Denot). IsCounted s.shape fs (length line - 1)) (sym c.self.view_is)
-    (rewrite_counted d s x.half x.generation x.other_shut x.used mid new ready fs gate at c.closing-shut.result.now
-    c.header_rest-rest.result line c.requires.fits small gate_is at_is c.closing-shut.ensures rest_is line_is) in
+    let new = g.D.Disk.seen c.rewrite_gated.new.disk in
     let bytes : c.len-bytes.result ≡ length line = omega arith in
     let items : c.listing_of-self-inside.result.frames ≡ fs = c.listing_of-self-inside.ensures ∙ c.deref-in-Ok.ensures.value in
-    let size : c.max-self-inside.result ≡ max x.size (at + length line) = omega (arith, bytes, c.max-self-inside.ensures) in
+    let size : c.max-self-inside.result ≡ max x.size (c.half_at-at.result + length line) = omega (arith, bytes, c.max-self-inside.ensures) in
     let used : length line - 1 ≡ c.len-bytes.result - 1 = omega (arith, bytes) in (
       subst (λ (n : ℕ). IsCounted x.shape c.listing_of-self-inside.result.frames n) used (subst (λ (l : List Frame). IsCounted x.shape l (length line - 1))
-          (sym items) counts),
+          (sym items) made.counted),
       λ told runs_now. (
-        subst (λ (h : Half). Laid x.shape h (next_of x.generation) false c.listing_of-self-inside.result.frames true (d.seen new)) (sym c.other-other.ensures)
-            (subst (λ (l : List Frame). Laid x.shape (other x.half) (next_of x.generation) false l true (d.seen new)) (sym items) (laid told).0),
-        (laid told).1 ∙ sym size,
+        subst (λ (h : Half). Laid x.shape h (next_of x.generation) false c.listing_of-self-inside.result.frames true new) (sym c.other-other.ensures)
+            (subst (λ (l : List Frame). Laid x.shape (other x.half) (next_of x.generation) false l true new) (sym items) (made.laid refl told).0),
+        (made.laid refl told).1 ∙ sym size,
       ),
     )
 
@@ -165,10 +137,10 @@ rewrite_gated-requires-clause-room g c =
 
 -- what room there was beyond the call is left
 pub returns-in-Ok-clause-left : goal.returns-in-Ok-clause-left
-returns-in-Ok-clause-left g c = λ calls bytes written listed body had.
+returns-in-Ok-clause-left g c = λ calls bytes written had.
     let x = c.self.inside in
     let fs = c.args.frames.items in
-    let before = subst (λ (s : Held g.row.D.Denot). HasRoom g.D.Disk.has_room s (calls + 7) (bytes + (size_of fs + 34)) written listed body)
+    let before = subst (λ (s : Held g.row.D.Denot). HasRoom g.D.Disk.has_room s (calls + 7) (bytes + (size_of fs + 34)) written)
     (sym c.self.view_is) had in
     let fits = subst (λ (s : Held g.row.D.Denot). size_of fs + 1 ≤ half_size s.shape) (sym c.self.view_is) c.requires.fits in
     let line_is : c.deref-2.result.now ≡ closed_list fs = c.deref-2.ensures.value ∙ c.in_ok-stage_list.ensures.line
@@ -197,23 +169,10 @@ returns-in_err-stage_list-clause-change g c =
 pub returns-clause-change : goal.returns-clause-change
 returns-clause-change g c =
     let x = c.self.inside in
-    let d = g.D.Disk in
-    let s = c.args.self.now in
-    let fs = c.args.frames.items in
-    let gate = c.header_at-gate.result in
-    let at = c.half_at-at.result in
-    let line = c.deref-2.result.now in
-    let mid = c.stage_list.new.disk in
-    let new = c.rewrite_gated.new.disk in
-    let ready = subst (Ready d x.half x.generation x.other_shut x.used mid) c.self.view_is
-    (record { counted = c.self.invariant.0; invariant = c.self.invariant.1; runs = c.if-self.false; rest = c.stage_list.ensures.still }) in
-    let small : x.generation < 2 ^ 64 = omega arith in
-    let gate_is : gate ≡ header_at (other x.half) = c.header_at-gate.ensures ∙ ap header_at c.other-other.ensures in
-    let at_is : at ≡ half_at s.shape (other x.half) = c.half_at-at.ensures ∙ ap (half_at x.shape) c.other-other.ensures
-    ∙ ap (λ (s : Held g.row.D.Denot). half_at s.shape (other x.half)) c.self.view_is in
-    let rest_is : c.header_rest-rest.result ≡ header_rest s.shape (next_of x.generation) = c.header_rest-rest.ensures
-    ∙ ap (λ (s : Held g.row.D.Denot). header_rest s.shape (next_of x.generation)) c.self.view_is in
-    let line_is : line ≡ closed_list fs = c.deref-2.ensures.value ∙ c.in_ok-stage_list.ensures.line ∙ ap closed_list c.deref.ensures.value in
-    rewrite_change d s x.half x.generation x.other_shut x.used mid new ready fs gate at c.closing-shut.result.now
-    c.header_rest-rest.result line c.requires.fits small gate_is at_is c.closing-shut.ensures rest_is line_is
-    g.met.D.Disk.only_now g.met.D.Disk.counts_now _ c.in-Err.ensures.change
+    let made = rewritten g.D.Disk g.met.D.Disk.only_now g.met.D.Disk.counts_now x.half x.generation x.other_shut x.used _ c.args.self.now
+    c.stage_list.new.disk c.rewrite_gated.new.disk _ c.self.view_is c.self.invariant.0 c.self.invariant.1 c.if-self.false c.stage_list.ensures.still
+    c.args.frames.items c.header_at-gate.result c.half_at-at.result c.closing-shut.result.now c.header_rest-rest.result c.deref-2.result.now
+    c.requires.fits (omega arith) (c.header_at-gate.ensures ∙ ap header_at c.other-other.ensures)
+    (c.half_at-at.ensures ∙ ap (half_at x.shape) c.other-other.ensures) c.closing-shut.ensures c.header_rest-rest.ensures
+    (c.deref-2.ensures.value ∙ c.in_ok-stage_list.ensures.line ∙ ap closed_list c.deref.ensures.value) c.in-Err.ensures.change in
+    made.change
