@@ -141,11 +141,13 @@ rounds_of-more [] one = append-nil one.rounds
 rounds_of-more (first ∷ played) one =
     ap (λ (l : List Heard). first.rounds ++ l) (rounds_of-more played one) ∙ sym (append_assoc first.rounds (rounds_of played) one.rounds)
 
-came_in-append : (first then : List Heard) → came_in (first ++ then) ≡ came_in first ++ came_in then
+-- what looks gave in rounds, and in more of them
+pub came_in-append : (first then : List Heard) → came_in (first ++ then) ≡ came_in first ++ came_in then
 came_in-append [] then = refl
 came_in-append (heard ∷ first) then = ap (λ l. heard.came ∷ l) (came_in-append first then)
 
-Took-trans : {A : Type 0} (takes : A → A → Type 0) (first then : List Heard) (a b c : A) → Took takes first a b → Took takes then b c → Took takes (first ++ then) a c
+-- the bricks took their turns in rounds, and in more of them
+pub Took-trans : {A : Type 0} (takes : A → A → Type 0) (first then : List Heard) (a b c : A) → Took takes first a b → Took takes then b c → Took takes (first ++ then) a c
 Took-trans takes [] then a b c p q = subst (λ x. Took takes then x c) p q
 Took-trans takes (round ∷ first) then a b c p q = (p.0, p.1, Took-trans takes first then p.0 b c p.2 q)
 

@@ -128,7 +128,8 @@ IsRangeOf-begun_by : (layout : Layout) (halt : Option Halt) (parts : List Part) 
 IsRangeOf-begun_by layout None parts are = record { block = refl; parts = are }
 IsRangeOf-begun_by layout (Some halt) parts are = record { block = refl; parts = tt }
 
-IsRangeOf-begun : (layout : Layout) (volume : List ℕ) (byte count : ℕ) (content : Option (List ℕ)) → IsLayout layout
+-- a range of bytes that begins is one of its layout
+pub IsRangeOf-begun : (layout : Layout) (volume : List ℕ) (byte count : ℕ) (content : Option (List ℕ)) → IsLayout layout
     → IsRangeOf layout (begun layout volume byte count content)
 IsRangeOf-begun layout volume byte count content limits =
     IsRangeOf-begun_by layout (halt_of layout volume byte count) (parts_of layout volume byte count content)

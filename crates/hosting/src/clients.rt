@@ -25,10 +25,13 @@ use std::alloc::Global;
 
 /// A client's end: its link, room for a datagram, and how many datagrams it sent.
 #[derive(Drop)]
-pub(crate) struct ClientEnd<L: Link> {
-    pub(crate) link: L,
-    pub(crate) room: Room,
-    pub(crate) sent: u64,
+pub struct ClientEnd<L: Link> {
+    /// Its link.
+    pub link: L,
+    /// Room for the datagram that comes next.
+    pub room: Room,
+    /// How many datagrams it sent.
+    pub sent: u64,
 }
 
 /// How the range of a command stands.

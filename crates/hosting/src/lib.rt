@@ -13,8 +13,10 @@ mod rooms;
 mod rounds;
 mod tokens;
 
+pub use clients::ClientEnd;
 pub use commands::{Access, Command, Line, parse};
 pub use faults::HostFault;
 pub use hosted_bricks::{HostedBricks, TimedBricks};
 pub use hosts::host;
-pub use rounds::Bricks;
+pub use rooms::Room;
+pub use rounds::{Bricks, HostedClient};

@@ -11,7 +11,7 @@ use std::marker::Model;
 
 /// Room for any datagram, of 65,535 bytes. A clause sees what stands in it.
 #[derive(Drop)]
-pub(crate) struct Room {
+pub struct Room {
     bytes: Vec<u8>,
 }
 
@@ -27,7 +27,11 @@ impl Model for Room {
 
 impl Room {
     /// Room in which nothing came yet.
-    pub(crate) fn new(alloc: Global) -> Result<Room, AllocError> {
+    ///
+    /// # Errors
+    ///
+    /// No memory was left.
+    pub fn new(alloc: Global) -> Result<Room, AllocError> {
         let bytes = vec![in alloc; 0u8; MOST_BYTES]?;
         Ok(Room { bytes })
     }

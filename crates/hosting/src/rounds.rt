@@ -98,16 +98,24 @@ fn port_of(layout: &Layout, brick: u64) -> u16
 
 /// A client of the bricks that a process hosts: the bricks, the client's end, and how many turns are left.
 #[derive(Drop)]
-pub(crate) struct HostedClient<B: Bricks, L: Link> {
-    pub(crate) bricks: B,
-    pub(crate) end: ClientEnd<L>,
-    pub(crate) turns: u64,
+pub struct HostedClient<B: Bricks, L: Link> {
+    /// The bricks.
+    pub bricks: B,
+    /// The client's end.
+    pub end: ClientEnd<L>,
+    /// How many turns are left.
+    pub turns: u64,
 }
 
 impl<B: Bricks, L: Link> HostedClient<B, L> {
     /// Asks the brick of a port for the operations of a range, one after another, and takes a round for each turn until the range is answered.
     /// `None` says that no turn is left, and the client waits.
-    pub(crate) fn run_range(
+    ///
+    /// # Errors
+    ///
+    /// `Disk`, `Link` and `Clock` only where the bricks were stopped by that fault; `ClientLink` only where the count of faults of the client's
+    /// link rose; `NoMemory` where no memory was left. What was done until then stays done.
+    pub fn run_range(
         &mut self,
         alloc: Global,
         layout: &Layout,

@@ -4,4 +4,5 @@ pub mod Feeding
 pub mod Finishing
 pub mod Telling
 pub mod Within
+pub mod Leading
 mod Worked
