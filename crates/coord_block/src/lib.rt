@@ -9,4 +9,4 @@
 
 pub mod block_ops;
 
-pub use block_ops::BlockOp;
+pub use block_ops::{Block, BlockOp};

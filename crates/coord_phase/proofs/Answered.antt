@@ -11,14 +11,13 @@ use Rattle.messages.specs.declared.packets.Message.TheVariants as messages
 use Rattle.messages.specs.declared.replies.Reply.{Reply}
 use Rattle.messages.specs.declared.turns.Next.{Next as Answer}
 use Rattle.messages.specs.declared.turns.Next.TheVariants.{Wait, Send, End, Recover}
-use Rattle.fab_base.specs.declared.notes.Note.{Note}
-use Rattle.quorum.specs.Quorums.{quorum_of}
+use Rattle.coord_phase.specs.declared.operations.News.{News}
 use Rattle.protocol.specs.declared.phases.Counted.{Counted}
 use Rattle.protocol.specs.declared.phases.FullMember.{FullMember}
 use Rattle.protocol.specs.Coordinators.{Next, Ignores, Waits, counts_at, lowest_full, aborted_full, decided, on_reply, counted_at}
 use Rattle.stripe_code.specs.Codes.{block_code}
-use Rattle.coord_phase.specs.Operations.{Operation, StaysAsked, with_state, without_last, telling, seat_told, counts, heard, heard_at}
-use Rattle.coord_phase.specs.Decisions.{decided_on, decision, Answers, AsksRecovery, HasBlocks, SendsPhase, IsWait, note_told}
+use Rattle.coord_phase.specs.Operations.{Operation, StaysAsked, with_state, without_last, telling, needed, seat_told, counts, heard, heard_at}
+use Rattle.coord_phase.specs.Decisions.{decided_on, decision, Answers, AsksRecovery, HasBlocks, SendsPhase, IsWait}
 
 -- what is decided, by whether the message counts, and whether a quorum then counts
 abbrev pub after_hearing : Option Stamp → Operation → Bool → Next
@@ -26,7 +25,7 @@ after_hearing fresh op full =
     cond full (decided op.block (block_code op.block) fresh op.state) (Waits op.state)
 
 abbrev pub is_full : Operation → Bool
-is_full op = not (nat_lt (length op.state.counted) (quorum_of op.state.group))
+is_full op = not (nat_lt (length op.state.counted) (needed op.state))
 
 -- what is known of a message that was heard at a seat
 record Heard (fresh : Option Stamp) (before : Operation) (after : Operation) (next : Next) (counted : Bool) : Type 0 where
@@ -36,9 +35,6 @@ record Heard (fresh : Option Stamp) (before : Operation) (after : Operation) (ne
   uncounted : counted ≡ true
       → with_state after (without_last after.state) ≡ before
   stays : StaysAsked before after
-  call : after.state.call ≡ before.state.call
-  note : after.note ≡ before.note
-  made : after.made ≡ before.made
 
 not_full : (b : Bool) (x y : Next) → cond b x y ≡ cond (not b) y x
 not_full true x y = refl
@@ -60,23 +56,17 @@ heard_reply fresh op from call reply None is =
       unchanged = λ none. refl;
       uncounted = λ some. absurd (false≢true some);
       stays = record { block = refl; group = refl; ask = refl };
-      call = refl;
-      note = refl;
-      made = refl;
     }
 heard_reply fresh op from call reply (Some seat) is =
     let after = heard_at op from (messages.Reply call reply) (Some seat) in
     record {
       ignored = λ none. absurd (false≢true (sym none));
       heard = λ some. ap (counted_at op.block (block_code op.block) fresh op.state from reply) is
-          ∙ not_full (nat_lt (length after.state.counted) (quorum_of op.state.group)) (Waits after.state)
+          ∙ not_full (nat_lt (length after.state.counted) (needed op.state)) (Waits after.state)
           (decided op.block (block_code op.block) fresh after.state);
       unchanged = λ none. absurd (false≢true (sym none));
       uncounted = λ some. ap (λ (counted : List Counted). with_state op (record op.state { counted = counted })) (all_but_last op.state.counted _);
       stays = record { block = refl; group = refl; ask = refl };
-      call = refl;
-      note = refl;
-      made = refl;
     }
 
 heard_message : (fresh : Option Stamp) (op : Operation) (from : BrickId) (message : Message)
@@ -90,9 +80,6 @@ heard_message fresh op from message =
       unchanged = λ none. refl;
       uncounted = λ some. absurd (false≢true some);
       stays = record { block = refl; group = refl; ask = refl };
-      call = refl;
-      note = refl;
-      made = refl;
     }
 
 -- a message that does not count changes nothing, and the machine leaves it out
@@ -112,20 +99,17 @@ pub taken_back : (op : Operation) (from : BrickId) (message : Message) → count
     → with_state (heard op from message) (without_last (heard op from message).state) ≡ op
 taken_back op from message some = (heard_message None op from message).uncounted some
 
--- a message changes neither what is asked nor the call
+-- a message does not change what is asked
 pub heard_stays : (op : Operation) (from : BrickId) (message : Message) → StaysAsked op (heard op from message)
 heard_stays op from message = (heard_message None op from message).stays
-
-pub heard_call : (op : Operation) (from : BrickId) (message : Message) → (heard op from message).state.call ≡ op.state.call
-heard_call op from message = (heard_message None op from message).call
 
 -- what is asked stays so from one step to the next
 pub stays_both : (a b c : Operation) → StaysAsked a b → StaysAsked b c → StaysAsked a c
 stays_both a b c first second =
     record { block = second.block ∙ first.block; group = second.group ∙ first.group; ask = second.ask ∙ first.ask }
 
-stays_telling : (mid after : Operation) (told : Option Note) → after ≡ telling mid mid.state told → StaysAsked mid after
-stays_telling mid after told is =
+stays_telling : (mid after : Operation) (news : News) → after ≡ telling mid mid.state news → StaysAsked mid after
+stays_telling mid after news is =
     record {
       block = ap (λ (op : Operation). op.block) is;
       group = ap (λ (op : Operation). op.state.group) is;
@@ -139,24 +123,23 @@ heard_then before from message mid after heard_is stays =
 
 -- after a message that does not count an operation waits, as it was
 pub answers_ignored : (fresh : Option Stamp) (before : Operation) (from : BrickId) (message : Message) (mid after : Operation) (answered : Answer)
-    → mid ≡ heard before from message → counts before from message ≡ false → answered ≡ Wait → after ≡ telling mid mid.state None
+    → mid ≡ heard before from message → counts before from message ≡ false → answered ≡ Wait → after ≡ telling mid mid.state News.Nothing
     → Answers fresh before from message answered after
 answers_ignored fresh before from message mid after answered heard_is none waits is =
     let machine = ignored fresh before from message none in
     let same : mid ≡ before = heard_is ∙ machine.1 in
     record {
       decided = machine.0 ∙ sym (ap (λ (b : Bool). cond b (decision after answered) Ignores) none);
-      ignored = λ _. (subst IsWait (sym waits) tt, ap (λ (op : Operation). op.state) (is ∙ ap (λ (op : Operation). telling op op.state None) same));
+      ignored = λ _. (subst IsWait (sym waits) tt, ap (λ (op : Operation). op.state) (is ∙ ap (λ (op : Operation). telling op op.state News.Nothing) same));
       sent = subst (SendsPhase after) (sym waits) tt;
-      told = ap (λ (op : Operation). op.note) is ∙ sym (ap (note_told before.state.call) machine.0);
-      stays = heard_then before from message mid after heard_is (stays_telling mid after None is);
+      stays = heard_then before from message mid after heard_is (stays_telling mid after News.Nothing is);
     }
 
 -- with a reply that counts, but no quorum, it waits
 pub answers_waiting : (fresh : Option Stamp) (before : Operation) (from : BrickId) (message : Message) (mid after : Operation) (answered : Answer)
     (full : Bool)
     → mid ≡ heard before from message → counts before from message ≡ true → full ≡ is_full mid → full ≡ false → answered ≡ Wait
-    → after ≡ telling mid mid.state None
+    → after ≡ telling mid mid.state News.Nothing
     → Answers fresh before from message answered after
 answers_waiting fresh before from message mid after answered full heard_is some full_is few waits is =
     let machine : decided_on fresh before from message ≡ Waits mid.state =
@@ -168,8 +151,7 @@ answers_waiting fresh before from message mid after answered full heard_is some 
       decided = machine ∙ sym holds ∙ sym (ap (λ (b : Bool). cond b (decision after answered) Ignores) some);
       ignored = λ none. absurd (false≢true (sym none ∙ some));
       sent = subst (SendsPhase after) (sym waits) tt;
-      told = ap (λ (op : Operation). op.note) is ∙ sym (ap (note_told before.state.call) machine);
-      stays = heard_then before from message mid after heard_is (stays_telling mid after None is);
+      stays = heard_then before from message mid after heard_is (stays_telling mid after News.Nothing is);
     }
 
 -- with a quorum it answers what the machine decides
@@ -177,20 +159,17 @@ pub answers_decided : (fresh : Option Stamp) (before : Operation) (from : BrickI
     (full : Bool)
     → mid ≡ heard before from message → counts before from message ≡ true → full ≡ is_full mid → full ≡ true
     → decision after answered ≡ decided mid.block (block_code mid.block) fresh mid.state → SendsPhase after answered
-    → after.note ≡ note_told mid.state.call (decided mid.block (block_code mid.block) fresh mid.state) → StaysAsked mid after
+    → StaysAsked mid after
     → Answers fresh before from message answered after
-answers_decided fresh before from message mid after answered full heard_is some full_is enough next sent told stays =
+answers_decided fresh before from message mid after answered full heard_is some full_is enough next sent stays =
     let machine : decided_on fresh before from message ≡ decided mid.block (block_code mid.block) fresh mid.state =
     decided_with fresh before from message full some (full_is ∙ ap is_full heard_is)
     ∙ ap (λ (b : Bool). after_hearing fresh (heard before from message) b) enough
     ∙ ap (λ (op : Operation). decided op.block (block_code op.block) fresh op.state) (sym heard_is) in
-    let call : mid.state.call ≡ before.state.call = ap (λ (op : Operation). op.state.call) heard_is ∙ heard_call before from message in
     record {
       decided = machine ∙ sym next ∙ sym (ap (λ (b : Bool). cond b (decision after answered) Ignores) some);
       ignored = λ none. absurd (false≢true (sym none ∙ some));
       sent = sent;
-      told = told ∙ ap (λ (c : Call). note_told c (decided mid.block (block_code mid.block) fresh mid.state)) call
-          ∙ sym (ap (note_told before.state.call) machine);
       stays = heard_then before from message mid after heard_is stays;
     }
 
@@ -204,12 +183,12 @@ pub answers_full : (fresh : Option Stamp) (before : Operation) (from : BrickId) 
     (full : Bool) (f : FullMember)
     → mid ≡ heard before from message → counts before from message ≡ true → full ≡ is_full mid → full ≡ true
     → lowest_full mid.state.counted ≡ Some f → decision after answered ≡ aborted_full f → SendsPhase after answered
-    → after ≡ telling mid mid.state None
+    → after ≡ telling mid mid.state News.Nothing
     → Answers fresh before from message answered after
 answers_full fresh before from message mid after answered full f heard_is some full_is enough told aborts sent is =
     let decides = full_decided fresh mid f told in
     answers_decided fresh before from message mid after answered full heard_is some full_is enough (aborts ∙ sym decides) sent
-    (ap (λ (op : Operation). op.note) is ∙ sym (ap (note_told mid.state.call) decides)) (stays_telling mid after None is)
+    (stays_telling mid after News.Nothing is)
 
 -- a recovery that is asked for once a reply counted is asked for by the operation as it was before the reply
 pub asked_as_before : (before : Operation) (from : BrickId) (message : Message) (mid after : Operation) (may : Bool) (answered : Answer)

@@ -284,14 +284,6 @@ module _ (replies : List Counted) (votes : Votes) (is : IsTallyOf replies votes)
         all = λ k below has. is.said k below ∙ said_found v k replies agreed.all (ap is_counted (sym (is.said k below)) ∙ has);
       }
 
--- a test that is true exactly where there are enough
-pub enough_is : (b : Bool) (n q : ℕ) → (IsTrue b → q ≤ n) → (q ≤ n → IsTrue b) → b ≡ not (nat_lt n q)
-enough_is true n q many_if back = let many : q ≤ n = many_if refl in grind (arith, nat_tests)
-enough_is false n q many_if back = ⊎_elim
-    (λ (few : nat_lt n q ≡ true). sym (ap not few))
-    (λ (many : nat_lt n q ≡ false). absurd (false≢true (back (grind (arith, nat_tests)))))
-    (cases_Bool (nat_lt n q))
-
 -- where two claims on stamps are one, a stamp answers both
 pub answers_both : (P Q : Stamp → Type 0) (o : Option Stamp) → ((v : Stamp) → P v → Q v) → ((v : Stamp) → Q v → P v)
     → MatchOption o ((v : Stamp) → ¬ (P v)) P → MatchOption o ((v : Stamp) → ¬ (Q v)) Q

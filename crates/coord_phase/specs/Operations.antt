@@ -9,12 +9,13 @@ use Rattle.fab_base.specs.Stamps.{first_stamp}
 use Rattle.fab_base.specs.declared.asks.Ask.{Ask}
 use Rattle.fab_base.specs.declared.asks.Op.{Op}
 use Rattle.fab_base.specs.declared.member_lists.View.{View}
-use Rattle.fab_base.specs.declared.notes.Note.{Note}
 use Rattle.messages.specs.declared.calls.Call.{Call}
 use Rattle.messages.specs.declared.packets.Message.{Message}
 use Rattle.coord_phase.specs.declared.operations.Stage.{Stage}
 use Rattle.coord_phase.specs.declared.operations.OnBase.{OnBase}
+use Rattle.coord_phase.specs.declared.operations.News.{News}
 use Rattle.fab_base.specs.Layouts.{Layout, Group}
+use Rattle.quorum.specs.Quorums.{quorum_of}
 use Rattle.protocol.specs.Views.{group_kept}
 use Rattle.protocol.specs.declared.phases.Phase.{Phase}
 use Rattle.protocol.specs.declared.phases.Phase.TheVariants.{Looks, LooksAt, Orders, OrdersAt, Recovers, Descends, Modifies, Bases, Stores}
@@ -22,21 +23,45 @@ use Rattle.protocol.specs.declared.phases.Counted.{Counted}
 use Rattle.protocol.specs.Coordinators.{Coordinator, answers_phase, block_written, counts_at, has_seat, with_reply}
 use Rattle.protocol.specs.Nodes.{has_block, has_length, first_phase, given_content}
 
--- an operation: the bytes of a block, how far the machine's coordinator is, and by the last reply that it heard the version that it told, and the one
--- that it had stored, which may be collected
+-- an operation: the bytes of a block, how far the machine's coordinator is, and what the last reply that it heard made new of a version
 pub record Operation : Type 0 where
   pub block : ℕ
   pub state : Coordinator
-  pub note : Option Note
-  pub made : Option Stamp
+  pub news : News
 
 -- the operation, once its coordinator is this far
 abbrev pub with_state : Operation → Coordinator → Operation
-with_state op c = record { block = op.block; state = c; note = op.note; made = op.made }
+with_state op c = record { block = op.block; state = c; news = op.news }
 
--- the operation, once its coordinator is this far, with what it tells
-abbrev pub telling : Operation → Coordinator → Option Note → Operation
-telling op c note = record { block = op.block; state = c; note = note; made = None }
+-- the operation, once its coordinator is this far, with this news
+abbrev pub telling : Operation → Coordinator → News → Operation
+telling op c news = record { block = op.block; state = c; news = news }
+
+-- the version that a read is answered at once
+abbrev pub seen_in : News → Option Stamp
+seen_in News.Nothing = None
+seen_in News.Made = None
+seen_in (News.Seen version) = Some version
+seen_in News.Stored = None
+
+-- the operation's version, of this stamp, where a quorum holds it
+abbrev pub stored_in : News → Stamp → Option Stamp
+stored_in News.Nothing stamp = None
+stored_in News.Made stamp = None
+stored_in (News.Seen version) stamp = None
+stored_in News.Stored stamp = Some stamp
+
+-- the group whose members a phase asks: that of the operation's view
+abbrev pub asked : Coordinator → Group
+asked c = c.group
+
+-- how many replies decide a phase: a quorum of those who are asked
+abbrev pub needed : Coordinator → ℕ
+needed c = quorum_of (asked c)
+
+-- a reply of this seat may count: none of it does yet
+abbrev pub may_count : Coordinator → ℕ → Bool
+may_count c seat = not (has_seat seat c.counted)
 
 -- the coordinator without the last reply that counts
 abbrev pub without_last : Coordinator → Coordinator
@@ -74,8 +99,8 @@ call_in call number ask view =
     record { boot = call.boot; seq = call.seq; phase = number; group = ask.group; view = view; stripe = ask.stripe }
 
 -- an operation in its first round, in this phase of its call, asked of the members of a view: it has found no base
-abbrev pub asked_op : Layout → View → Call → Ask → Stamp → Phase → Operation
-asked_op layout view call ask stamp phase =
+abbrev pub opened_op : Layout → View → Call → Ask → Stamp → Phase → Operation
+opened_op layout view call ask stamp phase =
     record {
       block = layout.block;
       state = record {
@@ -89,13 +114,12 @@ asked_op layout view call ask stamp phase =
         phase = phase;
         counted = [];
       };
-      note = None;
-      made = None;
+      news = News.Nothing;
     }
 
 -- a new operation, asked of the members of a view
 abbrev pub first_op : Layout → View → CallId → Ask → Stamp → Operation
-first_op layout view call ask stamp = asked_op layout view (call_in call 1 ask view.number) ask stamp (first_phase ask.op)
+first_op layout view call ask stamp = opened_op layout view (call_in call 1 ask view.number) ask stamp (first_phase ask.op)
 
 -- the coordinator as it begins a stage, in which no reply counts yet
 abbrev pub at_stage : Coordinator → Stage → Coordinator

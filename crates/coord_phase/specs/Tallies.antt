@@ -2,12 +2,10 @@
 use Rattle.std.specs.Prelude.{◌≡◌, ℕ, ◌<◌, ◌≤◌, true, nat_eq, nat_lt, if◌then◌else◌, List, [], ◌∷◌, length}
 use Rattle.std.specs.List.{list_all}
 use Rattle.fab_base.specs.declared.stamps.Stamp.{Stamp}
-use Rattle.fab_base.specs.Layouts.{Group}
 use Rattle.protocol.specs.declared.phases.Counted.{Counted}
 use Rattle.protocol.specs.Coordinators.{told_stamp, finds}
 use Rattle.quorum.specs.declared.seats.Seat.{Seat}
 use Rattle.quorum.specs.declared.seats.Seat.TheVariants as seat
-use Rattle.quorum.specs.Quorums.{quorum_of}
 use Rattle.quorum.specs.Tallies.{Votes, seat_of}
 use Rattle.coord_phase.specs.Operations.{are_apart}
 
@@ -22,12 +20,6 @@ pub record IsTallyOf (counted : List Counted) (votes : Votes) : Type 0 where
   pub said : (k : ℕ) → k < votes.n → seat_of votes k ≡ said_by k counted
   pub seats : list_all (λ c. nat_lt c.seat votes.n) counted ≡ true
   pub apart : are_apart counted ≡ true
-
--- the tally is of a group's members, and of their quorum, which has the blocks that give back a stripe
-pub record IsTallyFor (group : Group) (votes : Votes) : Type 0 where
-  pub n : votes.n ≡ length group.members
-  pub q : votes.q ≡ quorum_of group
-  pub enough : group.m ≤ votes.q
 
 -- there are replies, and each tells the version v
 pub record IsAgreed (counted : List Counted) (v : Stamp) : Type 0 where

@@ -85,10 +85,9 @@ fn answers(block: u16, stamp: Stamp, seat: u8, phase: Phase, reply: &Reply) -> b
 
 impl Operation {
     ghost use Rattle.std.specs.Prelude.{◌≡◌, ◌-◌, ◌<◌, ◌≤◌, ◌^◌, not, nat_lt, true, None, Some, IfSome, IfOk, OnOk, OnErr, length};
-    ghost use Rattle.quorum.specs.Quorums.{quorum_of};
     ghost use Rattle.protocol.specs.Coordinators.{has_seat, counts_at};
     ghost use Rattle.protocol.specs.Nodes.{has_length};
-    ghost use Rattle.coord_phase.specs.Operations.{with_state, without_last, counts, heard};
+    ghost use Rattle.coord_phase.specs.Operations.{with_state, without_last, needed, may_count, counts, heard};
 
     /// Whether the member at a seat has a reply that counts.
     pub(crate) fn has_reply(&self, seat: u8) -> bool
@@ -96,6 +95,14 @@ impl Operation {
         ensures { result ≡ has_seat seat self.now.state.counted }
     {
         self.replies.has_reply(seat)
+    }
+
+    /// Whether a reply of this seat may count: none of it does yet.
+    fn may_count(&self, seat: u8) -> bool
+        requires { seat < length self.now.state.group.members }
+        ensures { result ≡ may_count self.now.state seat }
+    {
+        !self.has_reply(seat)
     }
 
     /// The seat at which a reply counts: it is to this very phase, answers it, and is its seat's first.
@@ -107,9 +114,9 @@ impl Operation {
         if !is_same_call(call, self.stage.call) || self.stage.call.phase == u32::MAX {
             return None;
         }
-        let seat = self.group.seat_of(from)?;
+        let seat = self.asked().seat_of(from)?;
         if !answers(self.block, self.stage.stamp, seat, self.stage.phase, reply)
-            || self.has_reply(seat)
+            || !self.may_count(seat)
         {
             return None;
         }
@@ -161,12 +168,14 @@ impl Operation {
         self.replies.take_back();
     }
 
-    /// Whether a quorum of replies counts.
+    /// Whether as many replies count as decide the phase.
     pub(crate) fn is_full(&self) -> bool
-        ensures full { result ≡ not (nat_lt (length self.now.state.counted) (quorum_of self.now.state.group)) }
+        ensures full { result ≡ not (nat_lt (length self.now.state.counted) (needed self.now.state)) }
         ensures enough { result ≡ true → self.now.state.group.m ≤ length self.now.state.counted }
         ensures long { has_length self.now.state.group.m self.now.block self.now.state.ask.op ≡ true }
     {
-        self.replies.is_quorum()
+        // The use of a field tells the proof what is always true of an operation.
+        let _ = &self.block;
+        self.counted().len() >= self.needed() as usize
     }
 }

@@ -6,6 +6,7 @@
 mod counting;
 mod deciding;
 mod forgetting;
+pub mod kinds;
 pub mod operations;
 pub mod replies;
 mod reports;
@@ -14,5 +15,6 @@ mod stages;
 mod versions;
 
 pub use deciding::Decide;
-pub use operations::{Operation, Stage, call_in};
+pub use kinds::Coordinated;
+pub use operations::{News, Operation, Stage};
 pub use stages::MOST_ROUNDS;

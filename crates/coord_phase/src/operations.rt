@@ -5,7 +5,7 @@ ghost use Rattle.quorum.specs.Quorums.{IsWithinLimits};
 ghost use Rattle.coord_phase.specs.Operations.{group_in_view, call_in};
 
 use crate::replies::Replies;
-use fab_base::{Ask, Bytes, CallId, GroupId, Members, NoMem, Note, Op, Stamp, View, ViewNo};
+use fab_base::{Ask, Bytes, CallId, GroupId, Members, NoMem, Op, Stamp, View, ViewNo};
 use layout::{Group, Layout};
 use messages::Call;
 use protocol::{Counted, Phase};
@@ -32,8 +32,21 @@ pub(crate) struct OnBase {
     pub(crate) content: Bytes,
 }
 
-/// An open operation: the bytes of a block, the group with the members that are asked, what is asked, how far the operation is, the
-/// base that it found, where it did, the replies that count in its phase, and what it told and stored.
+/// What the last reply that an operation heard made new of a version.
+#[derive(Clone, Copy)]
+pub enum News {
+    /// Nothing.
+    Nothing,
+    /// The operation makes its version: the phase that begins is the first that sends it.
+    Made,
+    /// A read is answered this version at once, and makes none.
+    Seen(Stamp),
+    /// A quorum holds the operation's version: those below it may be collected.
+    Stored,
+}
+
+/// An open operation: the bytes of a block, the group of its view, what is asked, how far the operation is, the base that it found,
+/// where it did, the replies that count in its phase, and what is new of a version.
 #[derive(Drop)]
 pub struct Operation {
     pub(crate) block: u16,
@@ -42,26 +55,24 @@ pub struct Operation {
     pub(crate) stage: Stage,
     pub(crate) on_base: Option<OnBase>,
     pub(crate) replies: Replies,
-    pub(crate) note: Option<Note>,
-    pub(crate) made: Option<Stamp>,
+    pub(crate) news: News,
 }
 
 impl Model for Operation {
+    ghost use Rattle.std.specs.Prelude.{◌≡◌, length};
     ghost use Rattle.coord_phase.specs.Operations.{Operation, IsInPhase, base_in, content_in};
-    ghost use Rattle.coord_phase.specs.Tallies.{IsTallyFor};
 
     ghost Value = { Operation };
 
     ghost view = { λ op. record {
       block = op.block;
       state = record { group = op.group; ask = op.ask; stamp = op.stage.stamp; round = op.stage.round; base = base_in op.on_base; content = content_in op.ask.op op.on_base; call = op.stage.call; phase = op.stage.phase; counted = op.replies.list.items };
-      note = op.note;
-      made = op.made;
+      news = op.news;
     } };
 
     ghost invariant = { λ op. IsInPhase op.block
         (record { group = op.group; ask = op.ask; stamp = op.stage.stamp; round = op.stage.round; base = base_in op.on_base; content = content_in op.ask.op op.on_base; call = op.stage.call; phase = op.stage.phase; counted = op.replies.list.items })
-        × IsTallyFor op.group op.replies.tally };
+        × (op.replies.tally.n ≡ length op.group.members) };
 }
 
 /// A group of these members, within the limits of a quorum.
@@ -87,7 +98,7 @@ pub(crate) fn group_in_view(layout: &Layout, view: &View, group: GroupId) -> Gro
 }
 
 /// The phase of this number of a call, in a view.
-pub fn call_in(call: CallId, number: u32, ask: &Ask, view: ViewNo) -> Call
+pub(crate) fn call_in(call: CallId, number: u32, ask: &Ask, view: ViewNo) -> Call
     ensures { result ≡ call_in call number ask.now view }
 {
     Call {
@@ -97,16 +108,6 @@ pub fn call_in(call: CallId, number: u32, ask: &Ask, view: ViewNo) -> Call
         group: ask.group,
         view,
         stripe: ask.stripe,
-    }
-}
-
-/// A copy of what an operation has told, if it has.
-fn copy_note(alloc: Global, note: &Option<Note>) -> Result<Option<Note>, NoMem>
-    ensures { IfOk result (λ made. made ≡ note.now) }
-{
-    match note {
-        None => Ok(None),
-        Some(note) => Ok(Some(note.copy(alloc)?)),
     }
 }
 
@@ -124,15 +125,16 @@ fn copy_on_base(alloc: Global, on_base: &Option<OnBase>) -> Result<Option<OnBase
 }
 
 impl Operation {
-    ghost use Rattle.std.specs.Prelude.{◌≡◌, true, Some, IfOk, length, option_copied};
+    ghost use Rattle.std.specs.Prelude.{◌≡◌, ◌≤◌, true, Some, IfOk, length};
     ghost use Rattle.protocol.specs.Coordinators.{block_written, forgetting};
     ghost use Rattle.protocol.specs.Nodes.{has_block, has_length, given_content};
-    ghost use Rattle.coord_phase.specs.Operations.{StoresBlocks, asked_op, is_storing, telling};
+    ghost use Rattle.coord_phase.specs.declared.operations.News.TheVariants as news;
+    ghost use Rattle.coord_phase.specs.Operations.{StoresBlocks, asked, needed, opened_op, is_storing, seen_in, stored_in, telling};
 
     /// An operation in its first round, in this phase of its call, asked of the members of a view, whose number and that of the group's
     /// data blocks are within the limits of a quorum. The data block that it asks for is one of them. What it is given to write is one
     /// block, or m blocks; and where the phase makes ready to store that, it is given that.
-    pub fn asked(
+    pub(crate) fn opened(
         alloc: Global,
         layout: &Layout,
         view: &View,
@@ -145,7 +147,7 @@ impl Operation {
         requires fits { has_block (group_in_view layout.now view.now.members ask.group.0).m ask.op ≡ true }
         requires length { has_length (group_in_view layout.now view.now.members ask.group.0).m layout.now.block ask.op ≡ true }
         requires content { StoresBlocks layout.now.block (group_in_view layout.now view.now.members ask.group.0).m ask.op (given_content ask.op) phase }
-        ensures { result ≡ asked_op layout.now view.now call ask stamp phase }
+        ensures { result ≡ opened_op layout.now view.now call ask stamp phase }
     {
         let group = group_in_view(layout, view, ask.group);
         let replies = Replies::new(alloc, group.policy());
@@ -161,30 +163,13 @@ impl Operation {
             },
             on_base: None,
             replies,
-            note: None,
-            made: None,
+            news: News::Nothing,
         }
-    }
-
-    /// An equal value.
-    pub fn copy(&self, alloc: Global) -> Result<Operation, NoMem>
-        ensures { IfOk result (λ made. made ≡ self.now) }
-    {
-        Ok(Operation {
-            block: self.block,
-            group: self.group.copy(),
-            ask: self.ask.copy(alloc)?,
-            stage: self.stage,
-            on_base: copy_on_base(alloc, &self.on_base)?,
-            replies: self.replies.copy(alloc)?,
-            note: copy_note(alloc, &self.note)?,
-            made: self.made,
-        })
     }
 
     /// An equal operation, with no reply that counts, and nothing to tell.
     pub fn renewed(&self, alloc: Global) -> Result<Operation, NoMem>
-        ensures { IfOk result (λ made. made ≡ telling self.now (forgetting self.now.state) None) }
+        ensures { IfOk result (λ made. made ≡ telling self.now (forgetting self.now.state) news.Nothing) }
     {
         Ok(Operation {
             block: self.block,
@@ -193,16 +178,23 @@ impl Operation {
             stage: self.stage,
             on_base: copy_on_base(alloc, &self.on_base)?,
             replies: Replies::new(alloc, self.group.policy()),
-            note: None,
-            made: None,
+            news: News::Nothing,
         })
     }
 
-    /// The group, with the members that are asked.
-    pub fn group(&self) -> &Group
-        ensures { result.now ≡ self.now.state.group }
+    /// The group whose members the phase asks: that of the operation's view.
+    pub fn asked(&self) -> &Group
+        ensures { result.now ≡ asked self.now.state }
     {
         &self.group
+    }
+
+    /// How many replies decide the phase, at least as many as there are data blocks: a quorum of those who are asked.
+    pub(crate) fn needed(&self) -> u8
+        ensures value { result ≡ needed self.now.state }
+        ensures enough { self.now.state.group.m ≤ result }
+    {
+        self.asked().policy().q()
     }
 
     /// What is asked.
@@ -210,13 +202,6 @@ impl Operation {
         ensures { result.now ≡ self.now.state.ask }
     {
         &self.ask
-    }
-
-    /// What is asked, at the operation's end.
-    pub fn into_ask(self) -> Ask
-        ensures { result ≡ self.state.ask }
-    {
-        self.ask
     }
 
     /// How far the operation is.
@@ -234,7 +219,7 @@ impl Operation {
     }
 
     /// The version that it makes its own on, if it found one.
-    pub(crate) fn base(&self) -> Option<Stamp>
+    pub fn base(&self) -> Option<Stamp>
         ensures { result ≡ self.now.state.base }
     {
         match &self.on_base {
@@ -274,17 +259,30 @@ impl Operation {
         self.replies.as_slice()
     }
 
-    /// What the operation has told of its version: none before it made one, or read one at once.
-    pub fn note(&self) -> Option<&Note>
-        ensures { option_copied result ≡ self.now.note }
+    /// What the last reply made new of a version.
+    pub fn news(&self) -> News
+        ensures { result ≡ self.now.news }
     {
-        self.note.as_ref()
+        self.news
+    }
+
+    /// The version that a read was answered at once, if it was.
+    pub fn seen(&self) -> Option<Stamp>
+        ensures { result ≡ seen_in self.now.news }
+    {
+        match self.news {
+            News::Seen(version) => Some(version),
+            News::Nothing | News::Made | News::Stored => None,
+        }
     }
 
     /// The version that it stored, and that may be collected: none before the operation is answered.
     pub fn made(&self) -> Option<Stamp>
-        ensures { result ≡ self.now.made }
+        ensures { result ≡ stored_in self.now.news self.now.state.stamp }
     {
-        self.made
+        match self.news {
+            News::Stored => Some(self.stage.stamp),
+            News::Nothing | News::Made | News::Seen(_) => None,
+        }
     }
 }

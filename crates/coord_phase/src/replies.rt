@@ -1,6 +1,5 @@
 //! The replies that count in a phase.
 
-ghost use Rattle.std.specs.Prelude.{◌≡◌, IfOk};
 ghost use Rattle.coord_phase.specs.Tallies.{IsTallyOf};
 
 use crate::versions::told_stamp;
@@ -19,8 +18,7 @@ pub struct Replies {
 }
 
 impl Replies {
-    ghost use Rattle.std.specs.Prelude.{◌≡◌, ◌++◌, ◌∷◌, [], ◌-◌, ◌<◌, ℕ, not, nat_lt, true, false, IfOk, OnOk, OnErr, MatchOption, length, take};
-    ghost use Rattle.quorum.specs.Quorums.{q_of};
+    ghost use Rattle.std.specs.Prelude.{◌≡◌, ◌++◌, ◌∷◌, [], ◌-◌, ◌<◌, ℕ, false, OnOk, OnErr, MatchOption, length, take};
     ghost use Rattle.protocol.specs.Coordinators.{has_seat, pieces_at};
     ghost use Rattle.coord_phase.specs.Tallies.{IsAgreed};
 
@@ -28,24 +26,11 @@ impl Replies {
     pub(crate) fn new(alloc: Global, policy: Policy) -> Replies
         ensures none { result.list.items ≡ [] }
         ensures n { result.tally.n ≡ policy.n }
-        ensures q { result.tally.q ≡ q_of policy.m policy.n }
     {
         Replies {
             list: Vec::new(alloc),
             tally: Tally::new(policy),
         }
-    }
-
-    /// An equal value.
-    pub(crate) fn copy(&self, alloc: Global) -> Result<Replies, NoMem>
-        ensures list { IfOk result (λ made. made.list.items ≡ self.now.list.items) }
-        ensures tally { IfOk result (λ made. made.tally ≡ self.now.tally) }
-    {
-        let list = copy_counted(alloc, self.as_slice())?;
-        Ok(Replies {
-            list,
-            tally: self.tally.copy(),
-        })
     }
 
     /// The replies, in the order in which they came.
@@ -61,13 +46,6 @@ impl Replies {
         ensures { result ≡ has_seat seat self.now.list.items }
     {
         self.tally.is_counted(seat)
-    }
-
-    /// Whether a quorum of replies counts.
-    pub(crate) fn is_quorum(&self) -> bool
-        ensures { result ≡ not (nat_lt (length self.now.list.items) self.now.tally.q) }
-    {
-        self.tally.has_quorum()
     }
 
     /// The version that all replies tell. None exactly where they do not, or there is no reply.
@@ -91,7 +69,6 @@ impl Replies {
         ensures counted { OnOk result (self.new.list.items ≡ self.old.list.items ++ (reply ∷ [])) }
         ensures err { OnErr result (self.new.list.items ≡ self.old.list.items) }
         ensures n { self.new.tally.n ≡ self.old.tally.n }
-        ensures q { self.new.tally.q ≡ self.old.tally.q }
     {
         let seat = reply.seat;
         let mark = told_stamp(&reply.reply);
@@ -104,7 +81,6 @@ impl Replies {
     pub(crate) fn take_back(&mut self)
         ensures list { self.new.list.items ≡ take (length self.old.list.items - 1) self.old.list.items }
         ensures n { self.new.tally.n ≡ self.old.tally.n }
-        ensures q { self.new.tally.q ≡ self.old.tally.q }
     {
         if let Some(last) = self.list.pop() {
             self.tally.take_back(last.seat);
@@ -115,24 +91,8 @@ impl Replies {
     pub(crate) fn clear(&mut self, policy: Policy)
         ensures none { self.new.list.items ≡ [] }
         ensures n { self.new.tally.n ≡ policy.n }
-        ensures q { self.new.tally.q ≡ q_of policy.m policy.n }
     {
         self.list.clear();
         self.tally = Tally::new(policy);
     }
-}
-
-/// A copy of these replies.
-fn copy_counted(alloc: Global, counted: &[Counted]) -> Result<Vec<Counted>, NoMem>
-    ensures { IfOk result (λ made. made.items ≡ counted.now) }
-{
-    let mut made = Vec::new(alloc);
-    for reply in counted {
-        made.push(Counted {
-            seat: reply.seat,
-            brick: reply.brick,
-            reply: reply.reply.copy(alloc)?,
-        })?;
-    }
-    Ok(made)
 }

@@ -112,7 +112,7 @@ impl Operation {
     {
         let parity = self.parity(alloc)?;
         let mut messages = Vec::new(alloc);
-        for (seat, member) in self.group.members().as_slice().iter().enumerate() {
+        for (seat, member) in self.asked().members().as_slice().iter().enumerate() {
             let seat = seat as u8;
             if self.has_reply(seat) {
                 continue;

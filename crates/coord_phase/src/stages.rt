@@ -4,9 +4,9 @@ ghost use Rattle.std.specs.Prelude.{◌≡◌, ◌*◌, IfOk, true, length};
 ghost use Rattle.reg_model.specs.Registers.{block_of, after_op};
 ghost use Rattle.protocol.specs.Nodes.{has_block, has_length};
 
-use crate::operations::{OnBase, Operation, Stage};
+use crate::operations::{News, OnBase, Operation, Stage};
 use crate::replies::Replies;
-use fab_base::{Answer, Bytes, CallId, Cause, NoMem, Note, Op, Stamp};
+use fab_base::{Answer, Bytes, Cause, NoMem, Op, Stamp};
 use messages::{Messages, Next, Turn};
 use protocol::{FullMember, Phase, Refuser};
 use std::alloc::Global;
@@ -54,7 +54,8 @@ impl Operation {
     ghost use Rattle.protocol.specs.declared.phases.Phase.TheVariants.{Orders, OrdersAt, Stores};
     ghost use Rattle.coord_phase.specs.Operations.{telling, at_stage, on_base, is_ordering, StoresBlocks, StaysAsked};
     ghost use Rattle.coord_phase.specs.Messages.{phase_messages};
-    ghost use Rattle.coord_phase.specs.Decisions.{decision, SendsPhase, NeverRecovers, bytes_told, note_of, seen_note};
+    ghost use Rattle.coord_phase.specs.Decisions.{decision, SendsPhase, NeverRecovers};
+    ghost use Rattle.coord_phase.specs.declared.operations.News.TheVariants as news;
 
     /// The stage with the next phase of the operation's call, which asks this.
     pub fn next_stage(&self, phase: Phase) -> Stage
@@ -67,37 +68,20 @@ impl Operation {
         stage
     }
 
-    /// Has nothing to tell of a version.
-    fn tell_nothing(&mut self)
-        ensures { self.new ≡ telling self.old self.old.state None }
+    /// Has this news of a version.
+    fn tell(&mut self, news: News)
+        ensures { self.new ≡ telling self.old self.old.state news }
     {
-        self.note = None;
-        self.made = None;
+        self.news = news;
     }
 
-    /// Waits for more replies, with nothing to tell.
+    /// Waits for more replies.
     pub fn wait(&mut self) -> Next
         ensures next { result ≡ Next.Wait }
-        ensures state { self.new ≡ telling self.old self.old.state None }
+        ensures state { self.new ≡ telling self.old self.old.state news.Nothing }
     {
-        self.tell_nothing();
+        self.tell(News::Nothing);
         Next::Wait
-    }
-
-    /// What the operation tells as it makes its version, with this copy of the bytes that it tells.
-    fn note_of(&self, told: Bytes) -> Note
-        requires { told ≡ bytes_told self.now.state.ask.op self.now.state.content self.now.state.phase }
-        ensures { result ≡ note_of self.now.state }
-    {
-        Note::Made {
-            call: CallId {
-                boot: self.stage.call.boot,
-                seq: self.stage.call.seq,
-            },
-            stamp: self.stage.stamp,
-            base: self.base(),
-            content: told,
-        }
     }
 
     /// What an operation that stored its version is answered.
@@ -112,19 +96,19 @@ impl Operation {
         Ok(Answer::Data(Bytes::from_slice(alloc, read)?))
     }
 
-    /// Asks that its stripe be recovered, beginning so, with nothing to tell.
+    /// Asks that its stripe be recovered, beginning so.
     pub fn recover(&mut self, turn: Turn) -> Next
         ensures next { result ≡ Next.Recover turn }
-        ensures state { self.new ≡ telling self.old self.old.state None }
+        ensures state { self.new ≡ telling self.old self.old.state news.Nothing }
     {
-        self.tell_nothing();
+        self.tell(News::Nothing);
         Next::Recover(turn)
     }
 
     /// Begins a stage, and gives its messages. Where memory runs out nothing has changed.
     pub fn begin(&mut self, alloc: Global, stage: Stage) -> Result<Messages, NoMem>
         requires content { StoresBlocks self.old.block self.old.state.group.m self.old.state.ask.op self.old.state.content stage.phase }
-        ensures state { OnOk result (self.new ≡ telling self.old (at_stage self.old.state stage) None) }
+        ensures state { OnOk result (self.new ≡ telling self.old (at_stage self.old.state stage) news.Nothing) }
         ensures messages { IfOk result (λ messages. messages.items ≡ phase_messages self.new) }
         ensures err { OnErr result (self.new ≡ self.old) }
     {
@@ -133,7 +117,7 @@ impl Operation {
         let replies = mem::replace(&mut self.replies, none);
         match self.messages(alloc) {
             Ok(messages) => {
-                self.tell_nothing();
+                self.tell(News::Nothing);
                 Ok(messages)
             }
             Err(fault) => {
@@ -156,7 +140,7 @@ impl Operation {
         requires phase { self.old.state.call.phase < 2 ^ 32 - 1 }
         requires before { StoresBlocks self.old.block self.old.state.group.m self.old.state.ask.op content self.old.state.phase }
         requires content { StoresBlocks self.old.block self.old.state.group.m self.old.state.ask.op content phase }
-        ensures state { OnOk result (self.new ≡ telling self.old (on_base (in_phase self.old.state phase) base content) None) }
+        ensures state { OnOk result (self.new ≡ telling self.old (on_base (in_phase self.old.state phase) base content) news.Nothing) }
         ensures messages { IfOk result (λ messages. messages.items ≡ phase_messages self.new) }
         ensures err { OnErr result (self.new ≡ self.old) }
     {
@@ -170,18 +154,19 @@ impl Operation {
         }
     }
 
-    /// Begins to store what the operation stores, in the call's next phase: it makes its version, and tells it. Where memory runs out
-    /// nothing has changed.
+    /// Begins to store what the operation stores, in the call's next phase: it makes its version. Where memory runs out nothing has
+    /// changed.
     pub fn make(&mut self, alloc: Global) -> Result<Messages, NoMem>
         requires phase { self.old.state.call.phase < 2 ^ 32 - 1 }
         requires orders { self.old.state.phase ≡ Orders }
-        ensures state { OnOk result (self.new ≡ telling self.old (in_phase self.old.state Stores) (Some (note_of (in_phase self.old.state Stores)))) }
+        ensures state { OnOk result (self.new ≡ telling self.old (in_phase self.old.state Stores) news.Made) }
         ensures messages { IfOk result (λ messages. messages.items ≡ phase_messages self.new) }
         ensures err { OnErr result (self.new ≡ self.old) }
     {
-        let told = Bytes::from_slice(alloc, self.stored())?;
+        // The call tells the proof that what is ordered is ready to be stored.
+        let _ = self.stored();
         let messages = self.begin(alloc, self.next_stage(Phase::Stores))?;
-        self.note = Some(self.note_of(told));
+        self.tell(News::Made);
         Ok(messages)
     }
 
@@ -196,21 +181,21 @@ impl Operation {
         stripe_code::delta(alloc, size, self.bytes_at(data_block), self.block_written())
     }
 
-    /// Begins to modify this version in a data block, in the call's next phase: it makes its version, and tells it. All replies tell that
-    /// version, also that of the block's seat. Where memory runs out nothing has changed.
+    /// Begins to modify this version in a data block, in the call's next phase: it makes its version. All replies tell the base, also
+    /// that of the block's seat. Where memory runs out nothing has changed.
     pub fn modify(&mut self, alloc: Global, base: Stamp, data_block: u8) -> Result<Messages, NoMem>
         requires phase { self.old.state.call.phase < 2 ^ 32 - 1 }
         requires orders { self.old.state.phase ≡ OrdersAt data_block }
         requires base { common_version_at data_block self.old.state.counted ≡ Some base }
-        ensures state { OnOk result (self.new ≡ telling self.old (modifying (block_code self.old.block) self.old.state base data_block)
-            (Some (note_of (modifying (block_code self.old.block) self.old.state base data_block)))) }
+        ensures state { OnOk result (self.new ≡ telling self.old (modifying (block_code self.old.block) self.old.state base data_block) news.Made) }
         ensures messages { IfOk result (λ messages. messages.items ≡ phase_messages self.new) }
         ensures err { OnErr result (self.new ≡ self.old) }
     {
-        let told = Bytes::from_slice(alloc, self.block_written())?;
+        // The call tells the proof that a block is written.
+        let _ = self.block_written();
         let delta = self.delta_to(alloc, data_block)?;
         let messages = self.begin_on(alloc, base, delta, Phase::Modifies { base, data_block })?;
-        self.note = Some(self.note_of(told));
+        self.tell(News::Made);
         Ok(messages)
     }
 
@@ -224,12 +209,12 @@ impl Operation {
         content_after(alloc, &self.ask.op, self.block, self.group.m(), content)
     }
 
-    /// Begins to store what the operation makes of this version, whose content it read back, in the call's next phase, with nothing to
-    /// tell. Where memory runs out nothing has changed.
+    /// Begins to store what the operation makes of this version, whose content it read back, in the call's next phase. Where memory runs
+    /// out nothing has changed.
     pub fn restore(&mut self, alloc: Global, base: Stamp, content: Bytes) -> Result<Messages, NoMem>
         requires phase { self.old.state.call.phase < 2 ^ 32 - 1 }
         requires content { length content ≡ self.old.state.group.m * self.old.block }
-        ensures state { OnOk result (self.new ≡ telling self.old (restoring self.old.block self.old.state base content) None) }
+        ensures state { OnOk result (self.new ≡ telling self.old (restoring self.old.block self.old.state base content) news.Nothing) }
         ensures messages { IfOk result (λ messages. messages.items ≡ phase_messages self.new) }
         ensures err { OnErr result (self.new ≡ self.old) }
     {
@@ -237,30 +222,27 @@ impl Operation {
         self.begin_on(alloc, base, stored, Phase::Stores)
     }
 
-    /// The same, where that makes the operation's version: it tells it.
+    /// The same, where that makes the operation's version.
     pub fn make_on(&mut self, alloc: Global, base: Stamp, content: Bytes) -> Result<Messages, NoMem>
         requires phase { self.old.state.call.phase < 2 ^ 32 - 1 }
         requires content { length content ≡ self.old.state.group.m * self.old.block }
-        ensures state { OnOk result (self.new ≡ telling self.old (restoring self.old.block self.old.state base content)
-            (Some (note_of (restoring self.old.block self.old.state base content)))) }
+        ensures state { OnOk result (self.new ≡ telling self.old (restoring self.old.block self.old.state base content) news.Made) }
         ensures messages { IfOk result (λ messages. messages.items ≡ phase_messages self.new) }
         ensures err { OnErr result (self.new ≡ self.old) }
     {
-        let stored = self.content_on(alloc, content)?;
-        let told = stored.copy(alloc)?;
-        let messages = self.begin_on(alloc, base, stored, Phase::Stores)?;
-        self.note = Some(self.note_of(told));
+        let messages = self.restore(alloc, base, content)?;
+        self.tell(News::Made);
         Ok(messages)
     }
 
     /// Ends the operation, since this member told a later stamp.
     pub fn abort(&mut self, refuser: Refuser) -> Next
         ensures next { decision self.new result ≡ aborted_by refuser }
-        ensures state { self.new ≡ telling self.old self.old.state None }
+        ensures state { self.new ≡ telling self.old self.old.state news.Nothing }
         ensures sent { SendsPhase self.new result }
         ensures never { NeverRecovers result }
     {
-        self.tell_nothing();
+        self.tell(News::Nothing);
         Next::End(Answer::Aborted(Cause::Later {
             brick: refuser.brick,
             stamp: refuser.stamp,
@@ -270,11 +252,11 @@ impl Operation {
     /// Ends the operation, since this member's store is full.
     pub(crate) fn abort_full(&mut self, member: FullMember) -> Next
         ensures next { decision self.new result ≡ aborted_full member }
-        ensures state { self.new ≡ telling self.old self.old.state None }
+        ensures state { self.new ≡ telling self.old self.old.state news.Nothing }
         ensures sent { SendsPhase self.new result }
         ensures never { NeverRecovers result }
     {
-        self.tell_nothing();
+        self.tell(News::Nothing);
         Next::End(Answer::Aborted(Cause::Full {
             brick: member.brick,
             live: member.live,
@@ -294,7 +276,6 @@ impl Operation {
         ensures next { IfOk result (λ next. decision self.new next ≡ ordered_again fresh self.old.state refuser) }
         ensures sent { IfOk result (λ next. SendsPhase self.new next) }
         ensures never { IfOk result NeverRecovers }
-        ensures told { OnOk result (self.new.note ≡ None) }
         ensures stays { OnOk result (StaysAsked self.old self.new) }
         ensures phase { self.new.state.phase ≡ self.old.state.phase }
         ensures err { OnErr result (self.new ≡ self.old) }
@@ -315,10 +296,9 @@ impl Operation {
     /// Ends the operation with the version that it made, which the members that replied hold.
     pub fn end_made(&mut self, answer: Answer) -> Next
         ensures next { result ≡ Next.End answer }
-        ensures state { self.new ≡ record { block = self.old.block; state = self.old.state; note = None; made = Some self.old.state.stamp } }
+        ensures state { self.new ≡ telling self.old self.old.state news.Stored }
     {
-        self.note = None;
-        self.made = Some(self.stage.stamp);
+        self.tell(News::Stored);
         Next::End(answer)
     }
 
@@ -329,7 +309,6 @@ impl Operation {
             (Ends (answer_with (read_of self.old.block self.old.state.ask.op self.old.state.content)) None (Some self.old.state.stamp))) }
         ensures sent { IfOk result (λ next. SendsPhase self.new next) }
         ensures never { IfOk result NeverRecovers }
-        ensures told { OnOk result (self.new.note ≡ None) }
         ensures stays { OnOk result (StaysAsked self.old self.new) }
         ensures phase { self.new.state.phase ≡ self.old.state.phase }
         ensures err { OnErr result (self.new ≡ self.old) }
@@ -345,16 +324,9 @@ impl Operation {
     pub fn end_look(&mut self, version: Stamp, bytes: Bytes) -> Next
         ensures next { decision self.new result ≡ Ends (Answer.Data bytes) (Some version) None }
         ensures sent { SendsPhase self.new result }
-        ensures state { self.new ≡ telling self.old self.old.state (seen_note self.old.state.call (Some version)) }
+        ensures state { self.new ≡ telling self.old self.old.state (news.Seen version) }
     {
-        self.made = None;
-        self.note = Some(Note::Seen {
-            call: CallId {
-                boot: self.stage.call.boot,
-                seq: self.stage.call.seq,
-            },
-            stamp: version,
-        });
+        self.tell(News::Seen(version));
         Next::End(Answer::Data(bytes))
     }
 }

@@ -5,4 +5,4 @@
 
 pub mod recoveries;
 
-pub use recoveries::Recovery;
+pub use recoveries::{Recovering, Recovery, follow};

@@ -5,4 +5,4 @@
 
 pub mod stripe_ops;
 
-pub use stripe_ops::StripeOp;
+pub use stripe_ops::{Stripe, StripeOp};

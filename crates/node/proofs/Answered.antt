@@ -1,43 +1,43 @@
 -- What follows from what an operation answers to a message.
-use Rattle.std.proofs.Common.{◌≡◌, ℕ, Bool, true, false, if◌then◌else◌, Option, Some, None, refl, sym, ◌∙◌, ap, subst}
+use Rattle.std.proofs.Common.{◌≡◌, ℕ, Bool, true, false, if◌then◌else◌, Option, refl, sym, ◌∙◌, ap, subst}
 use Rattle.fab_base.specs.declared.identities.BrickId.{BrickId}
 use Rattle.fab_base.specs.declared.stamps.Stamp.{Stamp}
-use Rattle.fab_base.specs.declared.notes.Note.{Note}
-use Rattle.messages.specs.declared.calls.Call.{Call}
+use Rattle.coord_phase.specs.declared.operations.News.{News}
 use Rattle.messages.specs.declared.packets.Message.{Message}
 use Rattle.messages.specs.declared.turns.Next.{Next}
 use Rattle.messages.specs.declared.turns.Next.TheVariants.{Wait, Send, End, Recover}
 use Rattle.messages.specs.declared.turns.Turn.{Turn}
 use Rattle.protocol.specs.Coordinators as machine
 use Rattle.protocol.specs.Coordinators.{Coordinator}
+use Rattle.std.proofs.lemmas.Bool.{false≢true}
 use Rattle.stripe_code.specs.Codes.{block_code}
 use Rattle.coord_phase.specs.Operations.{Operation, StaysAsked, counts}
-use Rattle.coord_phase.specs.Decisions.{Answers, AsksRecovery, NeverRecovers, IsWait, IsSend, SendsPhase, begins_in, decision, decided_on, note_told}
+use Rattle.coord_phase.specs.Decisions.{Answers, AsksRecovery, IsWait, IsSend, SendsPhase, begins_in, decision, decided_on}
 use Rattle.coord_recover.specs.Recoveries.{entered}
 use Rattle.node.specs.Decisions.{or_waits}
 use Rattle.node.proofs.Phases.{Begins, Follows, on_reply_follows}
 
 -- a phase that begins is no reply that is left out
-pub or_waits-begins : (c d : Coordinator) (note : Option Note) → or_waits c (begins_in note d) ≡ begins_in note d
-or_waits-begins c d None = refl
-or_waits-begins c d (Some note) = refl
-
--- as a phase begins, what is told of a call is told of every one
-told-begins : (a b : Call) (note : Option Note) (c : Coordinator) → note_told a (begins_in note c) ≡ note_told b (begins_in note c)
-told-begins a b None c = refl
-told-begins a b (Some note) c = refl
+pub or_waits-begins : (c d : Coordinator) (news : News) → or_waits c (begins_in news d) ≡ begins_in news d
+or_waits-begins c d News.Nothing = refl
+or_waits-begins c d News.Made = refl
+or_waits-begins c d (News.Seen version) = refl
+or_waits-begins c d News.Stored = refl
 
 -- a phase that begins is the call's next, and no reply counts in it yet
-pub begins_so : (note : Option Note) (c d : Coordinator) → Follows c (begins_in note d) → Begins c d
-begins_so None c d is = is
-begins_so (Some note) c d is = is
+pub begins_so : (news : News) (c d : Coordinator) → Follows c (begins_in news d) → Begins c d
+begins_so News.Nothing c d is = is
+begins_so News.Made c d is = is
+begins_so (News.Seen version) c d is = is
+begins_so News.Stored c d is = is
 
--- an operation that never asks for a recovery asks for one only where it may
-pub never_asks : (block : ℕ) (next : Next) (before after : Coordinator) → NeverRecovers next → AsksRecovery true block next before after
-never_asks block (Send messages) before after is = tt
-never_asks block Wait before after is = tt
-never_asks block (End answer) before after is = tt
-never_asks block (Recover turn) before after is = absurd is
+-- an operation that may never ask for a recovery asks for one only where it may
+pub never_asks : (block other : ℕ) (next : Next) (before after c d : Coordinator) → AsksRecovery false other next c d
+    → AsksRecovery true block next before after
+never_asks block other (Send messages) before after c d is = tt
+never_asks block other Wait before after c d is = tt
+never_asks block other (End answer) before after c d is = tt
+never_asks block other (Recover turn) before after c d is = absurd (false≢true is.may_be)
 
 -- what follows from what a message lets an operation decide
 decided_follows : (fresh : Option Stamp) (op : Operation) (from : BrickId) (message : Message) → Follows op.state (decided_on fresh op from message)
@@ -78,14 +78,6 @@ module _ (fresh : Option Stamp) (before : Operation) (from : BrickId) (message :
   follows_if_busy answered after busy is =
       subst (λ (next : machine.Next). Follows before.state next) (decided_if_busy answered after busy is) (decided_follows fresh before from message)
 
-  -- what is told as a phase begins is the phase's
-  pub begun_note : (answered : Next) (after : Operation) → (IsWait answered → ⊥) → Answers fresh before from message answered after
-      → decision after answered ≡ begins_in after.note after.state
-      → after.note ≡ note_told after.state.call (begins_in after.note after.state)
-  begun_note answered after busy is begins =
-      is.told ∙ ap (note_told before.state.call) (decided_if_busy answered after busy is ∙ begins)
-      ∙ told-begins before.state.call after.state.call after.note after.state
-
   -- one that waits does so as the machine says, in the same phase of its call
   waits_by : (after : Operation) → Answers fresh before from message Wait after → (b : Bool) → counts before from message ≡ b
       → (machine.Waits after.state ≡ or_waits before.state (decided_on fresh before from message)) × (after.state.call ≡ before.state.call)
@@ -116,11 +108,6 @@ module _ (fresh : Option Stamp) (before : Operation) (from : BrickId) (message :
   entered_decides mid turn (End answer) send = absurd send
   entered_decides mid turn (Recover other) send = absurd send
 
-  entered_note : (mid : Operation) (turn : Turn) → (entered mid turn).note ≡ note_told before.state.call (decision mid (Recover turn))
-  entered_note mid Turn.Order = refl
-  entered_note mid (Turn.Down bound) = refl
-  entered_note mid (Turn.Store base content) = refl
-
   entered_stays : (mid : Operation) (turn : Turn) → StaysAsked before mid → StaysAsked before (entered mid turn)
   entered_stays mid Turn.Order is = record { block = is.block; group = is.group; ask = is.ask }
   entered_stays mid (Turn.Down bound) is = record { block = is.block; group = is.group; ask = is.ask }
@@ -136,7 +123,6 @@ module _ (fresh : Option Stamp) (before : Operation) (from : BrickId) (message :
             ∙ sym (chosen (counts before from message) (decision (entered mid turn) next) machine.Ignores some);
         ignored = λ none. let wrong : true ≡ false = sym some ∙ none in cc;
         sent = sent;
-        told = entered_note mid turn ∙ sym (ap (note_told before.state.call) decided);
         stays = entered_stays mid turn is.stays;
       }
 

@@ -4,7 +4,7 @@ use Rattle.std.proofs.lemmas.List.{length-map}
 use Rattle.fab_base.specs.declared.identities.BrickId.{BrickId}
 use Rattle.fab_base.specs.declared.stamps.Stamp.{Stamp}
 use Rattle.fab_base.specs.declared.answers.Answer.{Answer}
-use Rattle.fab_base.specs.declared.notes.Note.{Note}
+use Rattle.coord_phase.specs.declared.operations.News.{News}
 use Rattle.messages.specs.declared.calls.Call.{Call}
 use Rattle.messages.specs.declared.packets.Message.{Message}
 use Rattle.messages.specs.declared.requests.Request.{Request}
@@ -63,18 +63,24 @@ collects_more None P Q more is = tt
 collects_more (Some t) P Q more is = more is
 
 -- as a phase begins, it is sent, nothing is answered, and the operation is left open
-phase_carried : (layout : Layout) (me : BrickId) (c d : Coordinator) (note : Option Note)
-    → phase_packets (coding layout) me d ≡ packets_in layout me c (begins_in note d)
-phase_carried layout me c d None = refl
-phase_carried layout me c d (Some note) = refl
+phase_carried : (layout : Layout) (me : BrickId) (c d : Coordinator) (news : News)
+    → phase_packets (coding layout) me d ≡ packets_in layout me c (begins_in news d)
+phase_carried layout me c d News.Nothing = refl
+phase_carried layout me c d News.Made = refl
+phase_carried layout me c d (News.Seen version) = refl
+phase_carried layout me c d News.Stored = refl
 
-none_answered : (seq : ℕ) (d : Coordinator) (note : Option Note) → [] ≡ answers_in seq (begins_in note d)
-none_answered seq d None = refl
-none_answered seq d (Some note) = refl
+none_answered : (seq : ℕ) (d : Coordinator) (news : News) → [] ≡ answers_in seq (begins_in news d)
+none_answered seq d News.Nothing = refl
+none_answered seq d News.Made = refl
+none_answered seq d (News.Seen version) = refl
+none_answered seq d News.Stored = refl
 
-phase_left : (d : Coordinator) (note : Option Note) → left_by (begins_in note d) ≡ Some d
-phase_left d None = refl
-phase_left d (Some note) = refl
+phase_left : (d : Coordinator) (news : News) → left_by (begins_in news d) ≡ Some d
+phase_left d News.Nothing = refl
+phase_left d News.Made = refl
+phase_left d (News.Seen version) = refl
+phase_left d News.Stored = refl
 
 module _ (layout : Layout) (before after : Operation) (block : (shown_of after).block ≡ (shown_of before).block) where
   -- an operation that waits sends and tells nothing
@@ -94,18 +100,18 @@ module _ (layout : Layout) (before after : Operation) (block : (shown_of after).
   -- one that begins a phase sends and tells that
   pub begins_out : (known later : ℕ) (messages : List (BrickId × Message)) → SendsPhase layout after messages
       → (coordinator_of after).call ≡ next_phase (coordinator_of before).call
-      → (let next = begins_in (shown_of after).note (coordinator_of after) in later ≡ known_by known next
+      → (let next = begins_in (shown_of after).news (coordinator_of after) in later ≡ known_by known next
       → CarriesOut layout before after known later next (record { messages = messages; told = told_in (coordinator_of after).call.seq next; answers = [] }))
   begins_out known later messages sends call knows =
       let c = coordinator_of before in
       let d = coordinator_of after in
-      let note = (shown_of after).note in
+      let news = (shown_of after).news in
       record {
-        packets = λ me. sends me ∙ phase_carried layout me c d note;
-        told = ap (λ (call : Call). told_in call.seq (begins_in note d)) call;
-        answers = none_answered c.call.seq d note;
+        packets = λ me. sends me ∙ phase_carried layout me c d news;
+        told = ap (λ (call : Call). told_in call.seq (begins_in news d)) call;
+        answers = none_answered c.call.seq d news;
         knows = knows;
-        left = phase_left d note;
+        left = phase_left d news;
         keeps = ap (λ (call : Call). call.seq) call;
         block = block;
       }

@@ -3,7 +3,6 @@ use Rattle.std.specs.Prelude.{◌≡◌, ℕ, max, List, [], ◌∷◌, Option, 
 use Rattle.std.specs.Option.{option_map}
 use Rattle.fab_base.specs.declared.identities.BrickId.{BrickId}
 use Rattle.fab_base.specs.declared.stamps.Stamp.{Stamp}
-use Rattle.fab_base.specs.declared.notes.Note.{Note}
 use Rattle.messages.specs.declared.packets.Message.{Message}
 use Rattle.messages.specs.declared.packets.Packet.{Packet}
 use Rattle.messages.specs.declared.turns.Next.{Next}
@@ -27,12 +26,6 @@ messages_in (Send messages) = messages.items
 messages_in Wait = []
 messages_in (End answer) = []
 messages_in (Recover turn) = []
-
--- the stamp and the base of the version that a note tells as made
-abbrev pub made_in : Option Note → Option (Stamp × Option Stamp)
-made_in None = None
-made_in (Some (Note.Made call stamp base content)) = Some (stamp, base)
-made_in (Some (Note.Seen call stamp)) = None
 
 -- where a coordinator leaves a reply out, it waits as it was
 abbrev pub or_waits : Coordinator → machine.Next → machine.Next

@@ -9,9 +9,10 @@ ghost use Rattle.node.specs.Decisions.{messages_in};
 use crate::outs::Outs;
 use crate::sending::put_collects;
 use coord_block::BlockOp;
+use coord_phase::{News, Stage};
 use coord_recover::Recovery;
 use coord_stripe::StripeOp;
-use fab_base::{Answer, Ask, BrickId, CallId, NoMem, Note, Op, Stamp, View, ViewNo};
+use fab_base::{Answer, Ask, BrickId, CallId, NoMem, Op, Stamp, View, ViewNo};
 use layout::{Group, Layout};
 use messages::{Call, Message, Messages, Next};
 use protocol::{Answered, Told};
@@ -54,17 +55,17 @@ pub enum Operation {
 }
 
 impl Operation {
-    ghost use Rattle.std.specs.Prelude.{◌≡◌, ◌≤◌, true, IfOk, OnErr, [], ◌∷◌, length, vec_len, vec_capacity, option_copied};
+    ghost use Rattle.std.specs.Prelude.{◌≡◌, ◌≤◌, true, IfOk, OnErr, [], ◌∷◌, length, vec_len, vec_capacity};
     ghost use Rattle.quorum.specs.Quorums.{IsWithinLimits};
     ghost use Rattle.fab_base.specs.Layouts.{Layout};
     ghost use Rattle.protocol.specs.Nodes.{has_block, has_length, seen_told};
-    ghost use Rattle.coord_phase.specs.Operations.{group_in_view, first_op, is_storing};
+    ghost use Rattle.coord_phase.specs.Operations.{group_in_view, first_op, is_storing, seen_in, stored_in};
     ghost use Rattle.coord_phase.specs.Decisions as decisions;
-    ghost use Rattle.coord_phase.specs.Decisions.{Answers, AsksRecovery, NeverRecovers, IsSend, decided_on, begins_in, seen_in, note_told};
+    ghost use Rattle.coord_phase.specs.Decisions.{Answers, AsksRecovery, NeverRecovers, IsSend, decided_on, begins_in};
     ghost use Rattle.coord_phase.specs.Messages.{phase_messages};
     ghost use Rattle.node.specs.declared.operations.Operation.TheVariants as variant;
     ghost use Rattle.node.specs.Operations.{shown_of, coordinator_of, IsOperationOf};
-    ghost use Rattle.node.specs.Decisions.{made_in, told_in, or_waits, known_by, SendsPhase, CarriesOut, Collects};
+    ghost use Rattle.node.specs.Decisions.{told_in, or_waits, known_by, SendsPhase, CarriesOut, Collects};
     ghost use Rattle.node.specs.Sending.{collect_messages};
 
     /// The operation, as the coordinators of all kinds share it.
@@ -85,38 +86,11 @@ impl Operation {
         self.shown().stage().call
     }
 
-    /// The operation's stamp.
-    pub fn stamp(&self) -> Stamp
-        ensures { result ≡ (coordinator_of self.now).stamp }
-    {
-        self.shown().stage().stamp
-    }
-
-    /// The group, with the members that are asked.
+    /// The group whose members the present phase asks.
     pub fn group(&self) -> &Group
         ensures { result.now ≡ (coordinator_of self.now).group }
     {
-        self.shown().group()
-    }
-
-    /// The stamp and the base of the version that the last message let the operation make, if it did.
-    fn version(&self) -> Option<(Stamp, Option<Stamp>)>
-        ensures { result ≡ made_in (shown_of self.now).note }
-    {
-        match self.shown().note() {
-            Some(Note::Made { stamp, base, .. }) => Some((*stamp, *base)),
-            Some(Note::Seen { .. }) | None => None,
-        }
-    }
-
-    /// The version that a read answered at once, if the last message let it.
-    fn seen(&self) -> Option<Stamp>
-        ensures { result ≡ seen_in (shown_of self.now).note }
-    {
-        match self.shown().note() {
-            Some(Note::Seen { stamp, .. }) => Some(*stamp),
-            Some(Note::Made { .. }) | None => None,
-        }
+        self.shown().asked()
     }
 
     /// Begins an operation on a stripe of a group, or on a block of it, in this view.
@@ -176,8 +150,7 @@ impl Operation {
     {
         // There is at most a message for each member, and these are few.
         let _ = self.member_count();
-        let next = self.shown().on_tick(alloc)?;
-        Ok(messages_in(alloc, next))
+        self.shown().messages(alloc)
     }
 
     /// How many members are asked, at most 32.
@@ -247,7 +220,7 @@ impl Operation {
         ensures block { OnErr result ((shown_of self.new).block ≡ (shown_of self.old).block) }
     {
         match self.hear(from, message, fresh)? {
-            Next::Recover(turn) => match Recovery::follow(alloc, self.shown(), turn) {
+            Next::Recover(turn) => match coord_recover::follow(alloc, self.shown(), turn) {
                 Ok((recovery, next)) => {
                     self.become_recovery(recovery);
                     Ok(next)
@@ -270,24 +243,30 @@ impl Operation {
 
     /// What is sent and told as a phase begins: the version, where the operation makes it. The stamp of a new round is known from now on.
     fn begin_phase(&self, messages: Messages, stamps: &mut StampSource) -> Outs
-        requires { (shown_of self.now).note ≡ note_told (coordinator_of self.now).call (begins_in (shown_of self.now).note (coordinator_of self.now)) }
         ensures outs { result ≡ record {
           messages = messages.items;
-          told = told_in (coordinator_of self.now).call.seq (begins_in (shown_of self.now).note (coordinator_of self.now));
+          told = told_in (coordinator_of self.now).call.seq (begins_in (shown_of self.now).news (coordinator_of self.now));
           answers = [];
         } }
-        ensures known { stamps.new.known ≡ known_by stamps.old.known (begins_in (shown_of self.now).note (coordinator_of self.now)) }
+        ensures known { stamps.new.known ≡ known_by stamps.old.known (begins_in (shown_of self.now).news (coordinator_of self.now)) }
         ensures boot { stamps.new.boot ≡ stamps.old.boot }
     {
-        let Some((stamp, base)) = self.version() else {
-            stamps.saw(self.stamp());
-            return Outs::sending(messages);
-        };
-        let seq = self.call().seq;
-        Outs {
-            messages,
-            told: Some(Told::Made { seq, stamp, base }),
-            answer: None,
+        let op = self.shown();
+        let Stage { stamp, call, .. } = op.stage();
+        match op.news() {
+            News::Made => Outs {
+                messages,
+                told: Some(Told::Made {
+                    seq: call.seq,
+                    stamp,
+                    base: op.base(),
+                }),
+                answer: None,
+            },
+            News::Nothing | News::Seen(_) | News::Stored => {
+                stamps.saw(stamp);
+                Outs::sending(messages)
+            }
         }
     }
 
@@ -295,15 +274,15 @@ impl Operation {
     /// stored.
     fn end(&self, room: Messages, call: Call, answer: Answer) -> Outs
         requires empty { room.items ≡ [] }
-        requires room { Collects (shown_of self.now).made (length (coordinator_of self.now).group.members ≤ vec_capacity room) }
+        requires room { Collects (stored_in (shown_of self.now).news (coordinator_of self.now).stamp) (length (coordinator_of self.now).group.members ≤ vec_capacity room) }
         ensures { result ≡ record {
-          messages = collect_messages call (shown_of self.now).made (coordinator_of self.now).group.members;
-          told = seen_told call.seq (seen_in (shown_of self.now).note);
+          messages = collect_messages call (stored_in (shown_of self.now).news (coordinator_of self.now).stamp) (coordinator_of self.now).group.members;
+          told = seen_told call.seq (seen_in (shown_of self.now).news);
           answers = record { seq = call.seq; answer = answer } ∷ [];
         } }
     {
         let seq = call.seq;
-        let told = match self.seen() {
+        let told = match self.shown().seen() {
             Some(stamp) => Some(Told::Seen { seq, stamp }),
             None => None,
         };

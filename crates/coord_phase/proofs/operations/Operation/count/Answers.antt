@@ -1,5 +1,5 @@
 -- The replies with one more are replies of the phase.
-use Rattle.std.proofs.Common.{◌≡◌, ◌≤◌, ℕ, sym, ◌∙◌, subst, Some, arith}
+use Rattle.std.proofs.Common.{◌≡◌, sym, ◌∙◌, subst, Some, arith}
 use Rattle.fab_base.proofs.Seats.{seat_within}
 use Rattle.protocol.specs.Coordinators.{counts_at}
 use Rattle.protocol.proofs.CountsAt.{counts_facts}
@@ -12,7 +12,7 @@ push-requires-clause-within c =
     let told = subst (λ (op : Operation). counts_at op.block op.state c.args.from.0 c.in-Reply.call c.in-Reply.reply ≡ Some c.in-Some.seat)
     (sym c.self.view_is) (sym c.in-Some.ensures.seat) in
     let facts = counts_facts _ _ c.args.from.0 c.in-Reply.call c.in-Reply.reply c.in-Some.seat told in
-    omega (arith, c.self.invariant.1.n, seat_within c.self.inside.group c.args.from.0 c.in-Some.seat facts.seat_is)
+    omega (arith, c.self.invariant.1, seat_within c.self.inside.group c.args.from.0 c.in-Some.seat facts.seat_is)
 
 pub push-requires-clause-first : goal.push-requires-clause-first
 push-requires-clause-first c =
@@ -27,9 +27,5 @@ invariant_of-self-2 c =
     let pushed = c.in_ok-push.ensures.counted in
     let copied = c.in_ok-copy.ensures in (
       rw pushed (rw copied (one_more_reply _ _ c.args.from c.in-Reply.call c.in-Reply.reply c.in-Some.seat c.self.invariant.0 told)),
-      record {
-        n = c.in_ok-push.ensures.n ∙ c.self.invariant.1.n;
-        q = c.in_ok-push.ensures.q ∙ c.self.invariant.1.q;
-        enough = subst (λ (q : ℕ). c.self.inside.group.m ≤ q) (sym c.in_ok-push.ensures.q) c.self.invariant.1.enough;
-      },
+      c.in_ok-push.ensures.n ∙ c.self.invariant.1,
     )

@@ -25,7 +25,7 @@ pub returns-in-Ok-clause-answers : goal.returns-in-Ok-clause-answers
 returns-in-Ok-clause-answers g c =
     answers_decided c.args.fresh c.args.self.now c.args.from c.args.message.now c.count.new.self c.decide.new.op c.in-Ok.next c.is_full.result
     c.in_ok-count.ensures.heard (sym c.in_ok-count.ensures.counted ∙ c.if-not-branch.false) c.is_full.ensures.full c.if-not-is_full.false
-    c.in-Ok.ensures.next c.in-Ok.ensures.sent c.in-Ok.ensures.told c.in-Ok.ensures.stays
+    c.in-Ok.ensures.next c.in-Ok.ensures.sent c.in-Ok.ensures.stays
 
 pub returns-in-Ok-clause-recovery : goal.returns-in-Ok-clause-recovery
 returns-in-Ok-clause-recovery g c =

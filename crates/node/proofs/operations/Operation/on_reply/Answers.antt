@@ -3,13 +3,13 @@ use Rattle.std.proofs.Common.{◌≡◌, ◌≤◌, true, length, vec_capacity, 
 use Rattle.messages.specs.declared.turns.Next.TheVariants.{Wait, Send, End}
 use Rattle.fab_base.specs.Layouts.{Group}
 use Rattle.protocol.specs.Coordinators as machine
-use Rattle.coord_phase.specs.Operations.{is_storing}
-use Rattle.coord_phase.specs.Decisions.{begins_in, seen_in}
+use Rattle.coord_phase.specs.Operations.{is_storing, seen_in, stored_in}
+use Rattle.coord_phase.specs.Decisions.{begins_in}
 use Rattle.coord_phase.specs.Messages.{packets_from}
 use Rattle.node.specs.Operations.{shown_of, coordinator_of}
 use Rattle.node.specs.Outcomes.{Outcome}
 use Rattle.node.specs.Decisions.{or_waits, CarriesOut}
-use Rattle.node.proofs.Answered.{answers_as, waits_so, or_waits-begins, decided_if_busy, follows_if_busy, begins_so, begun_note}
+use Rattle.node.proofs.Answered.{answers_as, waits_so, or_waits-begins, decided_if_busy, follows_if_busy, begins_so}
 use Rattle.node.proofs.Resending.{phase_sent, few_again}
 use Rattle.node.proofs.GoingOn.{waits_out, begins_out, ends_out, few_collects, collects_more}
 use Rattle.node.proofs.operations.Operation.on_reply.Goals as goal
@@ -26,31 +26,24 @@ returns-in-Wait-clause-step c = λ layout of.
     (subst (λ (outs : Outcome). CarriesOut layout before after known known (machine.Waits (coordinator_of after)) outs) (sym c.nothing.ensures)
     (waits_out layout before after is.stays.block known waits.1))
 
-pub begin_phase-requires : goal.begin_phase-requires
-begin_phase-requires c =
-    begun_note c.args.fresh (shown_of c.args.self.now) c.args.from c.args.message.now (Send c.in-Send.messages) (shown_of c.take_reply.new.self)
-    (λ wrong. wrong)
-    (answers_as c.args.fresh (shown_of c.args.self.now) c.args.from c.args.message.now _ (Send c.in-Send.messages) (shown_of c.take_reply.new.self)
-    c.in-Send.is c.in_ok-take_reply.ensures.answers) refl
-
 pub returns-in-Send-clause-step : goal.returns-in-Send-clause-step
 returns-in-Send-clause-step c = λ layout of.
     let before = c.args.self.now in
     let after = c.take_reply.new.self in
     let was = coordinator_of before in
     let d = coordinator_of after in
-    let note = (shown_of after).note in
+    let news = (shown_of after).news in
     let known = c.args.stamps.now.known in
     let later = c.begin_phase.new.stamps.known in
     let is = answers_as c.args.fresh (shown_of c.args.self.now) c.args.from c.args.message.now _ (Send c.in-Send.messages) (shown_of c.take_reply.new.self)
     c.in-Send.is c.in_ok-take_reply.ensures.answers in
-    let begins = begins_so note was d
+    let begins = begins_so news was d
     (follows_if_busy c.args.fresh (shown_of before) c.args.from c.args.message.now (Send c.in-Send.messages) (shown_of after) (λ wrong. wrong) is) in
-    let decided = sym (or_waits-begins was d note)
+    let decided = sym (or_waits-begins was d news)
     ∙ ap (or_waits was) (sym (decided_if_busy c.args.fresh (shown_of before) c.args.from c.args.message.now (Send c.in-Send.messages) (shown_of after)
     (λ wrong. wrong) is)) in
     subst (λ (next : machine.Next). CarriesOut layout before after known later next c.begin_phase.result) decided
-    (subst (λ (outs : Outcome). CarriesOut layout before after known later (begins_in note d) outs) (sym c.begin_phase.ensures.outs)
+    (subst (λ (outs : Outcome). CarriesOut layout before after known later (begins_in news d) outs) (sym c.begin_phase.ensures.outs)
     (begins_out layout before after is.stays.block known later c.in-Send.messages.items
     (λ me. ap (packets_from me) is.sent ∙ phase_sent layout (shown_of after) me (is.stays.block ∙ of) begins.counted) begins.call
     c.begin_phase.ensures.known))
@@ -71,7 +64,7 @@ end-requires-clause-room c =
     let is = answers_as c.args.fresh (shown_of c.args.self.now) c.args.from c.args.message.now _ (End c.in-End.answer) (shown_of c.take_reply.new.self)
     c.in-End.is c.in_ok-take_reply.ensures.answers in
     let stored = follows_if_busy c.args.fresh before c.args.from c.args.message.now (End c.in-End.answer) after (λ wrong. wrong) is in
-    collects_more after.made (is_storing before.state.phase ≡ true) (length after.state.group.members ≤ vec_capacity c.in_ok-room.room)
+    collects_more (stored_in after.news after.state.stamp) (is_storing before.state.phase ≡ true) (length after.state.group.members ≤ vec_capacity c.in_ok-room.room)
     (λ stores. subst (λ (group : Group). length group.members ≤ vec_capacity c.in_ok-room.room) (sym is.stays.group) (c.in_ok-room.ensures.room stores)) stored
 
 pub returns-in-End-clause-step : goal.returns-in-End-clause-step
@@ -81,8 +74,8 @@ returns-in-End-clause-step c = λ layout of.
     let known = c.args.stamps.now.known in
     let is = answers_as c.args.fresh (shown_of c.args.self.now) c.args.from c.args.message.now _ (End c.in-End.answer) (shown_of c.take_reply.new.self)
     c.in-End.is c.in_ok-take_reply.ensures.answers in
-    let seen = seen_in (shown_of after).note in
-    let stored = (shown_of after).made in
+    let seen = seen_in (shown_of after).news in
+    let stored = stored_in (shown_of after).news (coordinator_of after).stamp in
     let decided = ap (or_waits (coordinator_of before)) (sym (decided_if_busy c.args.fresh (shown_of before) c.args.from c.args.message.now
     (End c.in-End.answer) (shown_of after) (λ wrong. wrong) is)) in
     subst (λ (next : machine.Next). CarriesOut layout before after known known next c.end.result) decided
@@ -96,5 +89,5 @@ returns-in-End-clause-few c =
     c.in-End.is c.in_ok-take_reply.ensures.answers in
     let same = ap (λ (group : Group). length group.members) is.stays.group in
     let sent = ap (λ (outs : Outcome). length outs.messages) c.end.ensures in
-    let few = few_collects c.call-call.result (shown_of after).made (coordinator_of after).group.members in
+    let few = few_collects c.call-call.result (stored_in (shown_of after).news (coordinator_of after).stamp) (coordinator_of after).group.members in
     omega (arith, c.room_to_collect.ensures.few, same)

@@ -1,21 +1,14 @@
--- The messages are those of the phase, at most one for each member.
-use Rattle.std.proofs.Common.{◌∙◌, subst, arith}
-use Rattle.coord_phase.specs.Operations as phased
-use Rattle.coord_phase.specs.Decisions as decisions
+-- There is at most a message for each member.
+use Rattle.std.proofs.Common.{◌≡◌, ◌≤◌, length, ◌∙◌, ap, arith}
+use Rattle.std.proofs.lemmas.Result.{IfOk-weaker}
+use Rattle.coord_phase.specs.Messages.{phase_messages}
 use Rattle.node.specs.Operations.{shown_of}
-use Rattle.node.proofs.GoingOn.{sent_so}
 use Rattle.node.proofs.Resending.{few_again}
 use Rattle.node.proofs.operations.Operation.on_tick.Goals as goal
 
-pub returns-clause-messages : goal.returns-clause-messages
-returns-clause-messages c =
-    let next = c.in_ok-next.next in
-    c.messages_in.ensures
-    ∙ sent_so (shown_of c.args.self.now) next c.in_ok-next.ensures.send
-    (subst (λ (op : phased.Operation). decisions.SendsPhase op next) c.shown.ensures c.in_ok-next.ensures.sent)
-
 pub returns-clause-few : goal.returns-clause-few
 returns-clause-few c =
-    let few = few_again (shown_of c.args.self.now) c.messages_in.result.items (returns-clause-messages c)
-    (omega (arith, c.member_count.ensures.value, c.member_count.ensures.few)) in
-    omega arith
+    let op = shown_of c.args.self.now in
+    let small : length op.state.group.members ≤ 32 = omega (arith, c.member_count.ensures.value, c.member_count.ensures.few) in
+    IfOk-weaker c.messages.result (λ again. again.items ≡ phase_messages c.shown.result.now) _
+    (λ again sent. let few = few_again op again.items (sent ∙ ap phase_messages c.shown.ensures) small in omega (arith, few)) c.messages.ensures

@@ -1,6 +1,0 @@
--- What was copied so far.
-use Rattle.std.proofs.Common.{◌≡◌, take}
-use Rattle.coord_phase.proofs.replies.copy_counted.Given as goal
-
-abbrev pub invariant-loop-reply : goal.invariant-loop-reply
-invariant-loop-reply l = l.made.items ≡ take l.reply-index l.counted
