@@ -1,0 +1,6 @@
+pub mod Promises
+pub mod Sending
+pub mod ShortLists
+pub mod Replies
+pub mod Deciding
+pub mod Ends
