@@ -1,6 +1,6 @@
 -- The acceptor's side of the choice of a view's successor: single-decree Paxos (Lamport, "Paxos Made Simple", ACM SIGACT News 2001), one instance for each view.
 -- A member of the view promises to ballots, and accepts lists of members under them.
-use Rattle.std.specs.Prelude.{◌≡◌, ℕ, true, is_some, nat_lt, if◌then◌else◌, List, Option, Some, None, unwrap_or}
+use Rattle.std.specs.Prelude.{◌≡◌, ℕ, true, false, is_some, nat_lt, if◌then◌else◌, List, Option, Some, None, unwrap_or}
 use Rattle.std.specs.Option.{option_map}
 use Rattle.fab_base.specs.declared.identities.BrickId.{BrickId}
 use Rattle.fab_base.specs.declared.stamps.Ballot.{Ballot}
@@ -80,12 +80,12 @@ IsVote before ballot members after =
     (n q seat : ℕ) (synod : Synod (List BrickId)) → Agrees n q synod → Keeps synod seat before → synod.proposals ballot ≡ Some members
     → Keeps (with_acceptance synod seat ballot members) seat after × Agrees n q (with_acceptance synod seat ballot members)
 
--- a vote that promises is a promise of the Synod
+-- a vote that promises is a promise of the Synod, to a ballot that is not below the one promised to
 abbrev pub PromisesTruly : Vote → Kept (List BrickId) → Ballot → Kept (List BrickId) → Type 0
-PromisesTruly (Vote.Promise told) before ballot after = IsPromise before ballot told after
+PromisesTruly (Vote.Promise told) before ballot after = (is_promised_above before ballot ≡ false) × IsPromise before ballot told after
 PromisesTruly vote before ballot after = Unit {0}
 
--- a vote that accepts is a vote of the Synod, under no lesser ballot than was promised to
+-- a vote that accepts is a vote of the Synod, under a ballot that is not below the one promised to
 abbrev pub AcceptsTruly : Vote → Kept (List BrickId) → Ballot → List BrickId → Kept (List BrickId) → Type 0
-AcceptsTruly Vote.Accepted before ballot members after = IsVote before ballot members after
+AcceptsTruly Vote.Accepted before ballot members after = (is_promised_above before ballot ≡ false) × IsVote before ballot members after
 AcceptsTruly vote before ballot members after = Unit {0}

@@ -211,6 +211,7 @@ decided p = unless_refused p (refused_by p.counted)
 abbrev pub once_voted : Proposal → Voting
 once_voted p = if nat_lt (length p.counted) (ballot_quorum p) then Waited p else decided p
 
+-- what a proposal does with a brick's reply, by the seat at which that counts
 abbrev pub voted_at : Proposal → BrickId → Reply → Option ℕ → Voting
 voted_at p from reply None = Ignored
 voted_at p from reply (Some seat) = once_voted (with_vote p seat from reply)

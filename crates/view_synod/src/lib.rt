@@ -17,7 +17,7 @@ pub mod votes;
 
 pub use acceptors::Acceptor;
 pub use answers::{ViewAnswer, ViewNext};
-pub use lists::is_list;
+pub use lists::{is_list, lists_have_quorums};
 pub use proposals::Proposal;
 pub use proposers::Proposer;
 pub use rounds::Rounds;

@@ -2,7 +2,7 @@
 
 ghost use Rattle.std.specs.Prelude.{◌≡◌, nat_lt};
 ghost use Rattle.std.specs.List.{list_all};
-ghost use Rattle.view_synod.specs.Lists.{stands_in, are_distinct, is_list};
+ghost use Rattle.view_synod.specs.Lists.{stands_in, are_distinct, is_list, ListsHaveQuorums};
 
 use fab_base::BrickId;
 
@@ -42,3 +42,8 @@ pub fn is_list(m: u8, bricks: u16, members: &[BrickId]) -> bool
     }
     are_distinct(members) && are_of_disk(bricks, members)
 }
+
+/// A list that may keep a group is within the limits of a quorum. The call does nothing: its contract is the law.
+pub fn lists_have_quorums()
+    ensures { ListsHaveQuorums }
+{}

@@ -9,4 +9,5 @@ returns-in-None-clause-never_falls c =
 
 pub returns-in-None-clause-truly : goal.returns-in-None-clause-truly
 returns-in-None-clause-truly c =
-    vote_is_true c.args.self.now.kept c.args.ballot c.args.members (not_refused c.args.self.now c.args.ballot (sym c.in-None.ensures))
+    let free = not_refused c.args.self.now c.args.ballot (sym c.in-None.ensures) in
+    (free, vote_is_true c.args.self.now.kept c.args.ballot c.args.members free)
