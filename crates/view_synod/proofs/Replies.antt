@@ -19,6 +19,7 @@ pub record VotesAt (bricks : ℕ) (p : Proposal) (from : ℕ) (reply : Reply) (s
   pub answers : answers_ballot p.m bricks p.asks reply ≡ true
   pub first : has_seat seat p.counted ≡ false
 
+-- a seat that is new is the one that was given, and has no reply
 new_seat_is : (counted : List Counted) (o : Option ℕ) (seat : ℕ) → new_seat counted o ≡ Some seat → (o ≡ Some seat) × (has_seat seat counted ≡ false)
 new_seat_is counted None seat is = cc
 new_seat_is counted (Some s) seat is =
@@ -28,6 +29,7 @@ new_seat_is counted (Some s) seat is =
     (λ isnt e. let same : s ≡ seat = cc in (e, subst (λ (z : ℕ). has_seat z counted ≡ false) same isnt))
     is
 
+-- a seat whose reply answers is the one that was given
 voting_seat_is : (bricks : ℕ) (p : Proposal) (reply : Reply) (o : Option ℕ) (seat : ℕ) → voting_seat bricks p reply o ≡ Some seat
     → (o ≡ Some seat) × (answers_ballot p.m bricks p.asks reply ≡ true)
 voting_seat_is bricks p reply None seat is = cc
@@ -84,6 +86,8 @@ one_more bricks p from call reply seat is counts =
     record {
       limits = is.limits;
       number = is.number;
+      own = is.own;
+      asked = is.asked;
       phase = is.phase;
       seats = all_more _ p.counted x is.seats
           (lt-ltb seat (length p.view.members) (seat_within (record { members = p.view.members; m = p.m; stripes = 0 }) from.0 seat facts.seat_is));

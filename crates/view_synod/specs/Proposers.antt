@@ -27,11 +27,18 @@ abbrev pub are_apart : List Counted → Bool
 are_apart [] = true
 are_apart (c ∷ counted) = not (has_seat c.seat counted) && are_apart counted
 
--- What is true of a proposal all along: the members of its view are within the limits of a quorum, and the successor has a number; while it prepares it is in its
--- first phase; and each reply that counts is of a seat of the view, answers the phase, and is its seat's only one.
+-- the list that it asks for, if it asks for one, may keep the group
+abbrev pub may_be_asked : ℕ → ℕ → Option (List BrickId) → Bool
+may_be_asked m bricks None = true
+may_be_asked m bricks (Some members) = is_list m bricks members
+
+-- What is true of a proposal all along: the members of its view are within the limits of a quorum, and the successor has a number; its list, and the one that it
+-- asks for, may keep the group; while it prepares it is in its first phase; and each reply that counts is of a seat of the view, answers the phase, and is its seat's only one.
 pub record IsUnderWay (bricks : ℕ) (p : Proposal) : Type 0 where
   pub limits : IsWithinLimits p.m (length p.view.members)
   pub number : p.view.number.0 < 2 ^ 32 - 1
+  pub own : is_list p.m bricks p.own ≡ true
+  pub asked : may_be_asked p.m bricks p.asks ≡ true
   pub phase : p.asks ≡ None → p.call.phase ≡ 1
   pub seats : list_all (λ c. nat_lt c.seat (length p.view.members)) p.counted ≡ true
   pub answers : list_all (λ c. answers_ballot p.m bricks p.asks c.reply) p.counted ≡ true

@@ -20,7 +20,7 @@ fn is_same_call(left: Call, right: Call) -> bool
 }
 
 impl Proposal {
-    ghost use Rattle.std.specs.Prelude.{◌≡◌, ◌<◌, ◌≤◌, [], not, nat_lt, None, Some, IfSome, IfOk, OnOk, OnErr, length, vec_capacity};
+    ghost use Rattle.std.specs.Prelude.{◌≡◌, ◌<◌, ◌≤◌, [], not, nat_lt, true, None, Some, IfSome, IfOk, OnOk, OnErr, length, vec_capacity};
     ghost use Rattle.fab_base.specs.Layouts.{seat_in};
     ghost use Rattle.synod_laws.specs.Synods.{value_or};
     ghost use Rattle.view_synod.specs.Lists.{is_list};
@@ -116,15 +116,23 @@ impl Proposal {
         self.counted.len() >= usize::from(self.policy.q())
     }
 
-    /// Begins to ask the members to accept a list: that of the greatest ballot that the promises tell, or the proposal's own if they tell none.
+    /// The list to ask for once a quorum has promised: that of the greatest ballot that the promises tell, or the proposal's own if they tell none.
+    fn chosen(&self) -> Members
+        ensures value { result ≡ value_or self.now.state.own (greatest_choice self.now.state.counted) }
+        ensures may_keep { is_list self.now.state.m self.now.bricks result ≡ true }
+    {
+        match greatest_choice(self.counted.as_slice()) {
+            Some((_, members)) => members,
+            None => self.own.copy(),
+        }
+    }
+
+    /// Begins to ask the members to accept a list.
     fn ask(&mut self)
         requires { self.old.state.asks ≡ None }
         ensures { self.new ≡ with_state self.old (asking self.old.state (value_or self.old.state.own (greatest_choice self.old.state.counted))) }
     {
-        let members = match greatest_choice(self.counted.as_slice()) {
-            Some((_, members)) => members,
-            None => self.own.copy(),
-        };
+        let members = self.chosen();
         self.asks = Some(members);
         self.call.phase += 1;
         self.counted.clear();

@@ -1,6 +1,6 @@
 //! The proposer of a view's successor.
 
-ghost use Rattle.std.specs.Prelude.{◌≡◌, if◌then◌else◌, Some, None, IfOk};
+ghost use Rattle.std.specs.Prelude.{◌≡◌, if◌then◌else◌, Some, None, true, IfOk, IfSome};
 ghost use Rattle.view_synod.specs.Lists.{is_list};
 
 use crate::answers::{ViewAnswer, ViewNext};
@@ -32,7 +32,8 @@ impl Model for Proposer {
 /// These members, where they may keep a group of `m` data blocks on a disk of `bricks` bricks.
 #[tactic(auto, using(crate::proofs::ShortLists::list_is_short))]
 fn list_of(m: u8, bricks: u16, members: &[BrickId]) -> Option<Members>
-    ensures { result ≡ (if is_list m bricks members.now then Some members.now else None) }
+    ensures value { result ≡ (if is_list m bricks members.now then Some members.now else None) }
+    ensures may_keep { IfSome result (λ list. is_list m bricks list ≡ true) }
 {
     if !is_list(m, bricks, members) {
         return None;
