@@ -1,0 +1,7 @@
+pub mod Promises
+pub mod Sending
+pub mod ShortLists
+pub mod Replies
+pub mod TheChoices
+pub mod Deciding
+pub mod Ends

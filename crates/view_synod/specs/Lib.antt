@@ -1,0 +1,6 @@
+pub mod Lists
+pub mod Acceptors
+pub mod Proposals
+pub mod Proposers
+pub mod Evidence
+pub mod Rounds
