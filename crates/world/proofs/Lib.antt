@@ -18,9 +18,10 @@ pub mod DeliveryLemmas
 pub mod CallNumbers
 pub mod CallSteps
 pub mod TimeLemmas
-pub mod Firsts
 pub mod LedgerLemmas
 pub mod LedgerLists
+pub mod Chains
+pub mod ChainWalks
 pub mod Numberless
 pub mod CalmLemmas
 pub mod CalmRuns

@@ -187,7 +187,7 @@ impl World {
     pub fn sent(&self) -> &[Packet]
         ensures { result.now ≡ (world_of self.now).packets }
     {
-        self.simulation.history.sent.as_slice()
+        self.simulation.history.sent.packets.as_slice()
     }
 
     /// Whether the message of a number, from 1 as in a line `deliver K`, was delivered to a brick that was up, or in the midst of
