@@ -1,5 +1,5 @@
 -- What a ledger notes, event by event.
-use Rattle.std.proofs.Common.{◌≡◌, ◌≢◌, ℕ, zero, suc, ◌+◌, ◌<◌, ◌≤◌, Bool, true, false, not, cond, nat_eq, nat_lt, ◌&&◌, List, [], ◌∷◌, ◌++◌, length, get_or, length-append, append-nil, Option, Some, None, is_some, ⊎_elim, refl, sym, ap, ◌∙◌, subst, arith}
+use Rattle.std.proofs.Common.{◌≡◌, ◌≢◌, ℕ, zero, suc, ◌+◌, ◌<◌, ◌≤◌, Bool, true, false, not, cond, nat_eq, nat_lt, ◌&&◌, List, [], ◌∷◌, ◌++◌, length, get_or, length-append, Option, Some, None, is_some, ⊎_elim, refl, sym, ap, ◌∙◌, subst, arith}
 use Rattle.std.specs.Prelude.{slice_get}
 use Rattle.std.specs.Option.{option_map}
 use Rattle.std.proofs.lemmas.Bool.{cond_both, and_parts, eqb-true, eqb-false, eq-eqb}
@@ -14,7 +14,7 @@ use Rattle.protocol.specs.Coordinators.{Coordinator}
 use Rattle.protocol.specs.declared.tellings.Answered.{Answered}
 use Rattle.protocol.specs.declared.tellings.Told.{Told}
 use Rattle.protocol.specs.declared.tellings.Told.TheVariants.{Made, Seen}
-use Rattle.protocol.specs.Nodes.{Node, NodeStep, put, top_at, received, stopped, restarted, may_open, ticked, view_at}
+use Rattle.protocol.specs.Nodes.{Node, NodeStep, put, top_at, received, stopped, restarted, may_open, view_at}
 use Rattle.protocol.specs.Worlds.{World, Operation, Found, Before, After, Sets, Ticks, Stops, Starts, is_brick, is_up, may_start, number_of, world_began, world_told, world_tells, world_answered, world_answers, world_stepped, world_ticked, world_stopped, world_found, world_started, happens, packet_of, replies_with, reached_at, reached_during}
 use Rattle.protocol_laws.proofs.Books.{Books}
 use Rattle.world.specs.Ledgers.{Notes, NotesOrigin, EndsAs, EndsAt, ended_origin}
@@ -25,7 +25,7 @@ use Rattle.world.specs.declared.bricks.Power.{Power}
 use Rattle.world.specs.declared.bricks.Power.TheVariants.{Up, Down}
 use Rattle.world.specs.declared.ledgers.Ledger.{Ledger}
 use Rattle.world.specs.declared.ledgers.Origin.{Origin}
-use Rattle.world.proofs.CallNumbers.{NumbersSay, SameCall, SameCalls, same_calls, stepped_same}
+use Rattle.world.proofs.CallNumbers.{SameCall, SameCalls, same_calls, stepped_same}
 use Rattle.messages.specs.declared.packets.Packet.{Packet}
 use Rattle.world.proofs.CallSteps.{CallsAfter, received_calls}
 use Rattle.world.proofs.MachineSteps.{CallsAreNumbered, received_opens_none}

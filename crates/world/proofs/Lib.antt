@@ -3,6 +3,7 @@ pub mod DownLemmas
 pub mod FreshLemmas
 pub mod DiskLemmas
 pub mod EntryMaps
+pub mod StripeRanges
 pub mod HistoryLemmas
 pub mod KeptOperations
 pub mod MachineBegins

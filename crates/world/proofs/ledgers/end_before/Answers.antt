@@ -1,5 +1,5 @@
 -- The message is the operation's, and its link leads to the one before it.
-use Rattle.std.proofs.Common.{◌≡◌, Some, ap, sym, ◌∙◌}
+use Rattle.std.proofs.Common.{Some, ap, sym, ◌∙◌}
 use Rattle.std.proofs.lemmas.Option.{slice_get-get_or}
 use Rattle.world.proofs.ChainWalks.{of_call}
 use Rattle.world.proofs.ledgers.end_before.Goals as goal

@@ -1,12 +1,11 @@
 -- The first message that was not chained is, or memory was refused for it.
-use Rattle.std.proofs.Common.{◌≡◌, ◌+◌, ◌<◌, ◌++◌, [], ◌∷◌, ℕ, List, length, get_or, Some, None, Option, unwrap_or, sym, ap, ◌∙◌, subst, refl, arith}
-use Rattle.std.specs.Prelude.{slice_get, vec_len}
+use Rattle.std.proofs.Common.{◌≡◌, ◌+◌, ◌<◌, ◌++◌, [], ◌∷◌, ℕ, List, length, get_or, Some, Option, unwrap_or, sym, ap, ◌∙◌, subst, arith}
+use Rattle.std.specs.Prelude.{slice_get}
 use Rattle.std.specs.BTreeMap.{BTreeMap, is_at, Updates}
 use Rattle.std.specs.Map.{lookup}
-use Rattle.std.proofs.lemmas.Bool.Decides.{nat_tests}
 use Rattle.std.proofs.lemmas.Option.{slice_get-get_or}
 use Rattle.messages.specs.declared.packets.Packet.{Packet}
-use Rattle.world.specs.Sendings.{CallKey, IsChained, call_cmp, call_of, end_in}
+use Rattle.world.specs.Sendings.{CallKey, IsChained, call_cmp, call_of}
 use Rattle.world.proofs.Chains.{chained_call, chained_none, chained_same}
 use Rattle.world.proofs.sendings.Sendings.chain.Goals as goal
 use Rattle.world.proofs.sendings.Sendings.chain.Goals.{in-Some+in-Ok, in-None}

@@ -1,5 +1,5 @@
 -- The end of a call that is chained is behind all of its messages.
-use Rattle.std.proofs.Common.{◌≡◌, ℕ, ◌<◌, Option, unwrap_or, sym, ap, arith}
+use Rattle.std.proofs.Common.{◌≡◌, ℕ, ◌<◌, Option, unwrap_or, ap, arith}
 use Rattle.std.proofs.lemmas.Option.{slice_get_within}
 use Rattle.world.specs.Sendings.{end_in}
 use Rattle.world.proofs.sendings.Sendings.end_of.Goals as goal

@@ -1,11 +1,10 @@
 -- The brick begins, or refuses, as the machine's does.
-use Rattle.std.proofs.Common.{◌≡◌, ℕ, ◌+◌, ◌<◌, ◌^◌, Bool, false, List, [], ◌∷◌, ◌++◌, length, get_or, Vec, Some, arith, sym, ap, ◌∙◌, subst}
+use Rattle.std.proofs.Common.{◌≡◌, ℕ, ◌+◌, ◌<◌, ◌^◌, Bool, false, List, [], ◌∷◌, ◌++◌, get_or, Vec, Some, arith, sym, ap, ◌∙◌, subst}
 use Rattle.std.specs.Prelude.{Err}
 use Rattle.stripe_code.specs.Codes.{coding}
 use Rattle.node.specs.Faults.{RefusesAs}
 use Rattle.node.specs.declared.faults.NodeFault.{NodeFault}
 use Rattle.node.specs.declared.outs.Begun.{Begun}
-use Rattle.messages.specs.declared.packets.Packet.{Packet}
 use Rattle.protocol.specs.Settings.{Setting}
 use Rattle.protocol.specs.Nodes.{Node, NodeStep, invoked, refusal_of}
 use Rattle.protocol.specs.Worlds.{World}

@@ -1,7 +1,5 @@
 -- Each message that is left is delivered, and the operation ends, or none is left.
-use Rattle.std.proofs.Common.{◌≡◌, rules, arith, ◌+◌, ◌<◌, List, length, None, Some, ◌∙◌, subst}
-use Rattle.std.specs.Prelude.{max}
-use Rattle.std.proofs.lemmas.Bool.Decides.{nat_tests}
+use Rattle.std.proofs.Common.{rules, ◌+◌, ◌<◌, List, length, None, Some, subst}
 use Rattle.std.proofs.lemmas.Option.{slice_get_within}
 use Rattle.lines.specs.declared.forms.Line.TheVariants.{Deliver}
 use Rattle.messages.specs.declared.packets.Packet.{Packet}
