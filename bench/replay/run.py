@@ -1,7 +1,8 @@
 #!/usr/bin/env python3
 """How much processor time `replay run` takes a line, and how much memory.
 
-    bench/replay/run.py [PROGRAM] [--beside COMMAND].. [--lines N].. [--stops N] [--calms N] [--openings N] [--audits N] [--seconds S]
+    bench/replay/run.py [PROGRAM] [--beside COMMAND].. [--lines N].. [--stops N] [--calms N] [--late] [--openings N] [--audits N]
+                        [--seconds S]
 
 It makes schedules of 20,000, 100,000 and 1,000,000 lines (or of those that --lines names), runs the built program on each, and prints a
 row: the processor time of the run, user and system, divided by the number of lines, and the most memory that it held at one time.
@@ -18,6 +19,10 @@ With --stops a schedule is run in their place that stops a brick so many times a
 short at one of the calls of its disk, with one of three picks, and then it starts. Every start opens its store.
 
 With --calms a schedule of N writes is run in their place, each alone among all bricks, by a line `calm` of its own.
+
+With --late 180 operations begin in its place, and stay open while 40,000 writes run alone, one after another. Then a line `calm` has each of the 180
+run alone. A row gives what these 180 lines took together, as the difference to a run without them. And a layout of 64 groups of 65,536 stripes is run
+with ten lines, beside one of one group of 4: that row gives the difference between the two.
 
 With --openings a brick's store is filled and then opened N times, by stops and starts of that brick: once with 150,000 orders of 8
 stripes, and once with 150,000 writes that end. Each is run without the stops and starts too. A row gives what the starts alone took, divided by
@@ -62,6 +67,7 @@ READ_STEPS = [0, 1, 2, 4, 5, 6]
 
 FEW = "block = 1\nbricks = 3\nrecords = 1048576\n[[group]]\nm = 1\nmembers = [0, 1, 2]\nstripes = 8\n---\n"
 FILLED = 150_000
+LATE = 180
 
 
 def schedule(lines):
@@ -94,6 +100,21 @@ def calms(count):
     for number in range(count):
         rows += [f"writeall {number % 4} 0 {number % 64} {number % 256:02x}01", f"calm {number + 1} 0 1 2 3"]
     return LAYOUT.replace("block = 64", "block = 1") + "".join(row + "\n" for row in rows)
+
+
+def late():
+    """The input of 180 operations that stay open, of 40,000 writes that each run alone, and the lines that then have each of the 180 run alone."""
+    rows = [f"writeall {number % 3} 0 {number // 3} {number % 256:02x}" for number in range(LATE)]
+    for number in range(40_000):
+        rows += [f"writeall 3 0 {60 + number % 4} {number % 256:02x}", f"calm {LATE + number + 1} 0 1 2 3"]
+    layout = LAYOUT.replace("block = 64", "block = 1").replace("m = 2", "m = 1")
+    return layout + "".join(row + "\n" for row in rows), "".join(f"calm {number + 1} 0 1 2 3\n" for number in range(LATE))
+
+
+def wide(groups, stripes):
+    """The input of ten lines under a layout of so many groups of so many stripes."""
+    group = "[[group]]\nm = 1\nmembers = [0, 1, 2]\nstripes = {}\n".format(stripes)
+    return "block = 1\nbricks = 3\nrecords = 1024\n" + group * groups + "---\n" + "writeall 0 0 0 41\ncalm 1 0 1 2\n" + "tick 0\n" * 8
 
 
 def orders(count):
@@ -155,6 +176,30 @@ def run(command, given, printed, seconds):
     return None if ended else child.returncode, used.ru_utime + used.ru_stime, used.ru_maxrss
 
 
+def least(command, text, folder, asked):
+    """The least processor time of five runs of an input, and its status."""
+    given, printed = (pathlib.Path(folder, name) for name in ["given", "printed"])
+    given.write_text(text)
+    found = [run(command, given, printed, asked.seconds) for _ in range(5)]
+    return min(seconds for _, seconds, _ in found), found[0][0]
+
+
+def differences(asked):
+    """Runs schedules with and without what is to cost little, and prints a row for each."""
+    open_long, calm_lines = late()
+    pairs = [
+        (f"{LATE} lines calm of operations that were open long", open_long, open_long + calm_lines),
+        ("a layout of 64 groups of 65,536 stripes", wide(1, 4), wide(64, 65_536)),
+    ]
+    with tempfile.TemporaryDirectory() as folder:
+        for what, plain, more in pairs:
+            for command in [[asked.program, "run"]] + [words.split() for words in asked.beside]:
+                before, _ = least(command, plain, folder, asked)
+                after, status = least(command, more, folder, asked)
+                print(f"{1e3 * (after - before):9.1f} ms more  {before:6.3f} and {after:6.3f} s  status {status}: {what}: {' '.join(command)}")
+                sys.stdout.flush()
+
+
 def openings(asked):
     """Runs schedules with and without openings of a full store, and prints a row for each."""
     starts = "crash 1\nstart 1\n" * asked.openings
@@ -198,10 +243,13 @@ def main():
     words.add_argument("--lines", action="append", type=int, metavar="N")
     words.add_argument("--stops", type=int, metavar="N")
     words.add_argument("--calms", type=int, metavar="N")
+    words.add_argument("--late", action="store_true")
     words.add_argument("--openings", type=int, metavar="N")
     words.add_argument("--audits", type=int, metavar="N")
     words.add_argument("--seconds", type=float, default=300)
     asked = words.parse_args()
+    if asked.late:
+        return differences(asked)
     if asked.openings:
         return openings(asked)
     if asked.audits:

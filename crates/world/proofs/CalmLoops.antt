@@ -1,6 +1,6 @@
 -- The deliveries that an operation makes alone, one after another, as a state shows them.
 use Rattle.std.proofs.Common.{◌≡◌, ◌≢◌, ℕ, suc, ◌+◌, ◌<◌, ◌≤◌, Bool, true, false, not, cond, nat_eq, ◌&&◌, ◌||◌, ⊎_elim, List, [], ◌∷◌, ◌++◌, length, drop, append-nil, append_assoc, map, Option, Some, None, is_some, refl, sym, ap, ◌∙◌, subst, arith}
-use Rattle.std.specs.Prelude.{max, slice_get}
+use Rattle.std.specs.Prelude.{slice_get}
 use Rattle.std.proofs.lemmas.Bool.{and_parts, eqb-true, eqb-false, eq-eqb, cases_lt}
 use Rattle.std.proofs.lemmas.Bool.Decides.{nat_tests}
 use Rattle.std.proofs.Math.Seq.{drop-append_seam}
@@ -39,7 +39,6 @@ use Rattle.world.proofs.CalmLemmas.{noted_at}
 use Rattle.world.proofs.CalmRuns.{begins_more, begins_run, runs_ended, runs_stuck, keeps_more, left_as, next_found, next_none}
 use Rattle.world.proofs.LedgerLemmas.{KnowsCalls, told_reached, answers_reached}
 use Rattle.world.proofs.MachineBegins.{happens_handled}
-use Rattle.world.proofs.Firsts.{found_from}
 use Rattle.world.proofs.Places.{append_get}
 use Rattle.world.proofs.RunLaws.{reached_numbers, reached_knows}
 use Rattle.protocol.proofs.Events.{run-append, world_handled}
@@ -305,16 +304,10 @@ module _ (layout : Layout) (w : World) (n : ℕ) (numbers : List ℕ) (disks : L
     none_before : NoneLeft state.ledger.reached.items origin numbers so.last.packets 0 from
     none_before k packet least less at = sym (left_is k packet) ∙ so.seen k packet less at
 
-    -- what is found from its first message on is found from here on
-    widened : (start : ℕ) → start ≡ max from origin.first → (found : Option ℕ)
-        → FindsLeft state.ledger.reached.items origin numbers start so.last.packets found
-        → FindsLeft state.ledger.reached.items origin numbers from so.last.packets found
-    widened = found_from state.ledger.reached.items origin numbers so.last noted.0 noted.2 from
-
     -- none of its messages is left
-    pub has_stuck : (start : ℕ) → start ≡ max from origin.first → FindsLeft state.ledger.reached.items origin numbers start so.last.packets None
+    pub has_stuck : FindsLeft state.ledger.reached.items origin numbers from so.last.packets None
         → HasRun layout w n bricks disks state some
-    has_stuck start start_is none = record {
+    has_stuck none = record {
       events = so.events;
       some_is = so.some_is;
       prints = prints_new;
@@ -322,18 +315,18 @@ module _ (layout : Layout) (w : World) (n : ℕ) (numbers : List ℕ) (disks : L
       runs =
           runs_stuck (coding layout) n bricks w so.last so.events so.begins opens.0
           (next_none so.last n noted.0 says knows noted.3 noted.1 state.ledger origin numbers so.notes noted.2.brick noted.2.boot noted.2.seq from
-          none_before (widened start start_is None none));
+          none_before none);
       shows = so.shows;
       notes = so.notes;
       kept = so.kept;
     }
 
     -- one is, and is delivered
-    pub goes_on : (start : ℕ) → start ≡ max from origin.first → (place : ℕ) (next : Simulation) (outcome : Outcome)
-        → FindsLeft state.ledger.reached.items origin numbers start so.last.packets (Some place)
+    pub goes_on : (place : ℕ) (next : Simulation) (outcome : Outcome)
+        → FindsLeft state.ledger.reached.items origin numbers from so.last.packets (Some place)
         → Comes layout so.last (disks_of state.bricks.items) next (Deliver (place + 1) None) outcome
         → SoFar layout w n numbers disks next (place + 1) true
-    goes_on start start_is place next outcome finds (events, comes, notes) = record {
+    goes_on place next outcome found (events, comes, notes) = record {
       events = so.events ++ Delivers (place + 1) ∷ [];
       last = happens (coding layout) so.last (Delivers (place + 1));
       begins = begins_more (coding layout) n bricks w so.last so.events (place + 1) so.begins opens.0 its_next;
@@ -362,9 +355,6 @@ module _ (layout : Layout) (w : World) (n : ℕ) (numbers : List ℕ) (disks : L
       seen = seen_after (coding layout) so.last n bricks place packet at up before;
     }
       where
-        found : FindsLeft state.ledger.reached.items origin numbers from so.last.packets (Some place)
-        found = widened start start_is (Some place) finds
-
         packet : Packet
         packet = found.2.0
 

@@ -13,7 +13,7 @@ use Rattle.protocol.specs.Calms.{RunsAlone, Ended, Stuck, Next, IsUntouched, ope
 use Rattle.world.specs.Calms.{BeginsAlone}
 use Rattle.world.specs.Calms as begun
 use Rattle.world.specs.Disks.{KeepsDisks}
-use Rattle.world.specs.Ledgers.{Notes, IsFrom, NoneLeft, FindsLeft, IsUntouchedAt, is_of, is_left_at}
+use Rattle.world.specs.Ledgers.{Notes, NoneLeft, FindsLeft, IsUntouchedAt, is_of, is_left_at}
 use Rattle.world.specs.Runs.{brick_of}
 use Rattle.world.specs.declared.ledgers.Ledger.{Ledger}
 use Rattle.world.specs.declared.ledgers.Origin.{Origin}
@@ -171,13 +171,12 @@ module _ (w : World) (n : ℕ) (o : Operation) (says : NumbersSay w) (knows : Kn
       ∙ sym (ap (λ (b : BrickId). is_of b.0 origin.boot origin.seq packet) brick
       ∙ ap (λ (b : ℕ). is_of o.brick.0 b origin.seq packet) boot ∙ ap (λ (k : ℕ). is_of o.brick.0 o.boot k packet) seq)
 
-  pub untouched_as : IsFrom w.packets o origin.first → IsUntouchedAt ledger.reached.items sent origin true → IsUntouched w n
-  untouched_as first none zero packet at of = absurd (let never : None ≡ Some packet = at in cc)
-  untouched_as first none (suc k) packet at of =
+  pub untouched_as : IsUntouchedAt ledger.reached.items sent origin true → IsUntouched w n
+  untouched_as none zero packet at of = absurd (let never : None ≡ Some packet = at in cc)
+  untouched_as none (suc k) packet at of =
       let its : nat_eq (operation_of w packet) n ≡ true = eq-eqb (operation_of w packet) n of in
       ap w.reached (let one : suc k ≡ k + 1 = omega arith in one) ∙ sym (notes.reached k)
-      ∙ none k packet (first.behind k packet at (sym (of_operation w n o says knows some is packet) ∙ its))
-      (ap (λ (l : List Packet). slice_get l k) same ∙ at) (sym (of_origin packet) ∙ its)
+      ∙ none k packet (ap (λ (l : List Packet). slice_get l k) same ∙ at) (sym (of_origin packet) ∙ its)
 
   pub touched_as : IsUntouchedAt ledger.reached.items sent origin false → IsUntouched w n → ⊥
   touched_as (k, packet, at, of, marked) untouched =

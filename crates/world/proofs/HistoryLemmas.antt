@@ -26,7 +26,7 @@ use Rattle.world.specs.Shown.{TellsOperations, ChangesAt, TellsOperation, Tells,
 use Rattle.world.proofs.Places.{grown, each_value, value_here, value_elsewhere, call_apart, set_here, set_elsewhere}
 
 -- room alone changes nothing that is told
-pub tells_same : (old new : History) (w : World) → new.sent.items ≡ old.sent.items → new.marks.items ≡ old.marks.items
+pub tells_same : (old new : History) (w : World) → new.sent.packets.items ≡ old.sent.packets.items → new.marks.items ≡ old.marks.items
     → new.operations.items ≡ old.operations.items → new.numbers ≡ old.numbers → Tells old w → Tells new w
 tells_same old new w sent marks operations numbers tells = record {
   packets = sent ∙ tells.packets;
@@ -194,7 +194,7 @@ tells_changed : (old new : History) (w : World) (number : ℕ) (kept after : Lis
     → KeepsMark next → Tells old w → kept ≡ old.operations.items → new.operations.items ≡ after
     → ((known : KeptOperation) (o : Operation) → TellsOperation known o → (p : Operation) × (next (Some o) ≡ Some p) × TellsOperation (change known) p)
     → ChangesAt kept after number change → length after ≡ length kept
-    → new.sent.items ≡ old.sent.items → new.numbers ≡ old.numbers → (marks : List Mark) → new.marks.items ≡ marks
+    → new.sent.packets.items ≡ old.sent.packets.items → new.numbers ≡ old.numbers → (marks : List Mark) → new.marks.items ≡ marks
     → Tells new (record w { marks = marks; operations = put w.operations number (next (w.operations number)) })
 tells_changed old new w number kept after change next keeps tells are become alike changed count sent numbers marks marked = record {
   packets = sent ∙ tells.packets;
@@ -263,7 +263,7 @@ begun_kept begin ask =
 
 -- an operation that began
 pub tells_began : (old new : History) (w : World) (brick : BrickId) (ask : Ask) (step : NodeStep) → Tells old w
-    → new.sent.items ≡ old.sent.items ++ step.packets
+    → new.sent.packets.items ≡ old.sent.packets.items ++ step.packets
     → new.marks.items ≡ old.marks.items ++ Begin (length old.marks.items) (length old.operations.items + 1) brick ask ∷ []
     → new.operations.items ≡ old.operations.items ++ begun_kept (length old.marks.items) ask ∷ []
     → new.numbers ≡ old.numbers
@@ -343,7 +343,7 @@ number_is history w b seq number tells low high is = is ∙ ap (λ o. unwrap_or 
 -- an operation made a version
 pub tells_made : (old new : History) (w : World) (b seq number : ℕ) (stamp : Stamp) (base : Option Stamp) (kept after : List KeptOperation) → Tells old w
     → number ≡ number_of w b seq → kept ≡ old.operations.items → new.operations.items ≡ after
-    → new.sent.items ≡ old.sent.items → new.marks.items ≡ old.marks.items
+    → new.sent.packets.items ≡ old.sent.packets.items → new.marks.items ≡ old.marks.items
     → ChangesAt kept after number (made_kept stamp base) → length after ≡ length kept → new.numbers ≡ old.numbers
     → Tells new (record w { operations = put w.operations (number_of w b seq) (with_made stamp base (w.operations (number_of w b seq))) })
 tells_made old new w b seq number stamp base kept after tells is are become sent marks changed count numbers =
@@ -353,7 +353,7 @@ tells_made old new w b seq number stamp base kept after tells is are become sent
 -- an operation read a version at once
 pub tells_seen : (old new : History) (w : World) (b seq number : ℕ) (stamp : Stamp) (kept after : List KeptOperation) → Tells old w
     → number ≡ number_of w b seq → kept ≡ old.operations.items → new.operations.items ≡ after
-    → new.sent.items ≡ old.sent.items → new.marks.items ≡ old.marks.items
+    → new.sent.packets.items ≡ old.sent.packets.items → new.marks.items ≡ old.marks.items
     → ChangesAt kept after number (seen_kept stamp) → length after ≡ length kept → new.numbers ≡ old.numbers
     → Tells new (record w { operations = put w.operations (number_of w b seq) (with_seen stamp (w.operations (number_of w b seq))) })
 tells_seen old new w b seq number stamp kept after tells is are become sent marks changed count numbers =
@@ -364,7 +364,7 @@ tells_seen old new w b seq number stamp kept after tells is are become sent mark
 pub tells_ended : (old new : History) (w : World) (brick : BrickId) (seq number : ℕ) (answer : Answer) (answered : Bool)
     (kept after : List KeptOperation)
     → Tells old w → number ≡ number_of w brick.0 seq → kept ≡ old.operations.items → new.operations.items ≡ after → answered ≡ is_answer answer
-    → new.sent.items ≡ old.sent.items → new.marks.items ≡ old.marks.items ++ End (length old.marks.items) number answer ∷ []
+    → new.sent.packets.items ≡ old.sent.packets.items → new.marks.items ≡ old.marks.items ++ End (length old.marks.items) number answer ∷ []
     → ChangesAt kept after number (ended_kept answered) → length after ≡ length kept → new.numbers ≡ old.numbers
     → Tells new (world_answered w brick (record { seq = seq; answer = answer }))
 tells_ended old new w brick seq number answer answered kept after tells is are become right sent marks changed count numbers =
@@ -447,7 +447,7 @@ tells_stepped setting history w brick step packets sent boot next tells =
     (λ i. seqs_stay w brick step.node next i ∙ ap (λ (f : ℕ → Node). (f i).seq) (sym keeps.nodes)) refl) tells
 
 -- a brick stopped
-pub tells_crashed : (setting : Setting) (old new : History) (w : World) (brick : BrickId) → Tells old w → new.sent.items ≡ old.sent.items
+pub tells_crashed : (setting : Setting) (old new : History) (w : World) (brick : BrickId) → Tells old w → new.sent.packets.items ≡ old.sent.packets.items
     → new.marks.items ≡ old.marks.items ++ Crash (length old.marks.items) brick ∷ [] → new.operations.items ≡ old.operations.items
     → new.numbers ≡ old.numbers → Tells new (world_stopped setting w brick None)
 tells_crashed setting old new w brick tells sent marks operations numbers =

@@ -1,5 +1,5 @@
 -- What a ledger notes, event by event.
-use Rattle.std.proofs.Common.{◌≡◌, ◌≢◌, ℕ, zero, suc, ◌+◌, ◌<◌, ◌≤◌, Bool, true, false, not, cond, nat_eq, nat_lt, ◌&&◌, List, [], ◌∷◌, ◌++◌, length, get_or, length-append, append-nil, Option, Some, None, is_some, ⊎_elim, refl, sym, ap, ◌∙◌, subst, arith}
+use Rattle.std.proofs.Common.{◌≡◌, ◌≢◌, ℕ, zero, suc, ◌+◌, ◌<◌, ◌≤◌, Bool, true, false, not, cond, nat_eq, nat_lt, ◌&&◌, List, [], ◌∷◌, ◌++◌, length, get_or, length-append, Option, Some, None, is_some, ⊎_elim, refl, sym, ap, ◌∙◌, subst, arith}
 use Rattle.std.specs.Prelude.{slice_get}
 use Rattle.std.specs.Option.{option_map}
 use Rattle.std.proofs.lemmas.Bool.{cond_both, and_parts, eqb-true, eqb-false, eq-eqb}
@@ -14,10 +14,10 @@ use Rattle.protocol.specs.Coordinators.{Coordinator}
 use Rattle.protocol.specs.declared.tellings.Answered.{Answered}
 use Rattle.protocol.specs.declared.tellings.Told.{Told}
 use Rattle.protocol.specs.declared.tellings.Told.TheVariants.{Made, Seen}
-use Rattle.protocol.specs.Nodes.{Node, NodeStep, put, top_at, received, stopped, restarted, may_open, ticked, view_at}
+use Rattle.protocol.specs.Nodes.{Node, NodeStep, put, top_at, received, stopped, restarted, may_open, view_at}
 use Rattle.protocol.specs.Worlds.{World, Operation, Found, Before, After, Sets, Ticks, Stops, Starts, is_brick, is_up, may_start, number_of, world_began, world_told, world_tells, world_answered, world_answers, world_stepped, world_ticked, world_stopped, world_found, world_started, happens, packet_of, replies_with, reached_at, reached_during}
 use Rattle.protocol_laws.proofs.Books.{Books}
-use Rattle.world.specs.Ledgers.{Notes, NotesOrigin, IsFrom, EndsAs, EndsAt, ended_origin}
+use Rattle.world.specs.Ledgers.{Notes, NotesOrigin, EndsAs, EndsAt, ended_origin}
 use Rattle.world.specs.Runs.{brick_of}
 use Rattle.world.specs.Shown.{ShowsBricks, ShowsPower, EndedIs}
 use Rattle.world.specs.declared.bricks.Brick.{Brick}
@@ -25,8 +25,7 @@ use Rattle.world.specs.declared.bricks.Power.{Power}
 use Rattle.world.specs.declared.bricks.Power.TheVariants.{Up, Down}
 use Rattle.world.specs.declared.ledgers.Ledger.{Ledger}
 use Rattle.world.specs.declared.ledgers.Origin.{Origin}
-use Rattle.world.proofs.CallNumbers.{NumbersSay, SameCall, SameCalls, same_calls, stepped_same}
-use Rattle.world.proofs.Firsts.{AreNumbered, from_more, from_here}
+use Rattle.world.proofs.CallNumbers.{SameCall, SameCalls, same_calls, stepped_same}
 use Rattle.messages.specs.declared.packets.Packet.{Packet}
 use Rattle.world.proofs.CallSteps.{CallsAfter, received_calls}
 use Rattle.world.proofs.MachineSteps.{CallsAreNumbered, received_opens_none}
@@ -47,13 +46,13 @@ ends_kept w v o p ended same keeps ends up boot =
     ∙ got.2 ∙ ends got.0 got.1
 
 -- the same operations are noted, each open or ended as before
-pub notes_kept : (old new : Ledger) (w v : World) → SameCalls w v → (more : List Packet) → v.packets ≡ w.packets ++ more
+pub notes_kept : (old new : Ledger) (w v : World) → SameCalls w v
     → ((n : ℕ) (o : Operation) → w.operations n ≡ Some o → v.up o.brick.0 ≡ true → (v.nodes o.brick.0).boot ≡ o.boot
     → (w.up o.brick.0 ≡ true) × ((w.nodes o.brick.0).boot ≡ o.boot)
     × (is_some ((v.nodes o.brick.0).calls o.seq) ≡ is_some ((w.nodes o.brick.0).calls o.seq)))
     → new.origins.items ≡ old.origins.items → ((k : ℕ) → get_or new.reached.items k false ≡ v.reached (k + 1))
     → Notes old w → Notes new v
-notes_kept old new w v same more grows keeps origins reached notes = record {
+notes_kept old new w v same keeps origins reached notes = record {
   count = ap length origins ∙ notes.count ∙ sym same.begun;
   origins = λ n origin is.
       (let was = notes.origins n origin (ap (λ (l : List Origin). slice_get l n) (sym origins) ∙ is) in
@@ -65,8 +64,6 @@ notes_kept old new w v same more grows keeps origins reached notes = record {
           boot = was.2.boot ∙ sym now.2.1;
           seq = was.2.seq ∙ sym now.2.2;
           ended = ends_kept w v was.0 now.0 origin.ended now.2 (keeps (n + 1) was.0 was.1) was.2.ended;
-          first = subst (λ (l : List Packet). IsFrom l now.0 origin.first) (sym grows)
-              (from_more w.packets more was.0 now.0 origin.first now.2 was.2.first);
         },
       ));
   reached = reached;
@@ -76,17 +73,17 @@ notes_kept old new w v same more grows keeps origins reached notes = record {
 pub notes_same : (old new : Ledger) (w : World) → new.origins.items ≡ old.origins.items
     → ((k : ℕ) → get_or new.reached.items k false ≡ get_or old.reached.items k false) → Notes old w → Notes new w
 notes_same old new w origins reached notes =
-    notes_kept old new w w (same_calls w w refl refl refl) [] (sym (append-nil w.packets)) (λ n o is up boot. (up, boot, refl)) origins (λ k. reached k ∙ notes.reached k) notes
+    notes_kept old new w w (same_calls w w refl refl refl) (λ n o is up boot. (up, boot, refl)) origins (λ k. reached k ∙ notes.reached k) notes
 
 -- a clock that was set, and one that ticked
 pub notes_clocked : (ledger : Ledger) (w : World) (clocks : ℕ → ℕ) → Notes ledger w → Notes ledger (record w { clocks = clocks })
 notes_clocked ledger w clocks notes =
-    notes_kept ledger ledger w (record w { clocks = clocks }) (same_calls w _ refl refl refl) [] (sym (append-nil w.packets))
+    notes_kept ledger ledger w (record w { clocks = clocks }) (same_calls w _ refl refl refl)
     (λ n o is up boot. (up, boot, refl)) refl notes.reached notes
 
 pub notes_ticked : (setting : Setting) (ledger : Ledger) (w : World) (brick : BrickId) → Notes ledger w → Notes ledger (world_ticked setting w brick)
 notes_ticked setting ledger w brick notes =
-    notes_kept ledger ledger w (world_ticked setting w brick) (same_calls w _ refl refl refl) (ticked setting brick (w.nodes brick.0)) refl
+    notes_kept ledger ledger w (world_ticked setting w brick) (same_calls w _ refl refl refl)
     (λ n o is up boot. (up, boot, refl)) refl notes.reached notes
 
 -- a brick that stopped has no operation open
@@ -100,7 +97,7 @@ pub notes_stopped : (setting : Setting) (old new : Ledger) (w : World) (brick : 
     → new.origins.items ≡ old.origins.items → ((k : ℕ) → get_or new.reached.items k false ≡ reached_during w brick during (k + 1))
     → Notes old w → Notes new (world_stopped setting w brick during)
 notes_stopped setting old new w brick during origins reached notes =
-    notes_kept old new w (world_stopped setting w brick during) (same_calls w _ refl refl refl) [] (sym (append-nil w.packets))
+    notes_kept old new w (world_stopped setting w brick during) (same_calls w _ refl refl refl)
     (λ n o is up boot. stopped_keeps w brick.0 o.brick.0 o.boot o.seq (nat_eq o.brick.0 brick.0) up boot) origins reached notes
 
 -- what a brick that is down would have kept is of the same boot
@@ -139,15 +136,11 @@ found_reached : (w : World) (brick : BrickId) (openings : ℕ) (found : Found) �
 found_reached w brick openings Before = refl
 found_reached w brick openings After = refl
 
-found_packets : (w : World) (brick : BrickId) (openings : ℕ) (found : Found) → (world_started (world_found w brick found) brick openings).packets ≡ w.packets
-found_packets w brick openings Before = refl
-found_packets w brick openings After = refl
-
 pub notes_started : (setting : Setting) (ledger : Ledger) (w : World) (brick : BrickId) (openings : ℕ) (found : Found) → Books setting w
     → (w.after brick.0).boot ≡ (w.nodes brick.0).boot → 1 ≤ openings → Notes ledger w
     → Notes ledger (world_started (world_found w brick found) brick openings)
 notes_started setting ledger w brick openings found books boots some notes =
-    notes_kept ledger ledger w v (found_same w brick openings found) [] (found_packets w brick openings found ∙ sym (append-nil w.packets))
+    notes_kept ledger ledger w v (found_same w brick openings found)
     (λ n o is up boot. by_brick n o is (nat_eq o.brick.0 brick.0) refl up boot) refl
     (λ k. notes.reached k ∙ ap (λ (f : ℕ → Bool). f (k + 1)) (sym (found_reached w brick openings found))) notes
   where
@@ -248,7 +241,7 @@ module _ (setting : Setting) (old new : Ledger) (w : World) (brick : BrickId) (s
   notes_quiet_step : ((k : ℕ) → is_some (step.node.calls k) ≡ is_some ((w.nodes brick.0).calls k)) → new.origins.items ≡ old.origins.items
       → Notes old w → Notes new after
   notes_quiet_step calls origins notes =
-      notes_kept old new w after (stepped_same setting w brick step) step.packets refl (λ n o is. keeps_at o (λ here at. calls o.seq)) origins after_reached notes
+      notes_kept old new w after (stepped_same setting w brick step) (λ n o is. keeps_at o (λ here at. calls o.seq)) origins after_reached notes
 
   -- one does
   module _ (one : Answered) (gone : step.node.calls one.seq ≡ None) (c : Coordinator) (was : (w.nodes brick.0).calls one.seq ≡ Some c)
@@ -296,7 +289,6 @@ module _ (setting : Setting) (old new : Ledger) (w : World) (brick : BrickId) (s
                 seq = before.2.seq ∙ sym now.2.2;
                 ended = ends_kept after after before.0 now.0 true now.2 (λ up boots. (up, boots, refl))
                     (shut before.0 (ap w.operations (sym (eqb-true (n + 1) number at)) ∙ before.1));
-                first = from_more w.packets step.packets before.0 now.0 x.first now.2 before.2.first;
               }),
             )
         by_number false at None found e = absurd (let never : None ≡ Some origin = e in cc)
@@ -313,7 +305,6 @@ module _ (setting : Setting) (old new : Ledger) (w : World) (brick : BrickId) (s
                 ended = ends_kept w after before.0 now.0 x.ended now.2
                     (keeps_at before.0 (λ here at_boot. others before.0.seq (apart (n + 1) before.0 before.1 (eqb-false (n + 1) number at) here at_boot)))
                     before.2.ended;
-                first = from_more w.packets step.packets before.0 now.0 x.first now.2 before.2.first;
               }),
             )
 
@@ -349,14 +340,14 @@ begun_operation w brick ask step =
     }
 
 -- an operation that began
-pub notes_began : (old new : Ledger) (w : World) (brick : BrickId) (ask : Ask) (step : NodeStep) → KnowsCalls w → NumbersSay w → AreNumbered w
+pub notes_began : (old new : Ledger) (w : World) (brick : BrickId) (ask : Ask) (step : NodeStep) → KnowsCalls w
     → new.origins.items
-    ≡ old.origins.items ++ record { brick = brick; boot = step.node.boot; seq = step.node.seq; ended = false; first = length w.packets } ∷ []
+    ≡ old.origins.items ++ record { brick = brick; boot = step.node.boot; seq = step.node.seq; ended = false } ∷ []
     → ((k : ℕ) → get_or new.reached.items k false ≡ w.reached (k + 1))
     → step.node.boot ≡ (w.nodes brick.0).boot → step.node.seq ≡ (w.nodes brick.0).seq + 1
     → ((k : ℕ) → k ≢ step.node.seq → step.node.calls k ≡ (w.nodes brick.0).calls k) → is_some (step.node.calls step.node.seq) ≡ true
     → Notes old w → Notes new (world_began w brick ask step)
-notes_began old new w brick ask step knows says numbered origins reached boot seq others begins notes = record {
+notes_began old new w brick ask step knows origins reached boot seq others begins notes = record {
   count = ap length origins ∙ length-append old.origins.items (first ∷ []) ∙ ap (λ (n : ℕ). n + 1) notes.count;
   origins = λ n origin is. ⊎_elim
       (λ (older : slice_get old.origins.items n ≡ Some origin). older_one n origin older (slice_get_within old.origins.items n origin older))
@@ -366,7 +357,7 @@ notes_began old new w brick ask step knows says numbered origins reached boot se
 }
   where
     first : Origin
-    first = record { brick = brick; boot = step.node.boot; seq = step.node.seq; ended = false; first = length w.packets }
+    first = record { brick = brick; boot = step.node.boot; seq = step.node.seq; ended = false }
 
     v : World
     v = world_began w brick ask step
@@ -399,7 +390,6 @@ notes_began old new w brick ask step knows says numbered origins reached boot se
             seq = before.2.seq;
             ended = ends_kept w v before.0 before.0 origin.ended (refl, refl, refl)
                 (λ up now. keeps before.0 (n + 1) before.1 (nat_eq before.0.brick.0 brick.0) refl up now) before.2.ended;
-            first = from_more w.packets step.packets before.0 before.0 origin.first (refl, refl, refl) before.2.first;
           },
         )
 
@@ -412,7 +402,6 @@ notes_began old new w brick ask step knows says numbered origins reached boot se
         boot = refl;
         seq = refl;
         ended = λ up now. ap (λ (x : Node). is_some (x.calls step.node.seq)) (value_here w.nodes brick.0 brick.0 step.node refl) ∙ begins;
-        first = from_here w says knows.called numbered brick step.node.boot step.node.seq boot seq step.packets (begun_operation w brick ask step) refl refl refl;
       }),
     )
 
@@ -481,7 +470,7 @@ notes_handled layout old wait new w number packet me answers ended knows numbere
     let mid : Ledger = record { origins = wait.origins; reached = new.reached } in
     let marked : (k : ℕ) → get_or new.reached.items k false ≡ v.reached (k + 1) =
     (λ k. reached k ∙ ap (λ (b : Bool). cond (nat_eq (k + 1) number) true b) (same k ∙ notes.reached k)) in
-    let noted : Notes mid v = notes_kept old mid w v (same_calls w v refl refl refl) [] (sym (append-nil w.packets))
+    let noted : Notes mid v = notes_kept old mid w v (same_calls w v refl refl refl)
     (λ n o is up boot. (up, boot, refl)) origins marked notes in
     let knows' : KnowsCalls v = record { numbered = knows.numbered; called = knows.called; opened = knows.opened; up = knows.up } in
     notes_stepped (coding layout) mid new v me step knows'

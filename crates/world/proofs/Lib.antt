@@ -3,6 +3,7 @@ pub mod DownLemmas
 pub mod FreshLemmas
 pub mod DiskLemmas
 pub mod EntryMaps
+pub mod StripeRanges
 pub mod HistoryLemmas
 pub mod KeptOperations
 pub mod MachineBegins
@@ -18,9 +19,10 @@ pub mod DeliveryLemmas
 pub mod CallNumbers
 pub mod CallSteps
 pub mod TimeLemmas
-pub mod Firsts
 pub mod LedgerLemmas
 pub mod LedgerLists
+pub mod Chains
+pub mod ChainWalks
 pub mod Numberless
 pub mod CalmLemmas
 pub mod CalmRuns

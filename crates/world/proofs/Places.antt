@@ -50,11 +50,11 @@ pub value_elsewhere : {A : Type 0} (f : ℕ → A) (k i : ℕ) (v : A) → i ≢
 value_elsewhere f k i v other = ap (λ (b : Bool). cond b v (f i)) (ne_eqb i k other)
 
 -- a query for a number is at its own key
-is_at_number : (k q : ℕ) → is_at (nat_cmp k) q ≡ nat_eq q k
+pub is_at_number : (k q : ℕ) → is_at (nat_cmp k) q ≡ nat_eq q k
 is_at_number k q = grind (arith, nat_tests)
 
 -- two orders in turn find a key equal where both do
-then_is_eq : (a b : Ordering) → is_eq (ordering_then a b) ≡ is_eq a && is_eq b
+pub then_is_eq : (a b : Ordering) → is_eq (ordering_then a b) ≡ is_eq a && is_eq b
 then_is_eq Less b = refl
 then_is_eq Equal b = refl
 then_is_eq Greater b = refl

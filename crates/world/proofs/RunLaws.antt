@@ -10,12 +10,10 @@ use Rattle.protocol_laws.specs.Laws.{Laws}
 use Rattle.protocol_laws.proofs.Books.{Books}
 use Rattle.protocol_laws.proofs.BooksEvents.{books}
 use Rattle.protocol_laws.proofs.EveryRun.{every_views_run}
-use Rattle.calm_laws.proofs.FreshRuns.{always_fresh}
 use Rattle.world.specs.Runs.{Run, world_of, all_events}
 use Rattle.world.specs.Shown.{IsNumbered, IsReachedBy}
 use Rattle.world.specs.Walks.{BeginsAgree}
 use Rattle.world.proofs.CallNumbers.{NumbersSay, AreOfBricks, numbers_say, of_bricks}
-use Rattle.world.proofs.Firsts.{AreNumbered}
 use Rattle.world.proofs.KeptOperations.{begins_from_books}
 use Rattle.world.proofs.LedgerLemmas.{KnowsCalls, knows_calls}
 use Rattle.world.proofs.RunLemmas.{numbered_from_books}
@@ -44,9 +42,6 @@ reached_knows layout w reached = knows_calls (coding layout) w (reached_books la
 
 pub reached_numbers : (layout : Layout) (w : World) → IsReachedBy layout w → NumbersSay w
 reached_numbers layout w (events, is) = subst NumbersSay (sym is) (numbers_say layout events)
-
-pub reached_packets : (layout : Layout) (w : World) → IsReachedBy layout w → AreNumbered w
-reached_packets layout w (events, is) = subst AreNumbered (sym is) (always_fresh (coding layout) events).0.packets
 
 pub reached_bricks : (layout : Layout) (w : World) → IsReachedBy layout w → AreOfBricks layout w
 reached_bricks layout w (events, is) = subst (AreOfBricks layout) (sym is) (of_bricks layout events)

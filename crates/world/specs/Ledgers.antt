@@ -28,18 +28,12 @@ abbrev pub EndsAs : World → Operation → Bool → Type 0
 EndsAs w o ended =
     w.up o.brick.0 ≡ true → (w.nodes o.brick.0).boot ≡ o.boot → is_some ((w.nodes o.brick.0).calls o.seq) ≡ not ended
 
--- no message of an operation stands before this place
-pub record IsFrom (packets : List Packet) (o : Operation) (first : ℕ) : Type 0 where
-  pub within : first ≤ length packets
-  pub behind : (k : ℕ) (packet : Packet) → slice_get packets k ≡ Some packet → is_of o.brick.0 o.boot o.seq packet ≡ true → first ≤ k
-
 -- what is noted of an operation
 pub record NotesOrigin (w : World) (origin : Origin) (o : Operation) : Type 0 where
   pub brick : origin.brick ≡ o.brick
   pub boot : origin.boot ≡ o.boot
   pub seq : origin.seq ≡ o.seq
   pub ended : EndsAs w o origin.ended
-  pub first : IsFrom w.packets o origin.first
 
 -- the ledger notes where each operation of the machine's world began, and which messages were delivered
 pub record Notes (ledger : Ledger) (w : World) : Type 0 where
@@ -62,10 +56,10 @@ abbrev pub is_left_at : List Bool → Origin → List ℕ → ℕ → Packet →
 is_left_at reached origin bricks place packet =
     is_of origin.brick.0 origin.boot origin.seq packet && (not (get_or reached place false) && goes_among (map brick_of bricks) packet)
 
--- no message of the operation was delivered, of those from its first on, or one was
+-- no message of the operation was delivered, or one was
 abbrev pub IsUntouchedAt : List Bool → List Packet → Origin → Bool → Type 0
 IsUntouchedAt reached sent origin true =
-    (k : ℕ) (packet : Packet) → origin.first ≤ k → slice_get sent k ≡ Some packet → is_of origin.brick.0 origin.boot origin.seq packet ≡ true
+    (k : ℕ) (packet : Packet) → slice_get sent k ≡ Some packet → is_of origin.brick.0 origin.boot origin.seq packet ≡ true
     → get_or reached k false ≡ false
 IsUntouchedAt reached sent origin false =
     (k : ℕ) × (packet : Packet) × (slice_get sent k ≡ Some packet) × (is_of origin.brick.0 origin.boot origin.seq packet ≡ true)

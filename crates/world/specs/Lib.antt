@@ -1,5 +1,6 @@
 pub mod Runs
 pub mod Calms
+pub mod Sendings
 pub mod Ledgers
 pub mod EventCalls
 pub mod Faults

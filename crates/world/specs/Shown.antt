@@ -246,7 +246,7 @@ HandledAs layout w number packet fault old new (Err refused) = ShowsBricks layou
 -- The history tells the machine's world: every message, every mark, each operation, whose marks have its number, and the numbers of the
 -- calls so far of each brick's present boot.
 pub record Tells (history : History) (w : World) : Type 0 where
-  pub packets : history.sent.items ≡ w.packets
+  pub packets : history.sent.packets.items ≡ w.packets
   pub marks : history.marks.items ≡ w.marks
   pub begun : length history.operations.items ≡ w.begun
   pub own : OwnMarks w
@@ -260,7 +260,7 @@ pub record Shows (layout : Layout) (state : Simulation) (w : World) : Type 0 whe
 
 -- there is room for what one step of a brick adds
 pub record HasStepRoom (history : History) : Type 0 where
-  pub sent : vec_len history.sent + 32 ≤ vec_capacity history.sent
+  pub sent : vec_len history.sent.packets + 32 ≤ vec_capacity history.sent.packets
   pub marks : vec_len history.marks < vec_capacity history.marks
   pub operations : vec_len history.operations < vec_capacity history.operations
 

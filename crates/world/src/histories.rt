@@ -7,6 +7,7 @@ ghost use Rattle.protocol.specs.Worlds.{packet_of, is_answer};
 ghost use Rattle.protocol.specs.Happenings.{writes};
 ghost use Rattle.world.specs.Shown.{ChangesAt, made_kept, seen_kept, ended_kept};
 
+use crate::sendings::Sendings;
 use fab_base::{Answer, Ask, BrickId, GroupId, NoMem, Op, Stamp, StripeNo};
 use messages::{Messages, Packet};
 use node::Outs;
@@ -45,7 +46,7 @@ pub struct KeptOperation {
 /// written over, and is never asked for.
 #[derive(Drop)]
 pub struct History {
-    pub sent: Vec<Packet>,
+    pub sent: Sendings,
     pub marks: Vec<Mark>,
     pub operations: Vec<KeptOperation>,
     pub numbers: BTreeMap<(u16, u64), u64>,
@@ -127,12 +128,12 @@ fn note_answer(operations: &mut [KeptOperation], number: u64, answered: bool)
 }
 
 /// Puts what a brick sends behind what was sent, in order. There is room for it.
-fn put_packets(sent: &mut Vec<Packet>, brick: BrickId, messages: Messages)
-    requires { vec_len sent.old + vec_len messages ≤ vec_capacity sent.old }
-    ensures { sent.new.items ≡ sent.old.items ++ packets_from brick messages.items }
+fn put_packets(sent: &mut Sendings, brick: BrickId, messages: Messages)
+    requires { vec_len sent.old.packets + vec_len messages ≤ vec_capacity sent.old.packets }
+    ensures { sent.new.packets.items ≡ sent.old.packets.items ++ packets_from brick messages.items }
 {
     for (to, message) in messages {
-        sent.push_reserved(Packet {
+        sent.put(Packet {
             from: brick,
             to,
             message,
@@ -157,7 +158,7 @@ impl History {
         ensures { (layout : Layout) → Tells result (first_world layout) }
     {
         History {
-            sent: Vec::new(alloc),
+            sent: Sendings::new(alloc),
             marks: Vec::new(alloc),
             operations: Vec::new(alloc),
             numbers: BTreeMap::new(alloc),
@@ -225,8 +226,8 @@ impl History {
 
     /// Notes what a brick sends, in order.
     fn send(&mut self, brick: BrickId, messages: Messages)
-        requires { vec_len self.old.sent + vec_len messages ≤ vec_capacity self.old.sent }
-        ensures items { self.new.sent.items ≡ self.old.sent.items ++ packets_from brick messages.items }
+        requires { vec_len self.old.sent.packets + vec_len messages ≤ vec_capacity self.old.sent.packets }
+        ensures items { self.new.sent.packets.items ≡ self.old.sent.packets.items ++ packets_from brick messages.items }
         ensures sent { (w : World) → Tells self.old w
             → Tells self.new (record w { packets = w.packets ++ packets_from brick messages.items }) }
         ensures marks { self.new.marks ≡ self.old.marks }

@@ -1,12 +1,14 @@
 //! Where operations began, and which messages were delivered: what an operation that is to run alone asks for.
 
-ghost use Rattle.std.specs.Prelude.{◌≡◌, true, false, map, nat_eq};
+ghost use Rattle.std.specs.Prelude.{◌≡◌, ◌<◌, ◌≤◌, true, false, length, map, nat_eq};
 ghost use Rattle.std.specs.List.{list_any};
 ghost use Rattle.protocol.specs.Calms.{is_one_of, goes_among};
 ghost use Rattle.world.specs.Runs.{brick_of};
 ghost use Rattle.world.specs.Ledgers.{is_of};
 ghost use Rattle.world.specs.Ledgers.{is_call as of_call};
+ghost use Rattle.world.specs.Sendings.{IsBetween};
 
+use crate::sendings::{CallKey, Sendings};
 use fab_base::{BrickId, NoMem};
 use messages::{Call, Message, Packet, Request};
 use std::alloc::Global;
@@ -22,8 +24,6 @@ pub struct Origin {
     pub seq: u64,
     /// Whether it was answered or aborted.
     pub ended: bool,
-    /// The place of its first message among those that were sent, from 0: none of its messages stands before it.
-    pub first: usize,
 }
 
 /// Where each operation began, and which messages were delivered.
@@ -81,6 +81,30 @@ pub fn is_of(origin: Origin, packet: &Packet) -> bool
     }
 }
 
+impl Origin {
+    ghost use Rattle.std.specs.Prelude.{◌≡◌};
+
+    /// The call that began there.
+    fn call(self) -> CallKey
+        ensures { result ≡ (self.brick.0, self.boot, self.seq) }
+    {
+        (self.brick.0, self.boot, self.seq)
+    }
+}
+
+/// A place behind every message of the operation that stands before this one.
+fn end_before(sent: &Sendings, origin: Origin, place: usize) -> usize
+    requires { place < length sent.now.packets.items }
+    ensures before { result ≤ place }
+    ensures between { IsBetween sent.now.packets.items (origin.brick.0, origin.boot, origin.seq) result place }
+{
+    if is_of(origin, &sent.packets[place]) {
+        sent.end_before(place)
+    } else {
+        place
+    }
+}
+
 impl Ledger {
     ghost use Rattle.std.specs.Prelude.{◌≡◌, ◌+◌, ◌-◌, ◌<◌, ◌≤◌, ℕ, [], ◌∷◌, ◌++◌, Option, Some, OnOk, false, vec_len, vec_capacity, slice_get, option_map, get_or, if◌then◌else◌, nat_eq};
     ghost use Rattle.protocol.specs.Worlds.{World, first_world};
@@ -108,11 +132,11 @@ impl Ledger {
         Ok(())
     }
 
-    /// Notes an operation that begins, and whose messages stand from this place on. There is room for it.
-    pub fn begin(&mut self, brick: BrickId, boot: u32, seq: u64, first: usize)
+    /// Notes an operation that begins. There is room for it.
+    pub fn begin(&mut self, brick: BrickId, boot: u32, seq: u64)
         requires { vec_len self.old.origins < vec_capacity self.old.origins }
         ensures origins { self.new.origins.items
-            ≡ self.old.origins.items ++ record { brick = brick; boot = boot; seq = seq; ended = false; first = first } ∷ [] }
+            ≡ self.old.origins.items ++ record { brick = brick; boot = boot; seq = seq; ended = false } ∷ [] }
         ensures reached { self.new.reached ≡ self.old.reached }
     {
         self.origins.push_reserved(Origin {
@@ -120,7 +144,6 @@ impl Ledger {
             boot,
             seq,
             ended: false,
-            first,
         });
     }
 
@@ -212,13 +235,16 @@ impl Ledger {
     }
 
     /// Whether no message of an operation was delivered, of those that were sent.
-    pub fn is_untouched(&self, sent: &[Packet], origin: Origin) -> bool
-        ensures { IsUntouchedAt self.now.reached.items sent.now origin result }
+    pub fn is_untouched(&self, sent: &Sendings, origin: Origin) -> bool
+        ensures { IsUntouchedAt self.now.reached.items sent.now.packets.items origin result }
     {
-        for place in origin.first..sent.len() {
-            if is_of(origin, &sent[place]) && self.is_reached(place) {
+        let mut end = sent.end_of(origin.call());
+        while end > 0 {
+            let place = end - 1;
+            if is_of(origin, &sent.packets[place]) && self.is_reached(place) {
                 return false;
             }
+            end = end_before(sent, origin, place);
         }
         true
     }
@@ -233,18 +259,22 @@ impl Ledger {
     /// The place of the first message from this one on that is left to an operation that runs alone among these bricks.
     pub fn next_left(
         &self,
-        sent: &[Packet],
+        sent: &Sendings,
         origin: Origin,
         bricks: &[u64],
         from: usize,
     ) -> Option<usize>
-        ensures { FindsLeft self.now.reached.items origin bricks.now from sent.now result }
+        ensures { FindsLeft self.now.reached.items origin bricks.now from sent.now.packets.items result }
     {
-        for place in from..sent.len() {
-            if self.is_left(&sent[place], origin, bricks, place) {
-                return Some(place);
+        let mut found = None;
+        let mut end = sent.end_of(origin.call());
+        while end > from {
+            let place = end - 1;
+            if self.is_left(&sent.packets[place], origin, bricks, place) {
+                found = Some(place);
             }
+            end = end_before(sent, origin, place);
         }
-        None
+        found
     }
 }

@@ -6,6 +6,7 @@ mod bricks;
 mod calms;
 mod histories;
 mod ledgers;
+mod sendings;
 mod simulations;
 mod stripe_entries;
 mod texts;

@@ -180,11 +180,10 @@ impl Simulation {
         let boot = boot_of(&self.bricks, brick);
         self.history.expect_call(brick, next)?;
         self.ledger.make_room()?;
-        let first = self.history.sent.len();
         match ask_brick(&mut self.bricks, brick, &ask) {
             Ok(begun) => {
                 self.history.begin(brick, ask, begun.messages);
-                self.ledger.begin(brick, boot, begun.seq, first);
+                self.ledger.begin(brick, boot, begun.seq);
                 Ok(Outcome::Marks)
             }
             Err(NodeFault::Refused(refusal)) => Ok(Outcome::Refused(refusal)),
@@ -210,7 +209,8 @@ impl Simulation {
         ensures err { OnErr result ((w : World) → Shows layout.now self.old w → Shows layout.now self.new w) }
     {
         self.history.make_room()?;
-        let packet = match packet_at(&self.history.sent, message) {
+        let sent = &self.history.sent;
+        let packet = match packet_at(&sent.packets, message) {
             Some(packet) => packet,
             None => return Ok(Outcome::Idle),
         };
@@ -372,10 +372,9 @@ impl Simulation {
         let mut from: usize = 0;
         let mut some = false;
         while let Some(origin) = self.open_origin(operation) {
-            let start = from.max(origin.first);
             let Some(place) = self
                 .ledger
-                .next_left(&self.history.sent, origin, bricks, start)
+                .next_left(&self.history.sent, origin, bricks, from)
             else {
                 return Ok(some);
             };

@@ -13,7 +13,7 @@ pub struct StripeEntries {
 }
 
 impl StripeEntries {
-    ghost use Rattle.std.specs.Prelude.{◌≡◌, ◌++◌, ℕ, IfOk, OnOk, Some, length, [], ◌∷◌, nat_eq, ◌&&◌, if◌then◌else◌};
+    ghost use Rattle.std.specs.Prelude.{◌≡◌, ◌<◌, ◌≤◌, ◌++◌, ℕ, IfOk, OnOk, IfSome, IfNone, Some, length, [], ◌∷◌, nat_eq, ◌&&◌, if◌then◌else◌};
     ghost use Rattle.protocol.specs.Happenings.{entry_at, entries_to};
     ghost use Rattle.world.specs.Walks.{entries_at, operation_of, operations_of};
 
@@ -77,6 +77,19 @@ impl StripeEntries {
         match self.entries.get(&(group.0, stripe.0)) {
             Some(entries) => entries.as_slice(),
             None => &[],
+        }
+    }
+
+    /// The first stripe of a group that has entries, from this number on and below the other.
+    pub(crate) fn next_stripe(&self, group: GroupId, from: u32, end: u32) -> Option<StripeNo>
+        requires { from ≤ end }
+        ensures none { IfNone result ((s : ℕ) → from ≤ s → s < end → entries_at self.now group.0 s ≡ []) }
+        ensures some { IfSome result (λ stripe. (from ≤ stripe.0) × (stripe.0 < end)
+            × ((s : ℕ) → from ≤ s → s < stripe.0 → entries_at self.now group.0 s ≡ [])) }
+    {
+        match self.entries.range((group.0, from)..(group.0, end)).next() {
+            Some((place, _)) => Some(StripeNo(place.1)),
+            None => None,
         }
     }
 }

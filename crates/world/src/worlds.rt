@@ -90,7 +90,7 @@ fn print(alloc: Global, outcome: Outcome, marks: &[Mark]) -> Result<Bytes, NoMem
 }
 
 impl World {
-    ghost use Rattle.std.specs.Prelude.{◌≡◌, ◌≤◌, [], None, IfOk, OnOk, OnErr, IsErrOf, length};
+    ghost use Rattle.std.specs.Prelude.{◌≡◌, ◌<◌, ◌≤◌, ℕ, [], None, IfOk, IfSome, IfNone, OnOk, OnErr, IsErrOf, length};
     ghost use Rattle.std.specs.Option.{option_map};
     ghost use Rattle.replica.specs.Parts.{log_seen};
     ghost use Rattle.lines.specs.Grammar.{line_of};
@@ -187,7 +187,7 @@ impl World {
     pub fn sent(&self) -> &[Packet]
         ensures { result.now ≡ (world_of self.now).packets }
     {
-        self.simulation.history.sent.as_slice()
+        self.simulation.history.sent.packets.as_slice()
     }
 
     /// Whether the message of a number, from 1 as in a line `deliver K`, was delivered to a brick that was up, or in the midst of
@@ -241,6 +241,24 @@ impl World {
             self.simulation.history.operations.as_slice(),
             entries.of(group, stripe),
         )
+    }
+
+    /// The first stripe of a group, from this number on and below the other, before which no stripe from this number on has a happening. None where
+    /// none of these has one.
+    pub fn next_stripe(
+        &self,
+        entries: &StripeEntries,
+        group: GroupId,
+        from: u32,
+        end: u32,
+    ) -> Option<StripeNo>
+        requires entries { AreEntriesOf entries.now (world_of self.now) }
+        requires order { from ≤ end }
+        ensures none { IfNone result ((s : ℕ) → from ≤ s → s < end → happenings_of (world_of self.now) group.0 s ≡ []) }
+        ensures some { IfSome result (λ stripe. (from ≤ stripe.0) × (stripe.0 < end)
+            × ((s : ℕ) → from ≤ s → s < stripe.0 → happenings_of (world_of self.now) group.0 s ≡ [])) }
+    {
+        entries.next_stripe(group, from, end)
     }
 
     /// The happenings of a stripe, in order. For those of many stripes, `stripe_entries` is to be called

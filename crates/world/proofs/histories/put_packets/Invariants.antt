@@ -6,7 +6,7 @@ use Rattle.world.proofs.histories.put_packets.Given as goal
 abbrev pub invariant-loop-to : goal.invariant-loop-to
 invariant-loop-to l =
     record {
-      items : l.sent.items ≡ l.initial.sent.items ++ packets_from l.brick l.yielded;
-      count : vec_len l.sent ≡ vec_len l.initial.sent + length l.yielded;
-      room : vec_capacity l.sent ≡ vec_capacity l.initial.sent;
+      items : l.sent.packets.items ≡ l.initial.sent.packets.items ++ packets_from l.brick l.yielded;
+      count : vec_len l.sent.packets ≡ vec_len l.initial.sent.packets + length l.yielded;
+      room : vec_capacity l.sent.packets ≡ vec_capacity l.initial.sent.packets;
     }

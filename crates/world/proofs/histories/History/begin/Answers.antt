@@ -16,7 +16,7 @@ returns c w step tells sent boot next number =
     let mark = λ (p n : ℕ). Begin p (n + 1) c.args.brick c.args.ask ∷ [] in
     let kept = λ (p : ℕ). begun_kept p c.args.ask ∷ [] in
     tells_began old _ w c.args.brick c.args.ask step tells
-    (c.send.ensures.items ∙ ap (λ xs. old.sent.items ++ xs) sent)
+    (c.send.ensures.items ∙ ap (λ xs. old.sent.packets.items ++ xs) sent)
     (with_room sent_to.marks.items c.push-2.new.self.items (mark c.len-position.result c.len.result) c.push-2.result c.push-2.ensures.items
     (c.push-2.ensures.succeeds (subst (λ (v : Vec Mark _). vec_len v < vec_capacity v) (sym c.send.ensures.marks) c.requires.room.marks))
     ∙ ap (λ (v : Vec Mark _). v.items ++ mark c.len-position.result c.len.result) c.send.ensures.marks

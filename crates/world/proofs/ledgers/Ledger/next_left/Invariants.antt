@@ -1,11 +1,15 @@
--- none is left of those so far
-use Rattle.std.proofs.Common.{◌≡◌, ℕ, ◌<◌, ◌≤◌, false, Some}
-use Rattle.std.specs.Prelude.{slice_get}
-use Rattle.messages.specs.declared.packets.Packet.{Packet}
-use Rattle.world.specs.Ledgers.{is_left_at}
+-- the first message that is left of those that were looked at, and none of these stands before the place
+use Rattle.std.proofs.Common.{◌≡◌, ℕ, ◌≤◌, length, Some}
+use Rattle.world.specs.Ledgers.{FindsLeft}
 use Rattle.world.proofs.ledgers.Ledger.next_left.Given as goal
 
-abbrev pub invariant-loop-place : goal.invariant-loop-place
-invariant-loop-place l =
-    (k : ℕ) → k < l.place → l.from ≤ k → (packet : Packet) → slice_get l.sent k ≡ Some packet
-    → is_left_at l.self.reached.items l.origin l.bricks k packet ≡ false
+abbrev pub invariant-loop-end : goal.invariant-loop-end
+invariant-loop-end l =
+    record {
+      within : l.end ≤ length l.sent.packets.items;
+      finds : FindsLeft l.self.reached.items l.origin l.bricks l.end l.sent.packets.items l.found;
+      least : (k : ℕ) → l.found ≡ Some k → l.from ≤ k;
+    }
+
+abbrev pub decreases-loop-end : goal.decreases-loop-end
+decreases-loop-end l = l.end

@@ -1,18 +1,17 @@
 -- The brick begins, or refuses, as the machine's does.
-use Rattle.std.proofs.Common.{◌≡◌, ℕ, ◌+◌, ◌<◌, ◌^◌, Bool, false, List, [], ◌∷◌, ◌++◌, length, get_or, Vec, Some, arith, sym, ap, ◌∙◌, subst}
+use Rattle.std.proofs.Common.{◌≡◌, ℕ, ◌+◌, ◌<◌, ◌^◌, Bool, false, List, [], ◌∷◌, ◌++◌, get_or, Vec, Some, arith, sym, ap, ◌∙◌, subst}
 use Rattle.std.specs.Prelude.{Err}
 use Rattle.stripe_code.specs.Codes.{coding}
 use Rattle.node.specs.Faults.{RefusesAs}
 use Rattle.node.specs.declared.faults.NodeFault.{NodeFault}
 use Rattle.node.specs.declared.outs.Begun.{Begun}
-use Rattle.messages.specs.declared.packets.Packet.{Packet}
 use Rattle.protocol.specs.Settings.{Setting}
 use Rattle.protocol.specs.Nodes.{Node, NodeStep, invoked, refusal_of}
 use Rattle.protocol.specs.Worlds.{World}
 use Rattle.world.specs.Ledgers.{Notes}
 use Rattle.world.specs.declared.ledgers.Origin.{Origin}
 use Rattle.world.proofs.LedgerLemmas.{notes_same, notes_began}
-use Rattle.world.proofs.RunLaws.{reached_knows, reached_numbers, reached_packets}
+use Rattle.world.proofs.RunLaws.{reached_knows}
 use Rattle.world.specs.Shown.{IsUp, ShowsBricks}
 use Rattle.world.specs.declared.bricks.Brick.{Brick}
 use Rattle.world.proofs.MachineBegins.{invoked_boot, invoked_next, invoked_opens, happens_begun, happens_refused}
@@ -80,22 +79,16 @@ returns-in-Ok-clause-notes c w reached shows notes =
     let opens = invoked_opens setting c.args.brick (w.clocks c.args.brick.0) node c.args.ask none in
     let was : c.boot_of-boot.result ≡ node.boot = c.boot_of-boot.ensures c.args.layout.now w
     (subst (λ (bricks : List Brick). ShowsBricks c.args.layout.now bricks w.nodes w.after w.up w.clocks) (sym c.deref-2.ensures.value) shows.bricks) in
-    let gives = c.next_of-next.ensures c.args.layout.now w
-    (subst (λ (bricks : List Brick). ShowsBricks c.args.layout.now bricks w.nodes w.after w.up w.clocks) (sym c.deref.ensures.value) shows.bricks) in
-    let tells = c.expect_call.ensures.same w (next_above node.seq c.next_of-next.result gives) shows.history in
-    let place : c.len-first.result ≡ length w.packets =
-    c.len-first.ensures ∙ c.expect_call.new.self.sent.ok.0 ∙ ap (λ (l : List Packet). length l) tells.packets in
-    let first : ℕ → ℕ → ℕ → List Origin = (λ b k p. record { brick = c.args.brick; boot = b; seq = k; ended = false; first = p } ∷ []) in
-    let origins : c.begin-in-Ok.new.self.origins.items ≡ c.args.self.now.ledger.origins.items ++ first step.node.boot step.node.seq (length w.packets) =
+    let first : ℕ → ℕ → List Origin = (λ b k. record { brick = c.args.brick; boot = b; seq = k; ended = false } ∷ []) in
+    let origins : c.begin-in-Ok.new.self.origins.items ≡ c.args.self.now.ledger.origins.items ++ first step.node.boot step.node.seq =
     c.begin-in-Ok.ensures.origins
-    ∙ ap (λ (l : List Origin). l ++ first c.boot_of-boot.result c.in-Ok.begun.seq c.len-first.result) c.make_room.ensures.origins
-    ∙ ap (λ (b : ℕ). c.args.self.now.ledger.origins.items ++ first b c.in-Ok.begun.seq c.len-first.result) (was ∙ sym boot)
-    ∙ ap (λ (k : ℕ). c.args.self.now.ledger.origins.items ++ first step.node.boot k c.len-first.result) begun.1
-    ∙ ap (λ (p : ℕ). c.args.self.now.ledger.origins.items ++ first step.node.boot step.node.seq p) place in
+    ∙ ap (λ (l : List Origin). l ++ first c.boot_of-boot.result c.in-Ok.begun.seq) c.make_room.ensures.origins
+    ∙ ap (λ (b : ℕ). c.args.self.now.ledger.origins.items ++ first b c.in-Ok.begun.seq) (was ∙ sym boot)
+    ∙ ap (λ (k : ℕ). c.args.self.now.ledger.origins.items ++ first step.node.boot k) begun.1 in
     subst (λ (v : World). Notes c.begin-in-Ok.new.self v)
     (sym (happens_begun setting w c.args.brick c.args.ask (c.requires.up w shows.bricks) none))
     (notes_began c.args.self.now.ledger c.begin-in-Ok.new.self w c.args.brick c.args.ask step (reached_knows c.args.layout.now w reached)
-    (reached_numbers c.args.layout.now w reached) (reached_packets c.args.layout.now w reached) origins
+    origins
     (λ k. ap (λ (v : Vec Bool _). get_or v.items k false) (c.begin-in-Ok.ensures.reached ∙ c.make_room.ensures.reached) ∙ notes.reached k)
     boot (invoked_next setting c.args.brick (w.clocks c.args.brick.0) node c.args.ask none) opens.0 opens.1 notes)
 

@@ -84,7 +84,7 @@ returns c w reached shows notes =
     subst (λ (l : List Brick). ShowsBricks c.args.layout.now l w.nodes w.after w.up w.clocks) (sym c.deref.ensures.value) shows.bricks in
     let second : ShowsBricks c.args.layout.now c.deref-2.result.now w.nodes w.after w.up w.clocks =
     subst (λ (l : List Brick). ShowsBricks c.args.layout.now l w.nodes w.after w.up w.clocks) (sym c.deref-2.ensures.value) shows.bricks in
-    let sent : c.deref-3.result.now ≡ w.packets = c.deref-3.ensures.value ∙ shows.history.packets in (
+    let sent : c.args.self.now.history.sent.packets.items ≡ w.packets = shows.history.packets in (
       λ on. calm_of c.args.layout.now w c.args.operation c.args.bricks.now here.coordinator (reached_first c.args.layout.now w reached) here.opens here.at
           (record {
             distinct = c.are_distinct.ensures.0 c.if-not-are_distinct.false;
@@ -94,12 +94,12 @@ returns c w reached shows notes =
                 ((c.is_in_time.ensures c.args.layout.now w first).0 c.if-not-is_in_time.false);
             able = (c.are_able.ensures w second).0 c.if-not-are_able.false;
             untouched = untouched_as w c.args.operation here.at.operation (reached_numbers c.args.layout.now w reached) (reached_knows c.args.layout.now w reached)
-                here.some here.at.is c.args.self.now.ledger c.in-Some.origin c.deref-3.result.now notes sent here.noted.brick here.noted.boot here.noted.seq here.noted.first
-                (subst (λ (b : Bool). IsUntouchedAt c.args.self.now.ledger.reached.items c.deref-3.result.now c.in-Some.origin b) on c.is_untouched.ensures);
+                here.some here.at.is c.args.self.now.ledger c.in-Some.origin c.args.self.now.history.sent.packets.items notes sent here.noted.brick here.noted.boot here.noted.seq
+                (subst (λ (b : Bool). IsUntouchedAt c.args.self.now.ledger.reached.items c.args.self.now.history.sent.packets.items c.in-Some.origin b) on c.is_untouched.ensures);
           }),
-      λ calm. by_untouched c.args.self.now.ledger.reached.items c.deref-3.result.now c.in-Some.origin c.is_untouched.result c.is_untouched.ensures
+      λ calm. by_untouched c.args.self.now.ledger.reached.items c.args.self.now.history.sent.packets.items c.in-Some.origin c.is_untouched.result c.is_untouched.ensures
           (λ touched. touched_as w c.args.operation here.at.operation (reached_numbers c.args.layout.now w reached) (reached_knows c.args.layout.now w reached)
-          here.some here.at.is c.args.self.now.ledger c.in-Some.origin c.deref-3.result.now notes sent here.noted.brick here.noted.boot here.noted.seq touched
+          here.some here.at.is c.args.self.now.ledger c.in-Some.origin c.args.self.now.history.sent.packets.items notes sent here.noted.brick here.noted.boot here.noted.seq touched
           calm.untouched),
     )
   where

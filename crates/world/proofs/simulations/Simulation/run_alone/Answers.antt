@@ -1,7 +1,5 @@
 -- Each message that is left is delivered, and the operation ends, or none is left.
-use Rattle.std.proofs.Common.{◌≡◌, rules, arith, ◌+◌, ◌<◌, List, length, None, Some, ◌∙◌, subst}
-use Rattle.std.specs.Prelude.{max}
-use Rattle.std.proofs.lemmas.Bool.Decides.{nat_tests}
+use Rattle.std.proofs.Common.{rules, ◌+◌, ◌<◌, List, length, None, Some, subst}
 use Rattle.std.proofs.lemmas.Option.{slice_get_within}
 use Rattle.lines.specs.declared.forms.Line.TheVariants.{Deliver}
 use Rattle.messages.specs.declared.packets.Packet.{Packet}
@@ -21,18 +19,16 @@ loop-origin-init c = (
 pub returns-in_default-next_left-clause-run : goal.returns-in_default-next_left-clause-run
 returns-in_default-next_left-clause-run c w reached shows notes calm =
     let so = c.loop-origin.invariant.1 w reached shows notes calm in
-    let start : c.max-start.result ≡ max c.loop-origin.from c.in-Some.origin.first = grind (arith, nat_tests, c.max-start.ensures) in
     has_stuck c.args.layout.now w c.args.operation c.args.bricks.now (disks_of c.args.self.now.bricks.items) c.loop-origin.self c.loop-origin.from
-    c.loop-origin.some calm so c.in-Some.origin (c.in-Some.ensures c.args.layout.now so.last so.reached so.shows so.notes) c.max-start.result
-    start
-    (subst (λ (sent : List Packet). FindsLeft c.loop-origin.self.ledger.reached.items c.in-Some.origin c.args.bricks.now c.max-start.result sent None)
-    (c.deref.ensures.value ∙ so.shows.history.packets) c.in_default-next_left.ensures)
+    c.loop-origin.some calm so c.in-Some.origin (c.in-Some.ensures c.args.layout.now so.last so.reached so.shows so.notes)
+    (subst (λ (sent : List Packet). FindsLeft c.loop-origin.self.ledger.reached.items c.in-Some.origin c.args.bricks.now c.loop-origin.from sent None)
+    so.shows.history.packets c.in_default-next_left.ensures)
 
 pub overflow_add-place : goal.overflow_add-place
 overflow_add-place c =
-    let within : c.in-Some-next_left.place < length c.deref.result.now =
-    slice_get_within c.deref.result.now c.in-Some-next_left.place c.in-Some-next_left.ensures.2.0 c.in-Some-next_left.ensures.2.1 in
-    search (rules, within, c.deref.ensures.len)
+    let within : c.in-Some-next_left.place < length c.loop-origin.self.history.sent.packets.items =
+    slice_get_within c.loop-origin.self.history.sent.packets.items c.in-Some-next_left.place c.in-Some-next_left.ensures.2.0 c.in-Some-next_left.ensures.2.1 in
+    search (rules, within, c.loop-origin.self.history.sent.packets.ok)
 
 pub deliver-requires-clause-nodes : goal.deliver-requires-clause-nodes
 deliver-requires-clause-nodes c = nodes_of _ _ _ _ _ _ c.loop-origin.invariant.0.2.bricks
@@ -47,9 +43,9 @@ returns-in_err-deliver-clause-cut c =
 
 pub overflow_add-from : goal.overflow_add-from
 overflow_add-from c =
-    let within : c.in-Some-next_left.place < length c.deref.result.now =
-    slice_get_within c.deref.result.now c.in-Some-next_left.place c.in-Some-next_left.ensures.2.0 c.in-Some-next_left.ensures.2.1 in
-    search (rules, within, c.deref.ensures.len)
+    let within : c.in-Some-next_left.place < length c.loop-origin.self.history.sent.packets.items =
+    slice_get_within c.loop-origin.self.history.sent.packets.items c.in-Some-next_left.place c.in-Some-next_left.ensures.2.0 c.in-Some-next_left.ensures.2.1 in
+    search (rules, within, c.loop-origin.self.history.sent.packets.ok)
 
 pub loop-origin-preserved : goal.loop-origin-preserved
 loop-origin-preserved c = (
@@ -60,13 +56,12 @@ loop-origin-preserved c = (
       ),
   λ w reached shows notes calm.
       (let so = c.loop-origin.invariant.1 w reached shows notes calm in
-      let start : c.max-start.result ≡ max c.loop-origin.from c.in-Some.origin.first = grind (arith, nat_tests, c.max-start.ensures) in
       goes_on c.args.layout.now w c.args.operation c.args.bricks.now (disks_of c.args.self.now.bricks.items) c.loop-origin.self c.loop-origin.from
-      c.loop-origin.some calm so c.in-Some.origin (c.in-Some.ensures c.args.layout.now so.last so.reached so.shows so.notes) c.max-start.result
-      start c.in-Some-next_left.place
+      c.loop-origin.some calm so c.in-Some.origin (c.in-Some.ensures c.args.layout.now so.last so.reached so.shows so.notes)
+      c.in-Some-next_left.place
       c.deliver.new.self c.in_ok-deliver.field-0
-      (subst (λ (sent : List Packet). FindsLeft c.loop-origin.self.ledger.reached.items c.in-Some.origin c.args.bricks.now c.max-start.result sent
-      (Some c.in-Some-next_left.place)) (c.deref.ensures.value ∙ so.shows.history.packets) c.in-Some-next_left.ensures)
+      (subst (λ (sent : List Packet). FindsLeft c.loop-origin.self.ledger.reached.items c.in-Some.origin c.args.bricks.now c.loop-origin.from sent
+      (Some c.in-Some-next_left.place)) so.shows.history.packets c.in-Some-next_left.ensures)
       (c.in_ok-deliver.ensures.comes so.last so.reached so.shows so.notes)),
 )
 
