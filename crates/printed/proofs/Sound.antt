@@ -36,7 +36,7 @@ use Rattle.printed.specs.Outputs as out
 use Rattle.printed.specs.Outputs.{happened_text, stripes_text, stripes_of, groups_text, count_text, closing_text, left_by, steps_text}
 use Rattle.printed.specs.Printed.{printed_marks}
 use Rattle.printed.specs.LineSteps.{AreStepsOf}
-use Rattle.printed.specs.Sound.{IsSoundText}
+use Rattle.printed.specs.Sound.{ReadsBack, IsSoundText}
 use Rattle.printed.proofs.Clocks.{EventsFit, steps_fit}
 use Rattle.printed.proofs.Counts.{begins_are, begun_place, ends_few}
 use Rattle.printed.proofs.LineTexts.{text_of_lines, lines_both, one_line_text, AreClear, clear_all, lines_back}
@@ -263,22 +263,27 @@ module _ (layout : Layout) (is : IsLayout layout) (schedule : List (List ℕ)) (
       omega (arith, some, all, lines_low, begins_few, few))
       steps_small counts_read
 
-  -- the happenings that it says hold
+  -- the happenings that it says of a stripe of the layout are the world's
+  said_is : (g s : ℕ) (found : Option Group) → group_of layout g ≡ found → s < stripes_of found
+      → happenings_said stage.lines g s ≡ happenings_of w g s
+  said_is g s None here within = absurd (omega arith)
+  said_is g s (Some group) here within =
+      let within_groups = slice_get_within layout.groups g group here in
+      let few_groups = marking.few_groups layout is in
+      stage.said g s (inl (
+        (let low = within_groups in omega (arith, low, few_groups)),
+        subst (λ (o : Option Group). s < stripes_of o) (sym here) within,
+      ))
+
+  -- and they hold
   holds_in : (g s : ℕ) (found : Option Group) → group_of layout g ≡ found → s < stripes_of found
       → HoldsIn found layout.block g s w.marks (happenings_said stage.lines g s)
   holds_in g s None here within = absurd (omega arith)
-  holds_in g s (Some group) here within =
-      let within_groups = slice_get_within layout.groups g group here in
-      let few_groups = marking.few_groups layout is in (
-        within,
-        subst (λ (l : List _). IsStrict group.m layout.block (stripe_marks g s w.marks) l)
-            (sym (stage.said g s (inl (
-              (let low = within_groups in omega (arith, low, few_groups)),
-              subst (λ (o : Option Group). s < stripes_of o)
-                  (sym here) within,
-            ))))
-            (laws.strict g s group here),
-      )
+  holds_in g s (Some group) here within = (
+    within,
+    subst (λ (l : List _). IsStrict group.m layout.block (stripe_marks g s w.marks) l) (sym (said_is g s (Some group) here within))
+        (laws.strict g s group here),
+  )
 
   -- a stripe that the layout has is one of a group's
   stripe_within : (g s : ℕ) (found : Option Group) → HasStripe found s → s < stripes_of found
@@ -308,17 +313,39 @@ module _ (layout : Layout) (is : IsLayout layout) (schedule : List (List ℕ)) (
   counts_hold : CountsHold counts w.marks
   counts_hold = record { begun = refl; answered = refl; aborted = refl; crashes = refl }
 
+  -- what the printed text reads as
+  reads_as : text_of (map content (raw_lines (steps_text (coding layout) (first_world layout) steps ++ closing_text layout w (length steps))))
+      ≡ Whole (record { claims = claims; stripes = stage.lines; counts = Some counts }) counts
+  reads_as = ap (λ (l : List ℕ). text_of (map content (raw_lines l))) text_is ∙ ap text_of (lines_back all_lines all_clear) ∙ says
+
+  -- The text reads back as the world.
+  pub text_back : ReadsBack layout (steps_text (coding layout) (first_world layout) steps ++ closing_text layout (left_by layout steps) (length steps))
+      (left_by layout steps)
+  text_back = record {
+    said = record { claims = claims; stripes = stage.lines; counts = Some counts };
+    counts = counts;
+    whole = reads_as;
+    marks_are = marks_back w.marks;
+    happenings_are = λ g s has. said_is g s (group_of layout g) refl (stripe_within g s (group_of layout g) has);
+  }
+
   -- The text is sound.
   pub sound_text : IsSoundText layout (steps_text (coding layout) (first_world layout) steps ++ closing_text layout (left_by layout steps)
       (length steps))
   sound_text =
-      subst (λ (text : Text). Examines layout text (Judged Sound))
-      (sym (ap (λ (l : List ℕ). text_of (map content (raw_lines l))) text_is ∙ ap text_of (lines_back all_lines all_clear) ∙ says))
+      subst (λ (text : Text). Examines layout text (Judged Sound)) (sym reads_as)
       (subst (λ (marks : List Mark). MarksHold layout marks × StripesHold layout marks stage.lines × CountsHold counts marks)
       (sym (marks_back w.marks))
       (marking.marks_hold layout is events timely, stripes_hold, counts_hold))
 
--- What is printed for the steps of a whole schedule, over the layout that a text says, is a text that an audit finds sound.
+-- What is printed for the steps of a whole schedule, over the layout that a text says, reads back as the world that they leave.
+pub what_is_printed_reads_back : (head : List ℕ) (layout : Layout) (schedule : List (List ℕ)) (steps : List Step) → layout_of head ≡ Ok layout
+    → AreStepsOf layout schedule steps → length steps ≤ out.most_lines
+    → ReadsBack layout (steps_text (coding layout) (first_world layout) steps ++ closing_text layout (left_by layout steps) (length steps))
+    (left_by layout steps)
+what_is_printed_reads_back head layout schedule steps says are few = text_back layout (accepted_is head layout says) schedule steps are few
+
+-- It is a text that an audit finds sound.
 pub what_is_printed_audits : (head : List ℕ) (layout : Layout) (schedule : List (List ℕ)) (steps : List Step) → layout_of head ≡ Ok layout
     → AreStepsOf layout schedule steps → length steps ≤ out.most_lines
     → IsSoundText layout (steps_text (coding layout) (first_world layout) steps ++ closing_text layout (left_by layout steps) (length steps))

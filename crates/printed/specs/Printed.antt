@@ -1,8 +1,13 @@
 -- The lines that a run prints, one by one, before those that close its output.
-use Rattle.std.specs.Prelude.{ℕ, List, [], ◌∷◌, ◌++◌}
+use Rattle.std.specs.Prelude.{◌≡◌, ℕ, List, [], ◌∷◌, ◌++◌}
 use Rattle.fab_base.specs.declared.answers.Refusal.{Refusal}
+use Rattle.fab_base.specs.Layouts.{Layout}
 use Rattle.reg_model.specs.declared.marks.Mark.{Mark}
+use Rattle.protocol.specs.Worlds.{first_world}
+use Rattle.stripe_code.specs.Codes.{coding}
+use Rattle.world.specs.Runs.{Step}
 use Rattle.world.specs.Texts.{mark_text, refusal_text, idle_text}
+use Rattle.printed.specs.Outputs.{left_by, steps_text}
 
 -- a printed line: a mark, or why an operation was not begun, or that a line of the schedule found nothing to do
 pub data Printed : Type 0 where
@@ -31,3 +36,10 @@ marks_in OfNothing = []
 abbrev pub printed_marks : List Printed → List Mark
 printed_marks [] = []
 printed_marks (line ∷ printed) = marks_in line ++ printed_marks printed
+
+-- The text of steps over the disk of a layout is that of printed lines, each a mark, a refusal or `idle`, and the marks among them are, in
+-- order, those of the world that the steps leave.
+pub record ArePrinted (layout : Layout) (steps : List Step) : Type 0 where
+  pub printed : List Printed
+  pub text_is : steps_text (coding layout) (first_world layout) steps ≡ printed_texts printed
+  pub marks_are : printed_marks printed ≡ (left_by layout steps).marks

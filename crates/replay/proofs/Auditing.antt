@@ -6,12 +6,14 @@ use Rattle.std.proofs.lemmas.Slice.Eq.{bytes_eq-Decides}
 use Rattle.fab_io.proofs.Content.{Appends-none}
 use Rattle.fab_base.specs.Layouts.{Layout}
 use Rattle.layout.specs.declared.faults.LayoutFault.{LayoutFault}
-use Rattle.layout.specs.Texts.{audited_layout_of}
+use Rattle.layout.specs.Texts.{layout_of, audited_layout_of}
+use Rattle.layout.proofs.Readers.{text_is_audited}
 use Rattle.lines.specs.Lines.{raw_lines, content}
 use Rattle.lines.specs.Reading.{ReadsSchedule}
 use Rattle.lines.proofs.Needs.{IsNeeded-map}
 use Rattle.transcript.specs.Transcripts.{text_of, text_behind}
 use Rattle.transcript.specs.Readings.{TextSoFar, TextReads}
+use Rattle.audit.specs.declared.findings.Finding.TheVariants.{Sound}
 use Rattle.audit.specs.declared.examining.AuditResult.{AuditResult}
 use Rattle.audit.specs.declared.examining.AuditResult.TheVariants.{Judged, BadForm, TooMany}
 use Rattle.audit.specs.Examining.{Examines, ExaminesLeft}
@@ -24,7 +26,8 @@ use Rattle.replay.specs.declared.audits.Audited.TheVariants.{NoLayout, LongLayou
 use Rattle.replay.specs.Inputs.{Input, Parted, TooLong, Endless, most_layout_bytes, input_of, IsInput}
 use Rattle.replay.specs.Readings.{ReadsPart, BehindSoFar}
 use Rattle.replay.specs.Replays.{is_word, status_of, MayGoOn, LeavesOpen}
-use Rattle.replay.specs.Audits.{AuditsWith, Audits, FindsAlone, FindsTold, EndsAudited, FindsLeft, FindsBehind, FindsIn, AuditPrints, AuditGoesOn, IsAuditDecided}
+use Rattle.replay.specs.AuditFindings.{AuditsWith, Audits, FindsAlone}
+use Rattle.replay.specs.Audits.{FindsTold, EndsAudited, FindsLeft, FindsBehind, FindsIn, AuditPrints, AuditGoesOn, IsAuditDecided}
 use Rattle.replay.proofs.Inputs.{input_of-parts, at_end}
 
 -- no word is both
@@ -49,8 +52,17 @@ finds_alone (Parted head lines) one other p q = with_alone (audited_layout_of he
 finds_alone TooLong one other p q = q ∙ sym p
 finds_alone Endless one other p q = q ∙ sym p
 
+-- so it is
 alone : (input : Input) (audited : Audited) → Audits input audited → FindsAlone input audited
 alone input audited p = record { finds = p; alone = λ other q. finds_alone input audited other p q }
+
+-- a sound text behind a layout that a run reads too
+pub sound_alone : (head : List ℕ) (layout : Layout) (lines : List (List ℕ)) → layout_of head ≡ Ok layout → Examines layout (text_of lines) (Judged Sound)
+    → FindsAlone (Parted head lines) (Examined (Judged Sound))
+sound_alone head layout lines is sound =
+    alone (Parted head lines) (Examined (Judged Sound))
+    (subst (λ (r : Result Layout LayoutFault). AuditsWith r lines (Examined (Judged Sound))) (sym (text_is_audited head layout is))
+    (Judged Sound, sound, refl))
 
 -- an input has no layout, and this is found of it
 pub told_alone : (source : Option (List ℕ)) (input : Input) (audited : Audited) → IsInput source input → Audits input audited → FindsTold source audited

@@ -4,7 +4,9 @@ use Rattle.std.proofs.lemmas.List.{map-append}
 use Rattle.std.specs.Io.KnownBytes.{IsAtEnd}
 use Rattle.lines.specs.Grammar.{line_of, line_of_tokens, form}
 use Rattle.lines.specs.Lines.{raw_lines, content}
-use Rattle.lines.specs.Reading.{Passes, BeginsLong}
+use Rattle.lines.specs.Reading.{Passes, BeginsLong, Says}
+use Rattle.lines.specs.declared.reader.NextLine.{NextLine}
+use Rattle.lines.specs.declared.reader.NextLine.TheVariants.{Whole, Last, Long, Ended}
 use Rattle.lines.proofs.LineLengths.{line_of-long}
 use Rattle.replay.specs.Turns.{AreLinesOf}
 
@@ -43,3 +45,11 @@ pub long_line : (left : Option (List ℕ)) → IfSome left (BeginsLong 70000)
     → (line : List ℕ) × (contents : List (List ℕ)) × AreLinesOf left (line ∷ contents) × (line_of line ≡ None)
 long_line None p = (120 ∷ [], [], tt, bad_example)
 long_line (Some x) (line, rest, e, over) = (content line, map content rest, ap (λ l. map content l) e, line_of-long (content line) over)
+
+-- what came next is not the end, so some line is left
+pub some_line : (left rest : Option (List ℕ)) (piece : NextLine) → Says 70000 left rest piece → (piece ≡ Ended → ⊥) → (line : List ℕ)
+    × (contents : List (List ℕ)) × AreLinesOf left (line ∷ contents)
+some_line left rest (Whole bytes) says more = let first = first_line left rest bytes says.1 in (content bytes, first.0, first.1)
+some_line left rest (Last bytes) says more = let first = first_line left rest bytes says.1 in (content bytes, first.0, first.1)
+some_line left rest Long says more = let long = long_line left says.1 in (long.0, long.1, long.2)
+some_line left rest Ended says more = absurd (more refl)

@@ -1,8 +1,9 @@
 -- What was printed of a whole schedule is strict.
-use Rattle.std.proofs.Common.{◌≡◌, ℕ, ◌+◌, ◌≤◌, Bool, true, false, List, [], ◌∷◌, ◌++◌, length, Option, Some, None, Result, Ok, inl, inr, refl, sym, ap, ◌∙◌, subst, append-nil}
+use Rattle.std.proofs.Common.{◌≡◌, ℕ, ◌+◌, ◌≤◌, Bool, true, false, List, [], ◌∷◌, ◌++◌, length, map, Option, Some, None, Result, Ok, inl, inr, refl, sym, ap, ◌∙◌, subst, append-nil}
 use Rattle.std.specs.Prelude.{nat_lt}
 use Rattle.lines.specs.declared.forms.Line.{Line}
 use Rattle.lines.specs.Grammar.{line_of}
+use Rattle.lines.specs.Lines.{raw_lines, content}
 use Rattle.fab_base.specs.Layouts.{Layout}
 use Rattle.protocol.specs.Views.{views_in}
 use Rattle.protocol.specs.Worlds.{World, first_world}
@@ -18,25 +19,35 @@ use Rattle.replay.specs.declared.endings.RunResult.TheVariants.{Whole, BadLine, 
 use Rattle.replay.specs.declared.endings.Halt.{Halt}
 use Rattle.replay.specs.Inputs.{Input, Parted}
 use Rattle.printed.specs.Outputs.{left_by, steps_text, closing_text, most_lines}
-use Rattle.printed.specs.Sound.{IsSoundText}
+use Rattle.printed.specs.Printed.{ArePrinted}
+use Rattle.printed.specs.LineSteps.{AreStepsOf}
+use Rattle.printed.specs.Sound.{ReadsBack, IsSoundText}
 use Rattle.printed.proofs.PrintedMarks.{schedule_printed}
-use Rattle.printed.proofs.Sound.{what_is_printed_audits}
+use Rattle.printed.proofs.Sound.{what_is_printed_reads_back, what_is_printed_audits}
 use Rattle.replay.specs.Outputs.{Output, onto, output_line, output_behind, output_of}
 use Rattle.replay.specs.LineSteps.{BeginsWith, AreStepsIn}
 use Rattle.replay.specs.Replays.{IsStrictWorld, IsLinearizable, StaysStrict}
 use Rattle.replay.proofs.OutputLines.{output_behind-end, output_of-steps}
 use Rattle.replay.proofs.Successions.{follows_steps}
+use Rattle.replay.proofs.Auditing.{sound_alone}
 
 -- the world that steps leave is strict
 strict_world : (layout : Layout) → IsLayout layout → (steps : List Step) → IsStrictWorld layout (left_by layout steps)
 strict_world layout is steps =
     let kept : Laws (coding layout) (views_in layout (left_by layout steps).packets) (left_by layout steps) =
     laws_of (record { layout = layout; steps = steps; disks = [] }) (coding_is_sound layout is) in
-    record { well_formed = kept.well_formed; strict = kept.strict; aborts_show = kept.aborts; laws = kept }
+    record { well_formed = kept.well_formed; words = kept.words; strict = kept.strict; aborts_show = kept.aborts; laws = kept }
 
--- however far a run comes, what its lines left is strict, and what further lines leave follows it
+-- the lines that the steps of a schedule print
+printed_steps : (layout : Layout) (schedule : List (List ℕ)) (steps : List Step) → AreStepsOf layout schedule steps → ArePrinted layout steps
+printed_steps layout schedule steps are =
+    let shown = schedule_printed layout schedule steps are in
+    record { printed = shown.printed; text_is = shown.text_is; marks_are = sym shown.marks_are }
+
+-- however far a run comes, what its lines left is printed and strict, and what further lines leave follows it
 pub stays_strict : (input : Input) → StaysStrict input
 stays_strict input = record {
+  are_printed = λ layout steps begins. printed_steps layout begins.schedule steps begins.steps_are;
   strict = λ layout steps begins. strict_world layout (accepted_is begins.head layout begins.layout_is) steps;
   follows = λ layout steps more begins. follows_steps layout (coding_is_sound layout (accepted_is begins.head layout begins.layout_is)) steps more;
 }
@@ -65,7 +76,6 @@ linearizable input steps ending all are whole =
     begun layout b few =
         let world : World = left_by layout steps in
         let text : List ℕ = steps_text (coding layout) (first_world layout) steps in
-        let shown = schedule_printed layout b.schedule steps b.steps_are in
         let same : output_of steps input ≡ onto text (output_behind layout world (length steps) b.rest) =
         ap (output_of steps) b.input_is ∙ output_of-steps b.head layout b.schedule b.rest steps b.layout_is b.steps_are.lines
         in
@@ -75,10 +85,10 @@ linearizable input steps ending all are whole =
         ∙ ap (λ (rest : List (List ℕ)). text ++ (output_behind layout world (length steps) rest).text) none
         ∙ ap (λ (o : Output). text ++ o.text) (output_behind-end layout world (length steps))
         in
+        let sound : IsSoundText layout (output_of steps input).text =
+        subst (IsSoundText layout) (sym text_is) (what_is_printed_audits b.head layout b.schedule steps b.layout_is b.steps_are few)
+        in
         record {
-          printed = shown.printed;
-          steps_text_is = shown.text_is;
-          marks_are = sym shown.marks_are;
           head = b.head;
           layout = layout;
           schedule = b.schedule;
@@ -89,6 +99,10 @@ linearizable input steps ending all are whole =
           steps_are = b.steps_are;
           world_is = refl;
           text_is = text_is;
+          are_printed = printed_steps layout b.schedule steps b.steps_are;
           is_strict = strict_world layout (accepted_is b.head layout b.layout_is) steps;
-          audits = subst (IsSoundText layout) (sym text_is) (what_is_printed_audits b.head layout b.schedule steps b.layout_is b.steps_are few);
+          reads_back = subst (λ (t : List ℕ). ReadsBack layout t world) (sym text_is)
+              (what_is_printed_reads_back b.head layout b.schedule steps b.layout_is b.steps_are few);
+          is_sound = sound;
+          audits = sound_alone b.head layout (map content (raw_lines (output_of steps input).text)) b.layout_is sound;
         }

@@ -26,6 +26,10 @@ use Rattle.replay.specs.LineSteps.{AreStepsIn}
 within : (n : ℕ) → n < most_lines → nat_lt n most_lines ≡ true
 within n h = grind (arith, nat_tests)
 
+-- a line past those
+past : (n : ℕ) → most_lines ≤ n → nat_lt n most_lines ≡ false
+past n h = grind (arith, nat_tests)
+
 -- no line is left
 pub output_behind-end : (layout : Layout) (w : World) (n : ℕ) → output_behind layout w n [] ≡ finished layout w n
 unfolding output_behind
@@ -120,10 +124,47 @@ none_ends TooLong one is = same_Some BadLayout one is
 none_ends Endless one is = same_Some BadLayout one is
 
 -- the end that a layout and a schedule call for
-verdict_of-text : (head : List ℕ) (layout : Layout) (schedule : List (List ℕ)) → layout_of head ≡ Ok layout
+pub verdict_of-text : (head : List ℕ) (layout : Layout) (schedule : List (List ℕ)) → layout_of head ≡ Ok layout
     → verdict_of (Parted head schedule) ≡ verdict_behind 0 schedule
 unfolding verdict_of
 verdict_of-text head layout schedule is = ap (λ (r : Result Layout LayoutFault). verdict_with r schedule) is
+
+-- the end that the text of no layout calls for
+pub verdict_of-fault : (head : List ℕ) (fault : LayoutFault) (schedule : List (List ℕ)) → layout_of head ≡ Err fault
+    → verdict_of (Parted head schedule) ≡ BadLayout
+unfolding verdict_of
+verdict_of-fault head fault schedule is = ap (λ (r : Result Layout LayoutFault). verdict_with r schedule) is
+
+-- and one that is too long, and no text of one
+pub verdict_of-long : verdict_of TooLong ≡ BadLayout
+unfolding verdict_of
+verdict_of-long = refl
+
+pub verdict_of-endless : verdict_of Endless ≡ BadLayout
+unfolding verdict_of
+verdict_of-endless = refl
+
+-- the end that the lines behind the first n call for: none is left
+pub verdict_behind-end : (n : ℕ) → verdict_behind n [] ≡ Whole
+unfolding verdict_behind
+verdict_behind-end n = refl
+
+-- the next is a line
+pub verdict_behind-line : (n : ℕ) (content : List ℕ) (contents : List (List ℕ)) (line : Line) → n < most_lines → line_of content ≡ Some line
+    → verdict_behind n (content ∷ contents) ≡ verdict_behind (n + 1) contents
+unfolding verdict_behind
+verdict_behind-line n content contents line few is = rw (within n few, is) refl
+
+-- it is none
+pub verdict_behind-bad : (n : ℕ) (content : List ℕ) (contents : List (List ℕ)) → n < most_lines → line_of content ≡ None
+    → verdict_behind n (content ∷ contents) ≡ BadLine (n + 1)
+unfolding verdict_behind
+verdict_behind-bad n content contents few is = rw (within n few, is) refl
+
+-- it is one too many
+pub verdict_behind-many : (n : ℕ) (content : List ℕ) (contents : List (List ℕ)) → most_lines ≤ n → verdict_behind n (content ∷ contents) ≡ TooManyLines
+unfolding verdict_behind
+verdict_behind-many n content contents all = rw (past n all) refl
 
 -- how an output ends is for the input alone to say
 pub verdict_alone : (input : Input) (steps : List Step) (ending : Result RunResult Halt) (one : RunResult) → AreStepsIn input steps ending

@@ -36,7 +36,7 @@ use Rattle.replay.proofs.HeadReading.{unread_more}
 use Rattle.replay.proofs.OutputLines.{output_behind-end, output_behind-bad, output_behind-many}
 use Rattle.replay.proofs.Steppings.{after_steps, leads_none, leads_one, leads_both, lines_both, steps_text-append}
 use Rattle.replay.proofs.Printing.{Prints-after, Prints-kept, Prints-nothing, Prints-same}
-use Rattle.replay.proofs.LeftLines.{some_lines, no_lines, taken_lines, first_line, long_line}
+use Rattle.replay.proofs.LeftLines.{some_lines, no_lines, taken_lines, first_line, long_line, some_line}
 
 -- no line was run: what was printed is what stands behind those that were
 PrintsRest-none : (run : Run) (n : ℕ) (left old new : Option (List ℕ)) (r : Result RunResult Halt) (behind : List (List ℕ)) → n ≤ most_lines
@@ -193,17 +193,10 @@ PrintsRest-long run n left old new r within long p =
 pub PrintsRest-many : (run : Run) (left rest old new : Option (List ℕ)) (piece : NextLine) (r : Result RunResult Halt) → Says 70000 left rest piece
     → (piece ≡ Ended → ⊥) → Prints old new too_many_lines r → PrintsRest run most_lines left old new r
 PrintsRest-many run left rest old new piece r says more p =
-    let (line, contents, are_lines) = a_line piece says more in
+    let (line, contents, are_lines) = some_line left rest piece says more in
     PrintsRest-none run most_lines left old new r (line ∷ contents) (omega arith) are_lines
     (Prints-same old new r (output_behind run.layout (world_of run) most_lines (line ∷ contents)) too_many_lines
     (output_behind-many run.layout (world_of run) line contents) p)
-  where
-    a_line : (piece : NextLine) → Says 70000 left rest piece → (piece ≡ Ended → ⊥) → (line : List ℕ) × (contents : List (List ℕ))
-        × AreLinesOf left (line ∷ contents)
-    a_line (Whole bytes) says more = let first = first_line left rest bytes says.1 in (content bytes, first.0, first.1)
-    a_line (Last bytes) says more = let first = first_line left rest bytes says.1 in (content bytes, first.0, first.1)
-    a_line Long says more = let long = long_line left says.1 in (long.0, long.1, long.2)
-    a_line Ended says more = absurd (more refl)
 
 -- what came next is a line, of which the output is this, whatever stands behind it
 pub PieceMeans-line : (run : Run) (n : ℕ) (piece : NextLine) (line : List ℕ) (old new : Option (List ℕ)) (r : Result RunResult Halt)

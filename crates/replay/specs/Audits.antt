@@ -6,16 +6,14 @@ use Rattle.fab_io.specs.Ends.{AppendsFront}
 use Rattle.lines.specs.Lines.{raw_lines, content}
 use Rattle.lines.specs.Reading.{IsBegun}
 use Rattle.fab_base.specs.Layouts.{Layout}
-use Rattle.layout.specs.declared.faults.LayoutFault.{LayoutFault}
 use Rattle.layout.specs.Names.{fault_text}
 use Rattle.layout.specs.Texts.{audited_layout_of}
 use Rattle.transcript.specs.Forms.{most_line_bytes}
-use Rattle.transcript.specs.Transcripts.{text_of}
 use Rattle.transcript.specs.Readings.{LeadsOn}
 use Rattle.audit.specs.declared.findings.Finding.TheVariants.{Sound, BadMarks, BadStripe, BadCount}
 use Rattle.audit.specs.declared.examining.AuditResult.{AuditResult}
 use Rattle.audit.specs.declared.examining.AuditResult.TheVariants.{Judged, BadForm, TooMany}
-use Rattle.audit.specs.Examining.{Examines, EndsJudged}
+use Rattle.audit.specs.Examining.{EndsJudged}
 use Rattle.world.specs.Texts.{newline}
 use Rattle.replay.specs.declared.endings.RunResult.{RunResult}
 use Rattle.replay.specs.declared.endings.RunResult.TheVariants.{Whole, BadLayout, BadLine, TooManyLines, Refuted}
@@ -23,8 +21,9 @@ use Rattle.replay.specs.declared.endings.Halt.{Halt}
 use Rattle.replay.specs.declared.endings.Halt.TheVariants.{Source, Sink, Memory}
 use Rattle.replay.specs.declared.audits.Audited.{Audited}
 use Rattle.replay.specs.declared.audits.Audited.TheVariants.{NoLayout, LongLayout, NoEnd, Examined}
-use Rattle.replay.specs.Inputs.{Input, Parted, TooLong, Endless, input_of}
+use Rattle.replay.specs.Inputs.{input_of}
 use Rattle.replay.specs.Outputs.{bad_layout, bad_line, too_many_lines}
+use Rattle.replay.specs.AuditFindings.{AuditsWith, FindsAlone}
 use Rattle.replay.specs.Replays.{is_word, status_of, ReadsAsNeeded, FailedSource}
 
 -- the words are the one word `audit`
@@ -61,22 +60,6 @@ audited_end (NoLayout fault) = BadLayout
 audited_end LongLayout = BadLayout
 audited_end NoEnd = BadLayout
 audited_end (Examined found) = end_of_verdict found
-
--- what an audit finds of the lines behind a layout's text: why that is no layout, or what is found of them under the layout
-abbrev pub AuditsWith : Result Layout LayoutFault → List (List ℕ) → Audited → Type 0
-AuditsWith (Err fault) lines audited = audited ≡ NoLayout fault
-AuditsWith (Ok layout) lines audited = (found : AuditResult) × Examines layout (text_of lines) found × (audited ≡ Examined found)
-
--- what an audit finds of an input
-abbrev pub Audits : Input → Audited → Type 0
-Audits (Parted head lines) audited = AuditsWith (audited_layout_of head) lines audited
-Audits TooLong audited = audited ≡ LongLayout
-Audits Endless audited = audited ≡ NoEnd
-
--- an audit finds this of an input, and nothing else
-pub record FindsAlone (input : Input) (audited : Audited) : Type 0 where
-  pub finds : Audits input audited
-  pub alone : (other : Audited) → Audits input other → other ≡ audited
 
 -- the same of what a source tells of its bytes
 abbrev pub FindsTold : Option (List ℕ) → Audited → Type 0

@@ -1,21 +1,24 @@
 -- What the program `replay` promises: how it answers its words, what it prints of an input, and that what it
 -- prints is strict.
-use Rattle.std.specs.Prelude.{◌≡◌, ℕ, ◌⊎◌, Bool, false, List, [], ◌∷◌, ◌++◌, ◌≤◌, length, ⊤, codes, Option, Some, None, Result, Ok, Err}
+use Rattle.std.specs.Prelude.{◌≡◌, ℕ, ◌⊎◌, Bool, false, List, [], ◌∷◌, ◌++◌, ◌≤◌, length, map, ⊤, codes, Option, Some, None, Result, Ok, Err}
 use Rattle.std.specs.List.{concat}
 use Rattle.std.specs.Str.{bytes_eq}
 use Rattle.std.specs.Io.KnownBytes.{Appends, Consumes, IsAtEnd}
 use Rattle.fab_io.specs.Ends.{AppendsFront}
 use Rattle.reg_model.specs.Marks.{stripe_marks, IsWellFormed}
 use Rattle.reg_model.specs.Strict.{IsStrict}
-use Rattle.lines.specs.Lines.{whole_lines, begun_line}
+use Rattle.lines.specs.Lines.{raw_lines, content, whole_lines, begun_line}
 use Rattle.lines.specs.Reading.{IsBegun}
 use Rattle.fab_base.specs.Layouts.{Layout, Group, group_of}
 use Rattle.protocol.specs.Views.{views_in}
 use Rattle.protocol.specs.Worlds.{World, first_world}
 use Rattle.protocol.specs.Happenings.{happenings_of}
 use Rattle.protocol_laws.specs.Laws.{AbortsShow, Laws}
+use Rattle.protocol_laws.specs.Marked.{WordsFit}
 use Rattle.stripe_code.specs.Codes.{coding}
 use Rattle.layout.specs.Texts.{layout_of}
+use Rattle.audit.specs.declared.findings.Finding.TheVariants.{Sound}
+use Rattle.audit.specs.declared.examining.AuditResult.TheVariants.{Judged}
 use Rattle.world.specs.Runs.{Step}
 use Rattle.world.specs.Texts.{newline}
 use Rattle.replay.specs.declared.endings.RunResult.{RunResult}
@@ -27,9 +30,11 @@ use Rattle.printed.specs.Outputs.{left_by, closing_text, steps_text, most_lines}
 use Rattle.replay.specs.Outputs.{output_of, verdict_of}
 use Rattle.printed.specs.LineSteps.{AreStepsOf}
 use Rattle.replay.specs.LineSteps.{BeginsWith, AreStepsIn}
-use Rattle.printed.specs.Sound.{IsSoundText}
-use Rattle.printed.specs.Printed.{Printed, printed_texts, printed_marks}
+use Rattle.printed.specs.Sound.{ReadsBack, IsSoundText}
+use Rattle.printed.specs.Printed.{ArePrinted}
 use Rattle.replay.specs.Turns.{Prints}
+use Rattle.replay.specs.declared.audits.Audited.TheVariants.{Examined}
+use Rattle.replay.specs.AuditFindings.{FindsAlone}
 use Rattle.replay.specs.Histories.{Succeeds}
 
 -- the words are this one word
@@ -63,11 +68,12 @@ abbrev pub Refuses : Option (List ℕ) → Option (List ℕ) → ℕ → Type 0
 Refuses old new status =
     ((status ≡ 2) × Appends old new usage_text) ⊎ (((status ≡ 6) ⊎ (status ≡ 7)) × AppendsFront old new usage_text)
 
--- What lines left is strict: the marks are well formed, the happenings of each stripe are strict for its
--- marks, and every abort shows its evidence. Beside these all laws of the disk hold of it, for the members that its
--- messages teach.
+-- What lines left is strict: the marks are well formed, and each answer has the word of its operation; the happenings of each stripe are
+-- strict for its marks; and every abort shows its evidence. Beside these all laws of the disk hold of it, for the members that its messages
+-- teach.
 pub record IsStrictWorld (layout : Layout) (world : World) : Type 0 where
   pub well_formed : IsWellFormed world.marks
+  pub words : WordsFit layout world.marks
   pub strict : (g s : ℕ) (group : Group) → group_of layout g ≡ Some group
       → IsStrict group.m layout.block (stripe_marks g s world.marks) (happenings_of world g s)
   pub aborts_show : AbortsShow world
@@ -75,7 +81,8 @@ pub record IsStrictWorld (layout : Layout) (world : World) : Type 0 where
 
 -- What was printed is strict. The input has a layout and a schedule, and there is a step for each line of the schedule; the text is
 -- that of the steps and then the happenings of each stripe in the world that they leave, which is strict. Each
--- line of their text is a mark, a refusal or `idle`, and the marks among them are, in order, those of that world.
+-- line of their text is a mark, a refusal or `idle`, and the marks among them are, in order, those of that world. Read as anyone may read
+-- it, the text says just these marks and happenings, and an audit of it behind the layout's text finds it sound, and nothing else.
 pub record IsLinearizable (input : Input) (text : List ℕ) : Type 0 where
   pub head : List ℕ
   pub layout : Layout
@@ -86,17 +93,19 @@ pub record IsLinearizable (input : Input) (text : List ℕ) : Type 0 where
   pub layout_is : layout_of head ≡ Ok layout
   pub steps_are : AreStepsOf layout schedule steps
   pub world_is : world ≡ left_by layout steps
-  pub printed : List Printed
   pub text_is : text ≡ steps_text (coding layout) (first_world layout) steps ++ closing_text layout world (length steps)
-  pub steps_text_is : steps_text (coding layout) (first_world layout) steps ≡ printed_texts printed
-  pub marks_are : printed_marks printed ≡ world.marks
+  pub are_printed : ArePrinted layout steps
   pub is_strict : IsStrictWorld layout world
-  -- a field, and no clause beside this record: the text is pinned here already
-  pub audits : IsSoundText layout text
+  -- fields, and no clauses beside this record: the text is pinned here already
+  pub reads_back : ReadsBack layout text world
+  pub is_sound : IsSoundText layout text
+  pub audits : FindsAlone (Parted head (map content (raw_lines text))) (Examined (Judged Sound))
 
--- However far a run comes, what its steps left by then is strict, and what further steps leave follows it: no
--- brick takes anything below what it took nothing below, and no version that was lost has surfaced.
+-- However far a run comes, the lines of the text of its steps are marks, refusals or `idle`, the marks being those that they left by then.
+-- What they left is strict, and what further steps leave follows it: no brick takes anything below what it took nothing below, and no
+-- version that was lost has surfaced.
 pub record StaysStrict (input : Input) : Type 0 where
+  pub are_printed : (layout : Layout) (steps : List Step) → BeginsWith input layout steps → ArePrinted layout steps
   pub strict : (layout : Layout) (steps : List Step) → BeginsWith input layout steps → IsStrictWorld layout (left_by layout steps)
   pub follows : (layout : Layout) (steps more : List Step) → BeginsWith input layout (steps ++ more)
       → Succeeds layout (left_by layout steps) (left_by layout (steps ++ more))

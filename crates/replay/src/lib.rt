@@ -15,4 +15,5 @@ mod turns;
 pub use endings::{Halt, RunResult, status_of};
 pub use heads::{Head, read_head};
 pub use programs::{is_word, replay};
+pub use schedules::is_memory;
 pub use turns::{MOST_LINES, next, write};

@@ -38,11 +38,13 @@ use std::alloc::Global;
 /// for its marks, `IsStrict` (`specs/Strict.antt` of `reg_model`). The schedules that are accepted are those
 /// that end with status 0.
 ///
-/// What is printed at status 0 is a text that an audit finds sound under the input's layout (`IsSoundText`, `specs/Sound.antt` of
-/// `printed`): read as anyone may read it, it says just the marks and happenings that it was printed from.
+/// What is printed at status 0, read as anyone may read it, says just the marks and happenings that it was printed from (`ReadsBack`,
+/// `specs/Sound.antt` of `printed`), and an audit of it behind the input's layout answers `audit ok`, and nothing else (`FindsAlone`,
+/// `specs/AuditFindings.antt`).
 ///
 /// At every status the steps that were run are those of the first lines of the input (`AreStepsIn`, `specs/LineSteps.antt`), and
-/// what is printed is their texts and then what the lines behind them end it with.
+/// what is printed is their texts and then what the lines behind them end it with. Their texts are marks, refusals and `idle`, and the marks
+/// are those of the world that they leave (`ArePrinted`, `specs/Printed.antt` of `printed`).
 ///
 /// What comes first in the input decides: no read is made once what was read holds a line that is none, a line past
 /// 70,000 bytes, a layout that is none, or a line too many (`ReadsAsNeeded` and `FailedSource`, `specs/Replays.antt`).
@@ -73,21 +75,14 @@ pub fn replay<S: Source, K: Sink>(
     // Words that are neither the one word `run` nor the one word `audit`: nothing is read.
     ensures words { asks_run (map string_bytes words.now) ≡ false → asks_audit (map string_bytes words.now) ≡ false
         → Refuses (K.told sink.old) (K.told sink.new) result × (source.new ≡ source.old) }
-
-    // The one word `run`.
     ensures run { asks_run (map string_bytes words.now) ≡ true
         → RunEnds (S.told source.old) (S.told source.new) (S.came source.new) (K.told sink.old) (K.told sink.new) result }
-
-    // The one word `audit`.
     ensures audit { asks_audit (map string_bytes words.now) ≡ true
         → AuditEnds (S.told source.old) (S.told source.new) (S.came source.new) (K.told sink.old) (K.told sink.new) result }
-
     // A failure comes only where that end's count of faults rose, and never from a sound end.
     ensures source { Kept (S.faults source.old) (S.faults source.new) (S.sound source.old) (S.sound source.new) (result ≡ 5) }
     ensures sink { Kept (K.faults sink.old) (K.faults sink.new) (K.sound sink.old) (K.sound sink.new) (result ≡ 6) }
-
-    // Over sound ends a run, or an audit, answers what the input alone calls for, as 0 for a legal one, or that memory was
-    // lacking.
+    // Over sound ends a run, or an audit, answers what the input alone calls for, as 0 for a legal one, or that memory was lacking.
     ensures decided { asks_run (map string_bytes words.now) ≡ true → S.sound source.old → K.sound sink.old
         → IsDecided (S.told source.old) result }
     ensures audit_decided { asks_audit (map string_bytes words.now) ≡ true → S.sound source.old → K.sound sink.old

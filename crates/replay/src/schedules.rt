@@ -62,7 +62,7 @@ fn refuse_layout<K: Sink>(
 }
 
 /// Whether a layout was not read for want of memory.
-pub(crate) fn is_memory(fault: &LayoutFault) -> bool
+pub fn is_memory(fault: &LayoutFault) -> bool
     ensures { result ≡ false → fault.now ≢ LayoutFault.NoMemory }
 {
     match fault {
