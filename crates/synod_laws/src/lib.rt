@@ -1,4 +1,4 @@
-//! The law of agreement on one value by ballots, promises and votes, and its proof. It speaks of no message, and nothing of the program cites it yet.
+//! The law of agreement on one value by ballots, promises and votes, and its proof. It speaks of no message. `view_synod` cites it.
 #![tactic(auto)]
 
 pub mod laws;
