@@ -39,20 +39,20 @@ ok_err : {A B : Type 0} (r : Result A B) (a : A) (b : B) → r ≡ Ok a → r �
 ok_err r a b is same = cc
 
 -- what the source that was read tells is the text that is held
-text_said : {S D L C : Type 0} (told : S → Option (List ℕ)) (h n : Holdings S D L C) (source : List ℕ) (layout : Layout) (opened back : S)
+text_said : {S D L N C : Type 0} (told : S → Option (List ℕ)) (h n : Holdings S D L N C) (source : List ℕ) (layout : Layout) (opened back : S)
     (P : List ℕ → Type 0) → ReturnsSource source opened back h n → (m : HoldsLayout told h source layout) → IfSome (told opened) P → P m.text
 text_said told h n source layout opened back P r m said =
     subst (λ (o : Option (List ℕ)). IfSome o P) (ap told (here_same (h.sources source) opened m.opened r.was m.held) ∙ m.tells) said
 
 -- and the layout is the one that is found
-pub layout_same : {S D L C : Type 0} (told : S → Option (List ℕ)) (h n : Holdings S D L C) (source : List ℕ) (layout found : Layout)
+pub layout_same : {S D L N C : Type 0} (told : S → Option (List ℕ)) (h n : Holdings S D L N C) (source : List ℕ) (layout found : Layout)
     (opened back : S) → ReturnsSource source opened back h n → (m : HoldsLayout told h source layout) → IfSome (told opened) (Says (Ok found))
     → layout ≡ found
 layout_same told h n source layout found opened back r m said =
     ok_same (layout_of m.text) layout found m.says.1 (text_said told h n source layout opened back (Says (Ok found)) r m said).1
 
 -- the name of a disk is free still
-free_still : {S D L C : Type 0} (h n : Holdings S D L C) (source disk : List ℕ) (opened back : S) → ReturnsSource source opened back h n
+free_still : {S D L N C : Type 0} (h n : Holdings S D L N C) (source disk : List ℕ) (opened back : S) → ReturnsSource source opened back h n
     → IsFree h disk → IsFree n disk
 free_still h n source disk opened back r free =
     (r.others disk apart ∙ free.0, ap (λ d. d disk) r.disks ∙ free.1)
@@ -66,7 +66,7 @@ free_still h n source disk opened back r free =
         ]
 
 -- a disk, the link and the clock are held still
-disk_still : {S D L C : Type 0} (tells : Type 0) (seen : D → List ℕ) (layout : Layout) (me : BrickId) (h n : Holdings S D L C) (source name : List ℕ)
+disk_still : {S D L N C : Type 0} (tells : Type 0) (seen : D → List ℕ) (layout : Layout) (me : BrickId) (h n : Holdings S D L N C) (source name : List ℕ)
     (opened back : S) → ReturnsSource source opened back h n → HasDisk tells seen layout me name h → HasDisk tells seen layout me name n
 disk_still tells seen layout me h n source name opened back r has = record {
   disk = has.disk;
@@ -79,22 +79,22 @@ disk_still tells seen layout me h n source name opened back r has = record {
 }
 
 -- a layout is held
-abbrev IsHeld : {S D L C : Type 0} → (S → Option (List ℕ)) → List ℕ → Holdings S D L C → Type 0
+abbrev IsHeld : {S D L N C : Type 0} → (S → Option (List ℕ)) → List ℕ → Holdings S D L N C → Type 0
 IsHeld told source h = (layout : Layout) × HoldsLayout told h source layout
 
-held_by : {S D L C : Type 0} (told : S → Option (List ℕ)) (tells : Type 0) (seen : D → List ℕ) (h : Holdings S D L C) (source name : List ℕ) (work : Work)
+held_by : {S D L N C : Type 0} (told : S → Option (List ℕ)) (tells : Type 0) (seen : D → List ℕ) (h : Holdings S D L N C) (source name : List ℕ) (work : Work)
     → MayDo told tells seen h source name work → IsHeld told source h
 held_by told tells seen h source name (Format id) m = (m.layout, m.holds)
 held_by told tells seen h source name (Serve id turns) m = (m.layout, m.holds)
 held_by told tells seen h source name (Local turns) m = (m.layout, m.holds)
 
-has_held : {S D L C : Type 0} (told : S → Option (List ℕ)) (tells : Type 0) (seen : D → List ℕ) (holds : Option (Holdings S D L C)) (source name : List ℕ)
+has_held : {S D L N C : Type 0} (told : S → Option (List ℕ)) (tells : Type 0) (seen : D → List ℕ) (holds : Option (Holdings S D L N C)) (source name : List ℕ)
     (work : Work) → MayRun told tells seen holds (Some (record { layout = source; name = name; work = work })) → Has holds (IsHeld told source)
 has_held told tells seen None source name work m = m
 has_held told tells seen (Some h) source name work m = held_by told tells seen h source name work m
 
 -- a source that is held says a layout, and no fault
-no_fault : {S D L C : Type 0} (told : S → Option (List ℕ)) (holds now : Option (Holdings S D L C)) (source : List ℕ) (opened back : S) (P : List ℕ → Type 0)
+no_fault : {S D L N C : Type 0} (told : S → Option (List ℕ)) (holds now : Option (Holdings S D L N C)) (source : List ℕ) (opened back : S) (P : List ℕ → Type 0)
     → Told holds now (ReturnsSource source opened back) → Has holds (IsHeld told source) → IfSome (told opened) P
     → ((text : List ℕ) (layout : Layout) → Says (Ok layout) text → P text → ⊥) → ⊥
 no_fault told None now source opened back P r has said apart = has
@@ -103,7 +103,7 @@ no_fault told (Some h) (Some n) source opened back P r has said apart =
     apart has.1.text has.0 has.1.says (text_said told h n source has.0 opened back P r has.1 said)
 
 -- so it is found, or memory was lacking
-pub found_done : {S D L C : Type 0} (told : S → Option (List ℕ)) (tells : Type 0) (seen : D → List ℕ) (failed : S → ℕ) (before after : HostSeen S D L C)
+pub found_done : {S D L N C : Type 0} (told : S → Option (List ℕ)) (tells : Type 0) (seen : D → List ℕ) (failed : S → ℕ) (before after : HostSeen S D L N C)
     (source name : List ℕ) (work : Work) (ending : Ending) → FindsLayout told failed before after source (Err ending)
     → MayRun told tells seen before.holds (Some (record { layout = source; name = name; work = work }))
     → ending ≢ Source → (ending ≡ Host → WhereTold before.holds (λ h. IsMissing (h.sources source))) → IsDone ending
@@ -139,8 +139,8 @@ brick_found layout id has none = absurd (some_none (rw (lt-ltb id layout.bricks 
     some_none e = cc
 
 -- a brick that is there, on a fresh name, is formatted
-made_done : {S D L C : Type 0} (tells : Type 0) (seen : D → List ℕ) (may_leave : D → List ℕ → Type 0) (failed : D → ℕ) (layout : Layout) (me : Option BrickId)
-    (before after : HostSeen S D L C) (name : List ℕ) (ending : Ending) → FormatsBrick tells seen may_leave failed layout me before after name ending
+made_done : {S D L N C : Type 0} (tells : Type 0) (seen : D → List ℕ) (may_leave : D → List ℕ → Type 0) (failed : D → ℕ) (layout : Layout) (me : Option BrickId)
+    (before after : HostSeen S D L N C) (name : List ℕ) (ending : Ending) → FormatsBrick tells seen may_leave failed layout me before after name ending
     → (me ≡ None → ⊥) → ending ≢ Disk → (ending ≡ Host → WhereTold before.holds (λ h. ¬ (IsFree h name)))
     → Has before.holds (λ h. IsFree h name) → IsDone ending
 made_done tells seen may_leave failed layout None before after name ending f some not_disk taken free = absurd (some refl)
@@ -160,7 +160,7 @@ made_done tells seen may_leave failed layout (Some me) before after name NotASto
 made_done tells seen may_leave failed layout (Some me) before after name Worn f some not_disk taken free = absurd f
 
 -- once the layout was found, the brick is there and the disk's name is free
-may_format : {S D L C : Type 0} (told : S → Option (List ℕ)) (tells : Type 0) (seen : D → List ℕ) (holds now : Option (Holdings S D L C))
+may_format : {S D L N C : Type 0} (told : S → Option (List ℕ)) (tells : Type 0) (seen : D → List ℕ) (holds now : Option (Holdings S D L N C))
     (source name : List ℕ) (id : ℕ) (found : Layout) (opened back : S) → Told holds now (ReturnsSource source opened back)
     → IfSome (told opened) (Says (Ok found)) → MayRun told tells seen holds (Some (record { layout = source; name = name; work = Format id }))
     → (id < found.bricks) × Has now (λ h. IsFree h name)
@@ -171,8 +171,8 @@ may_format told tells seen (Some h) (Some n) source name id found opened back r 
   free_still h n source name opened back r m.free,
 )
 
-pub format_done : {S D L C : Type 0} (told : S → Option (List ℕ)) (tells : Type 0) (seen : D → List ℕ) (source_failed : S → ℕ)
-    (may_leave : D → List ℕ → Type 0) (failed : D → ℕ) (before between after : HostSeen S D L C) (source name : List ℕ) (work : Work) (id : ℕ)
+pub format_done : {S D L N C : Type 0} (told : S → Option (List ℕ)) (tells : Type 0) (seen : D → List ℕ) (source_failed : S → ℕ)
+    (may_leave : D → List ℕ → Type 0) (failed : D → ℕ) (before between after : HostSeen S D L N C) (source name : List ℕ) (work : Work) (id : ℕ)
     (found : Layout) (ending : Ending) → work ≡ Format id → ReadsSource told source_failed before between source (Ok found)
     → MayRun told tells seen before.holds (Some (record { layout = source; name = name; work = work }))
     → FormatsBrick tells seen may_leave failed found (brick_of found id) between after name ending → ending ≢ Disk
@@ -183,7 +183,7 @@ format_done told tells seen source_failed may_leave failed before between after 
     made_done tells seen may_leave failed found (brick_of found id) between after name ending formats (brick_found found id may.0) not_disk taken may.1
 
 -- and the brick is there, with its store, its link and the clock
-may_serve : {S D L C : Type 0} (told : S → Option (List ℕ)) (tells : Type 0) (seen : D → List ℕ) (holds now : Option (Holdings S D L C))
+may_serve : {S D L N C : Type 0} (told : S → Option (List ℕ)) (tells : Type 0) (seen : D → List ℕ) (holds now : Option (Holdings S D L N C))
     (source name : List ℕ) (id turns : ℕ) (found : Layout) (opened back : S) → Told holds now (ReturnsSource source opened back)
     → IfSome (told opened) (Says (Ok found)) → MayRun told tells seen holds (Some (record { layout = source; name = name; work = Serve id turns }))
     → (id < found.bricks) × Has now (HasDisk tells seen found (record { 0 = id }) name)
@@ -196,8 +196,8 @@ may_serve told tells seen (Some h) (Some n) source name id turns found opened ba
           (subst (λ (l : Layout). HasDisk tells seen l (record { 0 = id }) name h) same m.store),
     )
 
-pub serve_goes : {S D L C : Type 0} (told : S → Option (List ℕ)) (tells : Type 0) (seen : D → List ℕ) (source_failed : S → ℕ)
-    (before between : HostSeen S D L C) (source name : List ℕ) (work : Work) (id turns : ℕ) (found : Layout) → work ≡ Serve id turns
+pub serve_goes : {S D L N C : Type 0} (told : S → Option (List ℕ)) (tells : Type 0) (seen : D → List ℕ) (source_failed : S → ℕ)
+    (before between : HostSeen S D L N C) (source name : List ℕ) (work : Work) (id turns : ℕ) (found : Layout) → work ≡ Serve id turns
     → ReadsSource told source_failed before between source (Ok found)
     → MayRun told tells seen before.holds (Some (record { layout = source; name = name; work = work }))
     → (id < found.bricks) × Has between.holds (HasDisk tells seen found (record { 0 = id }) name)
@@ -206,7 +206,7 @@ serve_goes told tells seen source_failed before between source name work id turn
     (subst (λ (w : Work). MayRun told tells seen before.holds (Some (record { layout = source; name = name; work = w }))) is m)
 
 -- the disk that was lent may be started, and the link and the clock are held still
-pub lent_starts : {S D L C : Type 0} (tells : Type 0) (seen : D → List ℕ) (layout : Layout) (me : BrickId) (before after : Option (Holdings S D L C))
+pub lent_starts : {S D L N C : Type 0} (tells : Type 0) (seen : D → List ℕ) (layout : Layout) (me : BrickId) (before after : Option (Holdings S D L N C))
     (name : List ℕ) (thing : D) → Told before after (λ h now. (h.disks name ≡ here thing) × (now ≡ with_disk h name lent))
     → Has before (HasDisk tells seen layout me name)
     → MayStart tells seen layout me thing × Has after (HasLink (port_of (ports_of layout) me))
@@ -218,13 +218,13 @@ lent_starts tells seen layout me (Some h) (Some n) name thing (is, now) has = (
 )
 
 -- a disk that is held is there to be lent
-pub disk_there : {S D L C : Type 0} (tells : Type 0) (seen : D → List ℕ) (layout : Layout) (me : BrickId) (name : List ℕ) (h : Holdings S D L C)
+pub disk_there : {S D L N C : Type 0} (tells : Type 0) (seen : D → List ℕ) (layout : Layout) (me : BrickId) (name : List ℕ) (h : Holdings S D L N C)
     → HasDisk tells seen layout me name h → IsMissing (h.disks name) → ⊥
 disk_there tells seen layout me name h has gone = here_missing (h.disks name) has.disk has.held gone
 
 -- once the link was lent the clock is there
-pub link_clock : {S D L C : Type 0} (before mid : Option (Holdings S D L C)) (port : ℕ) (thing : L) → Told before mid (λ h now. (h.links port ≡ here thing) × (now ≡ with_link h port lent))
+pub link_clock : {S D L N C : Type 0} (before mid : Option (Holdings S D L N C)) (port : ℕ) (thing : L) → Told before mid (λ h now. (h.links port ≡ here thing) × (now ≡ with_link h port lent))
     → Has before (HasLink port) → Has mid HasClock
-link_clock {S} {D} {L} {C} before mid port thing lends has =
-    has_after {P = λ (h now : Holdings S D L C). (h.links port ≡ here thing) × (now ≡ with_link h port lent)} {Q = HasLink port} {R = HasClock} before mid lends has
+link_clock {S} {D} {L} {N} {C} before mid port thing lends has =
+    has_after {P = λ (h now : Holdings S D L N C). (h.links port ≡ here thing) × (now ≡ with_link h port lent)} {Q = HasLink port} {R = HasClock} before mid lends has
     (λ h now p q. λ missing. q.clock (subst IsMissing (ap (λ z. z.clock) p.1) missing))

@@ -16,7 +16,7 @@ use Rattle.brick.specs.Formats.{IsFresh}
 use Rattle.brick.specs.Layouts.{ReadsSource, FindsLayout, brick_of}
 
 -- a source that was read is one way to find a layout, or none
-pub found : {S D L C : Type 0} (told : S → Option (List ℕ)) (failed : S → ℕ) (before after : HostSeen S D L C) (name : List ℕ) (result : Result Layout Ending)
+pub found : {S D L N C : Type 0} (told : S → Option (List ℕ)) (failed : S → ℕ) (before after : HostSeen S D L N C) (name : List ℕ) (result : Result Layout Ending)
     → ReadsSource told failed before after name result → FindsLayout told failed before after name result
 found told failed before after name (Ok layout) r = r
 found told failed before after name (Err (Formatted me)) r = r
@@ -45,7 +45,7 @@ fresh seen may_leave layout me disk block records blocks are stands leaves = rec
 }
 
 -- a layout that was not found is no fault of the sink
-pub found_not_sink : {S D L C : Type 0} (told : S → Option (List ℕ)) (failed : S → ℕ) (before after : HostSeen S D L C) (name : List ℕ) (ending : Ending)
+pub found_not_sink : {S D L N C : Type 0} (told : S → Option (List ℕ)) (failed : S → ℕ) (before after : HostSeen S D L N C) (name : List ℕ) (ending : Ending)
     → FindsLayout told failed before after name (Err ending) → status_of ending ≡ 6 → ⊥
 found_not_sink told failed before after name (Formatted me) f e = absurd f.gives
 found_not_sink told failed before after name (Ended turns malformed) f e = absurd f.gives

@@ -7,8 +7,8 @@ use Rattle.brick.specs.Hosts.{HostSeen}
 use Rattle.brick.specs.Locals.{disk_name, HostsByClock, HostsByDisk, HostsBricks, HostsFrom}
 use Rattle.brick.specs.Views.{Views}
 
-module _ {S D L C : Type 0} (told : S → Option (List ℕ)) (failed : S → ℕ) (v : Views D L C) (layout : Layout) (prefix : List ℕ) (turns : ℕ)
-    (out said : Option (List ℕ)) (ending : Ending) (id : ℕ) (bricks bricks_after : List (Hosted D L)) (before after : HostSeen S D L C) where
+module _ {S D L N C : Type 0} (told : S → Option (List ℕ)) (failed : S → ℕ) (v : Views D L C) (layout : Layout) (prefix : List ℕ) (turns : ℕ)
+    (out said : Option (List ℕ)) (ending : Ending) (id : ℕ) (bricks bricks_after : List (Hosted D L)) (before after : HostSeen S D L N C) where
   -- one that is there, and those behind it
   pub from_next : id < layout.bricks → HostsByDisk v layout (record { 0 = id }) (disk_name prefix (record { 0 = id }))
       (HostsFrom told failed v layout prefix turns out said ending (id + 1)) before after bricks bricks_after out said ending
@@ -29,8 +29,8 @@ module _ {S D L C : Type 0} (told : S → Option (List ℕ)) (failed : S → ℕ
       count = omega (arith, past)
 
 -- all
-pub from_first : {S D L C : Type 0} (told : S → Option (List ℕ)) (failed : S → ℕ) (v : Views D L C) (layout : Layout) (prefix : List ℕ) (turns : ℕ)
-    (out said : Option (List ℕ)) (ending : Ending) (bricks bricks_after : List (Hosted D L)) (before after : HostSeen S D L C)
+pub from_first : {S D L N C : Type 0} (told : S → Option (List ℕ)) (failed : S → ℕ) (v : Views D L C) (layout : Layout) (prefix : List ℕ) (turns : ℕ)
+    (out said : Option (List ℕ)) (ending : Ending) (bricks bricks_after : List (Hosted D L)) (before after : HostSeen S D L N C)
     → HostsFrom told failed v layout prefix turns out said ending 0 bricks bricks_after before after
     → HostsBricks told failed v layout prefix turns out said ending layout.bricks 0 bricks bricks_after before after
 from_first told failed v layout prefix turns out said ending bricks bricks_after before after done =

@@ -12,7 +12,7 @@ stays : {T : Type 0} (held : List ℕ → Held T) (name other : List ℕ) (now :
 stays held name other now miss = rw miss refl
 
 -- a source was lent, and is here again
-pub source_returned : {S D L C : Type 0} (E : Type 0) (before between after : Option (Holdings S D L C)) (name : List ℕ) (opened back : S)
+pub source_returned : {S D L N C : Type 0} (E : Type 0) (before between after : Option (Holdings S D L N C)) (name : List ℕ) (opened back : S)
     → Lends {E = E} before between (λ h source. h.sources name ≡ here source) (λ h. with_source h name lent) (Ok opened)
     → Regains between after (λ h. with_source h name (here back)) → Told before after (ReturnsSource name opened back)
 source_returned E None None None name opened back lends regains = tt
@@ -27,11 +27,12 @@ source_returned E (Some h) (Some m) (Some n) name opened back (was, is) now = re
       ∙ (ap (λ z. z.sources other) is ∙ stays h.sources name other lent miss);
   disks = ap (λ z. z.disks) now ∙ ap (λ z. z.disks) is;
   links = ap (λ z. z.links) now ∙ ap (λ z. z.links) is;
+  sessions = ap (λ z. z.sessions) now ∙ ap (λ z. z.sessions) is;
   clock = ap (λ z. z.clock) now ∙ ap (λ z. z.clock) is;
 }
 
 -- a fresh disk was made, and is here
-pub fresh_returned : {S D L C : Type 0} (E : Type 0) (before between after : Option (Holdings S D L C)) (name : List ℕ) (opened back : D)
+pub fresh_returned : {S D L N C : Type 0} (E : Type 0) (before between after : Option (Holdings S D L N C)) (name : List ℕ) (opened back : D)
     → Lends {E = E} before between (λ h disk. IsFree h name) (λ h. with_disk h name lent) (Ok opened)
     → Regains between after (λ h. with_disk h name (here back)) → Told before after (ReturnsFresh name back)
 fresh_returned E None None None name opened back lends regains = tt
@@ -46,5 +47,6 @@ fresh_returned E (Some h) (Some m) (Some n) name opened back (free, is) now = re
       ∙ (ap (λ z. z.disks other) is ∙ stays h.disks name other lent miss);
   sources = ap (λ z. z.sources) now ∙ ap (λ z. z.sources) is;
   links = ap (λ z. z.links) now ∙ ap (λ z. z.links) is;
+  sessions = ap (λ z. z.sessions) now ∙ ap (λ z. z.sessions) is;
   clock = ap (λ z. z.clock) now ∙ ap (λ z. z.clock) is;
 }

@@ -59,7 +59,7 @@ asks_one : (before after : List Asked) (call : Asked) (wants : List Asked) (endi
 asks_one before after call wants ending is not = asks_more before after after call wants ending is (asks_none after after wants ending refl not)
 
 -- where nothing was opened by a call
-refused : {S D L C : Type 0} (before after : HostSeen S D L C) (call : Asked) (wants : List Asked) (ending : Ending) → IsRefused before after call ending
+refused : {S D L N C : Type 0} (before after : HostSeen S D L N C) (call : Asked) (wants : List Asked) (ending : Ending) → IsRefused before after call ending
     → Asks before.asked after.asked (call ∷ wants) ending
 refused before after call wants (Formatted me) r = absurd r
 refused before after call wants (Ended turns malformed) r = absurd r
@@ -93,7 +93,7 @@ unopened v layout me disk back NotAStore r = apart 11 (omega arith)
 unopened v layout me disk back Worn r = apart 12 (omega arith)
 
 -- by the clock
-by_clock : {S D L C : Type 0} (v : Views D L C) (turns : ℕ) (before after : HostSeen S D L C) (node node_after : Running D) (link link_after : L)
+by_clock : {S D L N C : Type 0} (v : Views D L C) (turns : ℕ) (before after : HostSeen S D L N C) (node node_after : Running D) (link link_after : L)
     (out said : Option (List ℕ)) (ending : Ending) → ServesByClock v turns before after node node_after link link_after out said ending
     → Asks before.asked after.asked (calls.Clock ∷ []) ending
 by_clock v turns before after node node_after link link_after out said ending s =
@@ -103,7 +103,7 @@ by_clock v turns before after node node_after link link_after out said ending s 
     ]
 
 -- by the link
-by_link : {S D L C : Type 0} (v : Views D L C) (turns port : ℕ) (before after : HostSeen S D L C) (node node_after : Running D)
+by_link : {S D L N C : Type 0} (v : Views D L C) (turns port : ℕ) (before after : HostSeen S D L N C) (node node_after : Running D)
     (out said : Option (List ℕ)) (ending : Ending) → ServesByLink v turns port before after node node_after out said ending
     → Asks before.asked after.asked (calls.Link port ∷ calls.Clock ∷ []) ending
 by_link v turns port before after node node_after out said ending s =
@@ -114,7 +114,7 @@ by_link v turns port before after node node_after out said ending s =
     ]
 
 -- over a disk
-over : {S D L C : Type 0} (v : Views D L C) (layout : Layout) (me : BrickId) (turns : ℕ) (disk back : D) (before after : HostSeen S D L C)
+over : {S D L N C : Type 0} (v : Views D L C) (layout : Layout) (me : BrickId) (turns : ℕ) (disk back : D) (before after : HostSeen S D L N C)
     (out said : Option (List ℕ)) (ending : Ending) → ServesOver v layout me turns disk back before after out said ending
     → Asks before.asked after.asked (calls.Link (port_of (ports_of layout) me) ∷ calls.Clock ∷ []) ending
 over v layout me turns disk back before after out said ending s =
@@ -124,7 +124,7 @@ over v layout me turns disk back before after out said ending s =
     ]
 
 -- by the disk
-by_disk : {S D L C : Type 0} (v : Views D L C) (layout : Layout) (me : BrickId) (turns : ℕ) (before after : HostSeen S D L C) (name : List ℕ)
+by_disk : {S D L N C : Type 0} (v : Views D L C) (layout : Layout) (me : BrickId) (turns : ℕ) (before after : HostSeen S D L N C) (name : List ℕ)
     (out said : Option (List ℕ)) (ending : Ending) → ServesByDisk v layout me turns before after name out said ending
     → Asks before.asked after.asked (calls.Disk name false ∷ calls.Link (port_of (ports_of layout) me) ∷ calls.Clock ∷ []) ending
 by_disk v layout me turns before after name out said ending s =
@@ -137,7 +137,7 @@ by_disk v layout me turns before after name out said ending s =
 -- ---- commands
 
 -- by their source
-by_commands : {S D L C : Type 0} (told : S → Option (List ℕ)) (failed : S → ℕ) (v : Views D L C) (layout : Layout) (turns : ℕ) (before after : HostSeen S D L C)
+by_commands : {S D L N C : Type 0} (told : S → Option (List ℕ)) (failed : S → ℕ) (v : Views D L C) (layout : Layout) (turns : ℕ) (before after : HostSeen S D L N C)
     (bricks bricks_after : TimedBricks D L C) (link link_after : L) (out said : Option (List ℕ)) (ending : Ending)
     → HostsBySource told failed v layout turns before after bricks bricks_after link link_after out said ending
     → Asks before.asked after.asked (calls.Source standard_input ∷ []) ending
@@ -148,7 +148,7 @@ by_commands told failed v layout turns before after bricks bricks_after link lin
     ]
 
 -- by the client's link
-by_client : {S D L C : Type 0} (told : S → Option (List ℕ)) (failed : S → ℕ) (v : Views D L C) (layout : Layout) (turns : ℕ) (before after : HostSeen S D L C)
+by_client : {S D L N C : Type 0} (told : S → Option (List ℕ)) (failed : S → ℕ) (v : Views D L C) (layout : Layout) (turns : ℕ) (before after : HostSeen S D L N C)
     (bricks bricks_after : TimedBricks D L C) (out said : Option (List ℕ)) (ending : Ending)
     → HostsByClient told failed v layout turns before after bricks bricks_after out said ending
     → Asks before.asked after.asked (calls.Link 0 ∷ calls.Source standard_input ∷ []) ending
@@ -160,7 +160,7 @@ by_client told failed v layout turns before after bricks bricks_after out said e
     ]
 
 -- by the clock
-by_hosting : {S D L C : Type 0} (told : S → Option (List ℕ)) (failed : S → ℕ) (v : Views D L C) (layout : Layout) (turns : ℕ) (before after : HostSeen S D L C)
+by_hosting : {S D L N C : Type 0} (told : S → Option (List ℕ)) (failed : S → ℕ) (v : Views D L C) (layout : Layout) (turns : ℕ) (before after : HostSeen S D L N C)
     (bricks bricks_after : List (Hosted D L)) (out said : Option (List ℕ)) (ending : Ending)
     → HostsByClock told failed v layout turns before after bricks bricks_after out said ending → Asks before.asked after.asked command_calls ending
 by_hosting told failed v layout turns before after bricks bricks_after out said ending s =
@@ -171,13 +171,13 @@ by_hosting told failed v layout turns before after bricks bricks_after out said 
     ]
 
 -- by the bricks that are left
-by_bricks : {S D L C : Type 0} (told : S → Option (List ℕ)) (failed : S → ℕ) (v : Views D L C) (layout : Layout) (prefix : List ℕ) (turns : ℕ)
-    (out said : Option (List ℕ)) (ending : Ending) (left id : ℕ) (bricks bricks_after : List (Hosted D L)) (before after : HostSeen S D L C)
+by_bricks : {S D L N C : Type 0} (told : S → Option (List ℕ)) (failed : S → ℕ) (v : Views D L C) (layout : Layout) (prefix : List ℕ) (turns : ℕ)
+    (out said : Option (List ℕ)) (ending : Ending) (left id : ℕ) (bricks bricks_after : List (Hosted D L)) (before after : HostSeen S D L N C)
     → HostsBricks told failed v layout prefix turns out said ending left id bricks bricks_after before after
     → Asks before.asked after.asked (brick_calls layout prefix left id) ending
 by_bricks told failed v layout prefix turns out said ending zero id bricks bricks_after before after s =
     by_hosting told failed v layout turns before after bricks bricks_after out said ending s
-by_bricks {S} {D} {L} {C} told failed v layout prefix turns out said ending (suc left) id bricks bricks_after before after s =
+by_bricks {S} {D} {L} {N} {C} told failed v layout prefix turns out said ending (suc left) id bricks bricks_after before after s =
     elim s [
       | inl r ↦ refused before after (calls.Disk name false) (calls.Link port ∷ rest) ending r.0
       | inr b ↦ asks_more _ _ _ _ _ ending b.2.lends.asked (asks_same _ _ _ _ ending b.2.asked
@@ -197,14 +197,14 @@ by_bricks {S} {D} {L} {C} told failed v layout prefix turns out said ending (suc
     rest : List Asked
     rest = brick_calls layout prefix left (id + 1)
 
-    next : List (Hosted D L) → List (Hosted D L) → HostSeen S D L C → HostSeen S D L C → Type 0
+    next : List (Hosted D L) → List (Hosted D L) → HostSeen S D L N C → HostSeen S D L N C → Type 0
     next = HostsBricks told failed v layout prefix turns out said ending left (id + 1)
 
     -- what is done next asks for the rest
     AsksRest : Type 0
-    AsksRest = (more more_after : List (Hosted D L)) (began ended : HostSeen S D L C) → next more more_after began ended → Asks began.asked ended.asked rest ending
+    AsksRest = (more more_after : List (Hosted D L)) (began ended : HostSeen S D L N C) → next more more_after began ended → Asks began.asked ended.asked rest ending
 
-    linked : AsksRest → (began ended : HostSeen S D L C) (node node_after : Running D)
+    linked : AsksRest → (began ended : HostSeen S D L N C) (node node_after : Running D)
         → HostsByLink port next began ended bricks bricks_after node node_after out said ending → Asks began.asked ended.asked (calls.Link port ∷ rest) ending
     linked then began ended node node_after s =
         elim s [
@@ -212,7 +212,7 @@ by_bricks {S} {D} {L} {C} told failed v layout prefix turns out said ending (suc
           | inr b ↦ asks_more _ _ _ _ _ ending b.2.lends.asked (asks_same _ _ _ _ ending b.2.asked (then _ _ b.2.began b.2.ended b.2.does.5))
         ]
 
-    opened : AsksRest → (disk back : D) (began ended : HostSeen S D L C) → HostsOver v layout me next disk back began ended bricks bricks_after out said ending
+    opened : AsksRest → (disk back : D) (began ended : HostSeen S D L N C) → HostsOver v layout me next disk back began ended bricks bricks_after out said ending
         → Asks began.asked ended.asked (calls.Link port ∷ rest) ending
     opened then disk back began ended s =
         elim s [
@@ -221,8 +221,8 @@ by_bricks {S} {D} {L} {C} told failed v layout prefix turns out said ending (suc
         ]
 
 -- of all bricks
-by_layout : {S D L C : Type 0} (told : S → Option (List ℕ)) (failed : S → ℕ) (v : Views D L C) (layout : Layout) (prefix : List ℕ) (turns : ℕ)
-    (before after : HostSeen S D L C) (out said : Option (List ℕ)) (ending : Ending) → HostsLayout told failed v layout prefix turns before after out said ending
+by_layout : {S D L N C : Type 0} (told : S → Option (List ℕ)) (failed : S → ℕ) (v : Views D L C) (layout : Layout) (prefix : List ℕ) (turns : ℕ)
+    (before after : HostSeen S D L N C) (out said : Option (List ℕ)) (ending : Ending) → HostsLayout told failed v layout prefix turns before after out said ending
     → Asks before.asked after.asked (brick_calls layout prefix layout.bricks 0) ending
 by_layout told failed v layout prefix turns before after out said ending s =
     elim s [
@@ -234,8 +234,8 @@ by_layout told failed v layout prefix turns before after out said ending s =
 -- ---- by the work
 
 -- where a store was to be made
-making : {S D L C : Type 0} (tells : Type 0) (seen : D → List ℕ) (may_leave : D → List ℕ → Type 0) (failed : D → ℕ) (layout : Layout) (me : BrickId)
-    (before after : HostSeen S D L C) (name : List ℕ) (ending : Ending) → MakesStore tells seen may_leave failed layout me before after name ending
+making : {S D L N C : Type 0} (tells : Type 0) (seen : D → List ℕ) (may_leave : D → List ℕ → Type 0) (failed : D → ℕ) (layout : Layout) (me : BrickId)
+    (before after : HostSeen S D L N C) (name : List ℕ) (ending : Ending) → MakesStore tells seen may_leave failed layout me before after name ending
     → Asks before.asked after.asked (calls.Disk name true ∷ []) ending
 making tells seen may_leave failed layout me before after name (Formatted made) f =
     asks_more _ _ _ _ _ (Formatted made) f.1.1.asked (asks_all _ _ (Formatted made) refl)
@@ -257,15 +257,15 @@ making tells seen may_leave failed layout me before after name NotAStore f = abs
 making tells seen may_leave failed layout me before after name Worn f = absurd f
 
 -- a brick that a layout has
-formatting : {S D L C : Type 0} (tells : Type 0) (seen : D → List ℕ) (may_leave : D → List ℕ → Type 0) (failed : D → ℕ) (layout : Layout)
-    (me : Option BrickId) (before after : HostSeen S D L C) (name : List ℕ) (ending : Ending)
+formatting : {S D L N C : Type 0} (tells : Type 0) (seen : D → List ℕ) (may_leave : D → List ℕ → Type 0) (failed : D → ℕ) (layout : Layout)
+    (me : Option BrickId) (before after : HostSeen S D L N C) (name : List ℕ) (ending : Ending)
     → FormatsBrick tells seen may_leave failed layout me before after name ending → Asks before.asked after.asked (calls.Disk name true ∷ []) ending
 formatting tells seen may_leave failed layout None before after name ending f =
     asks_none _ _ _ ending (ap (λ h. h.asked) f.1) (usage_apart ending f.0)
 formatting tells seen may_leave failed layout (Some me) before after name ending f = making tells seen may_leave failed layout me before after name ending f
 
 -- where the brick is one of the number that was looked for, if it is any
-by_brick : {S D L C : Type 0} (v : Views D L C) (layout : Layout) (id : ℕ) (me : Option BrickId) (turns : ℕ) (before after : HostSeen S D L C) (name : List ℕ)
+by_brick : {S D L N C : Type 0} (v : Views D L C) (layout : Layout) (id : ℕ) (me : Option BrickId) (turns : ℕ) (before after : HostSeen S D L N C) (name : List ℕ)
     (out said : Option (List ℕ)) (ending : Ending) → ((b : BrickId) → me ≡ Some b → b ≡ record { 0 = id }) → ServesBrick v layout me turns before after name out said ending
     → Asks before.asked after.asked (calls_by layout name (Serve id turns)) ending
 by_brick v layout id None turns before after name out said ending is s =
@@ -275,7 +275,7 @@ by_brick v layout id (Some me) turns before after name out said ending is s =
     (by_disk v layout me turns before after name out said ending s)
 
 -- by the work
-working : {S D L C : Type 0} (told : S → Option (List ℕ)) (failed : S → ℕ) (v : Views D L C) (layout : Layout) (name : List ℕ) (work : Work) (before after : HostSeen S D L C) (out said : Option (List ℕ))
+working : {S D L N C : Type 0} (told : S → Option (List ℕ)) (failed : S → ℕ) (v : Views D L C) (layout : Layout) (name : List ℕ) (work : Work) (before after : HostSeen S D L N C) (out said : Option (List ℕ))
     (ending : Ending) → DoesWork told failed v layout name work before after out said ending → Asks before.asked after.asked (calls_by layout name work) ending
 working told failed v layout name (Format id) before after out said ending d =
     formatting v.disk.tells v.disk.seen v.disk.may_leave v.disk.faults layout (brick_of layout id) before after name ending d.0
@@ -285,7 +285,7 @@ working told failed v layout prefix (Local turns) before after out said ending d
     by_layout told failed v layout prefix turns before after out said ending d
 
 -- where no layout was found
-unfound : {S D L C : Type 0} (told : S → Option (List ℕ)) (failed : S → ℕ) (before after : HostSeen S D L C) (source : List ℕ) (ending : Ending)
+unfound : {S D L N C : Type 0} (told : S → Option (List ℕ)) (failed : S → ℕ) (before after : HostSeen S D L N C) (source : List ℕ) (ending : Ending)
     → FindsLayout told failed before after source (Err ending) → Asks before.asked after.asked (calls.Source source ∷ []) ending
 unfound told failed before after source (Formatted me) f = absurd f.gives
 unfound told failed before after source (Ended turns malformed) f = absurd f.gives
@@ -306,7 +306,7 @@ unfound told failed before after source NotAStore f = absurd f.gives
 unfound told failed before after source Worn f = absurd f.gives
 
 -- at any end
-going_on : {S D L C : Type 0} (told : S → Option (List ℕ)) (failed : S → ℕ) (v : Views D L C) (before between after : HostSeen S D L C) (w : Wanted)
+going_on : {S D L N C : Type 0} (told : S → Option (List ℕ)) (failed : S → ℕ) (v : Views D L C) (before between after : HostSeen S D L N C) (w : Wanted)
     (out said : Option (List ℕ)) (found : Result Layout Ending) (ending : Ending) → FindsLayout told failed before between w.layout found
     → GoesOn told failed v w found between after out said ending → Asks before.asked after.asked (calls_of w found) ending
 going_on told failed v before between after w out said (Ok layout) ending finds goes =
@@ -321,7 +321,7 @@ of_status old new text wanted status (inl (same, all)) none = sym same ∙ none
 of_status old new text wanted status (inr (inl (six, some))) none = cc
 of_status old new text wanted status (inr (inr (seven, kept))) none = cc
 
-pub in_order : {S D L C : Type 0} (told : S → Option (List ℕ)) (failed : S → ℕ) (v : Views D L C) (before after : HostSeen S D L C) (w : Wanted)
+pub in_order : {S D L N C : Type 0} (told : S → Option (List ℕ)) (failed : S → ℕ) (v : Views D L C) (before after : HostSeen S D L N C) (w : Wanted)
     (out said : Option (List ℕ)) (ending : Ending) (new : Option (List ℕ)) (text : List ℕ) (status : ℕ)
     (works : Works told failed v before after w out said ending) → Prints said new text (status_of ending) status
     → AsksInOrder before.asked after.asked (calls_of w works.found) status

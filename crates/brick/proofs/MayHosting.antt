@@ -82,14 +82,14 @@ name_same prefix a b small small_too same =
     (append_cancel_left (codes ".") (decimal a) (decimal b) (append_cancel_left prefix (codes "." ++ decimal a) (codes "." ++ decimal b) same))
 
 -- a disk that is held is there to be lent, and so is a link
-pub brick_there : {S D L C : Type 0} (tells : Type 0) (seen : D → List ℕ) (layout : Layout) (prefix : List ℕ) (me : BrickId) (h : Holdings S D L C)
+pub brick_there : {S D L N C : Type 0} (tells : Type 0) (seen : D → List ℕ) (layout : Layout) (prefix : List ℕ) (me : BrickId) (h : Holdings S D L N C)
     → HasBrick tells seen layout prefix me h → IsMissing (h.disks (disk_name prefix me)) → ⊥
 brick_there tells seen layout prefix me h has gone = here_missing (h.disks (disk_name prefix me)) has.disk has.held gone
 
 -- a brick whose disk another name has, and whose link another port, stays
-module _ {S D L C : Type 0} (tells : Type 0) (seen : D → List ℕ) (layout : Layout) (prefix : List ℕ) where
+module _ {S D L N C : Type 0} (tells : Type 0) (seen : D → List ℕ) (layout : Layout) (prefix : List ℕ) where
   -- the disk of the first of these bricks was lent: it may be started, and the rest is there
-  pub disk_lends : (id : ℕ) (thing : D) (before began : Option (Holdings S D L C)) → id < layout.bricks → layout.bricks ≤ 64
+  pub disk_lends : (id : ℕ) (thing : D) (before began : Option (Holdings S D L N C)) → id < layout.bricks → layout.bricks ≤ 64
       → Told before began (λ h now. (h.disks (disk_name prefix (record { 0 = id })) ≡ here thing) × (now ≡ with_disk h (disk_name prefix (record { 0 = id })) lent))
       → Has before (HasBricks tells seen layout prefix id)
       → MayStart tells seen layout (record { 0 = id }) thing × Has began (HasRest tells seen layout prefix (record { 0 = id }))
@@ -118,7 +118,7 @@ module _ {S D L C : Type 0} (tells : Type 0) (seen : D → List ℕ) (layout : L
       apart k more below same = omega (arith, more, same)
 
   -- its link was lent: the other bricks are there
-  pub link_lends : (me : BrickId) (thing : L) (before began : Option (Holdings S D L C)) → 0 < port_of (ports_of layout) me
+  pub link_lends : (me : BrickId) (thing : L) (before began : Option (Holdings S D L N C)) → 0 < port_of (ports_of layout) me
       → Told before began (λ h now. (h.links (port_of (ports_of layout) me) ≡ here thing) × (now ≡ with_link h (port_of (ports_of layout) me) lent))
       → Has before (HasRest tells seen layout prefix me) → Has began (HasBricks tells seen layout prefix (me.0 + 1))
   link_lends me thing None began some lends has = absurd has
@@ -142,27 +142,27 @@ module _ {S D L C : Type 0} (tells : Type 0) (seen : D → List ℕ) (layout : L
       apart k more same = omega (arith, more, same)
 
   -- past the last brick
-  pub ends_there : (id : ℕ) (held : Option (Holdings S D L C)) → Has held (HasBricks tells seen layout prefix id) → Has held HasEnds
+  pub ends_there : (id : ℕ) (held : Option (Holdings S D L N C)) → Has held (HasBricks tells seen layout prefix id) → Has held HasEnds
   ends_there id None has = has
   ends_there id (Some h) has = has.ends
 
 -- the clock was lent: the client's link and the commands are there; and the commands, once that link was lent
-pub clock_lends : {S D L C : Type 0} (thing : C) (before began : Option (Holdings S D L C)) → Told before began (λ h now. (h.clock ≡ here thing) × (now ≡ with_clock h lent))
+pub clock_lends : {S D L N C : Type 0} (thing : C) (before began : Option (Holdings S D L N C)) → Told before began (λ h now. (h.clock ≡ here thing) × (now ≡ with_clock h lent))
     → Has before HasEnds → Has began HasClient
-clock_lends {S} {D} {L} {C} thing before began lends has =
-    has_after {P = λ (h now : Holdings S D L C). (h.clock ≡ here thing) × (now ≡ with_clock h lent)} {Q = HasEnds} {R = HasClient} before began lends has
+clock_lends {S} {D} {L} {N} {C} thing before began lends has =
+    has_after {P = λ (h now : Holdings S D L N C). (h.clock ≡ here thing) × (now ≡ with_clock h lent)} {Q = HasEnds} {R = HasClient} before began lends has
     (λ h now p q. subst HasClient (sym p.1) q.1)
 
-pub client_lends : {S D L C : Type 0} (thing : L) (before began : Option (Holdings S D L C)) → Told before began (λ h now. (h.links 0 ≡ here thing) × (now ≡ with_link h 0 lent))
+pub client_lends : {S D L N C : Type 0} (thing : L) (before began : Option (Holdings S D L N C)) → Told before began (λ h now. (h.links 0 ≡ here thing) × (now ≡ with_link h 0 lent))
     → Has before HasClient → Has began HasCommands
-client_lends {S} {D} {L} {C} thing before began lends has =
-    has_after {P = λ (h now : Holdings S D L C). (h.links 0 ≡ here thing) × (now ≡ with_link h 0 lent)} {Q = HasClient} {R = HasCommands} before began lends has
+client_lends {S} {D} {L} {N} {C} thing before began lends has =
+    has_after {P = λ (h now : Holdings S D L N C). (h.links 0 ≡ here thing) × (now ≡ with_link h 0 lent)} {Q = HasClient} {R = HasCommands} before began lends has
     (λ h now p q. subst HasCommands (sym p.1) q.1)
 
 -- ---- once the layout was found
 
 -- standard input is there, whichever source the layout was read from
-commands_still : {S D L C : Type 0} (h n : Holdings S D L C) (source : List ℕ) (opened back : S) → ReturnsSource source opened back h n
+commands_still : {S D L N C : Type 0} (h n : Holdings S D L N C) (source : List ℕ) (opened back : S) → ReturnsSource source opened back h n
     → HasCommands h → HasCommands n
 commands_still h n source opened back r has =
     elim (cases_Bool (bytes_eq source standard_input)) [
@@ -171,7 +171,7 @@ commands_still h n source opened back r has =
       | inr miss ↦ λ gone. has (subst IsMissing (r.others standard_input miss) gone)
     ]
 
-bricks_still : {S D L C : Type 0} (tells : Type 0) (seen : D → List ℕ) (layout : Layout) (prefix : List ℕ) (h n : Holdings S D L C) (source : List ℕ)
+bricks_still : {S D L N C : Type 0} (tells : Type 0) (seen : D → List ℕ) (layout : Layout) (prefix : List ℕ) (h n : Holdings S D L N C) (source : List ℕ)
     (opened back : S) → ReturnsSource source opened back h n → HasBricks tells seen layout prefix 0 h → HasBricks tells seen layout prefix 0 n
 bricks_still tells seen layout prefix h n source opened back r has = record {
   each = λ k least below. (let brick = has.each k least below in record {
@@ -186,7 +186,7 @@ bricks_still tells seen layout prefix h n source opened back r has = record {
   );
 }
 
-may_host : {S D L C : Type 0} (told : S → Option (List ℕ)) (tells : Type 0) (seen : D → List ℕ) (holds now : Option (Holdings S D L C))
+may_host : {S D L N C : Type 0} (told : S → Option (List ℕ)) (tells : Type 0) (seen : D → List ℕ) (holds now : Option (Holdings S D L N C))
     (source prefix : List ℕ) (turns : ℕ) (found : Layout) (opened back : S) → Told holds now (ReturnsSource source opened back)
     → IfSome (told opened) (Says (Ok found)) → MayRun told tells seen holds (Some (record { layout = source; name = prefix; work = Local turns }))
     → Has now (HasBricks tells seen found prefix 0)
@@ -196,8 +196,8 @@ may_host told tells seen (Some h) (Some n) source prefix turns found opened back
     let same : m.layout ≡ found = layout_same told h n source m.layout found opened back r m.holds said in
     bricks_still tells seen found prefix h n source opened back r (subst (λ (l : Layout). HasBricks tells seen l prefix 0 h) same m.bricks)
 
-pub local_goes : {S D L C : Type 0} (told : S → Option (List ℕ)) (tells : Type 0) (seen : D → List ℕ) (source_failed : S → ℕ)
-    (before between : HostSeen S D L C) (source prefix : List ℕ) (work : Work) (turns : ℕ) (found : Layout) → work ≡ Local turns
+pub local_goes : {S D L N C : Type 0} (told : S → Option (List ℕ)) (tells : Type 0) (seen : D → List ℕ) (source_failed : S → ℕ)
+    (before between : HostSeen S D L N C) (source prefix : List ℕ) (work : Work) (turns : ℕ) (found : Layout) → work ≡ Local turns
     → ReadsSource told source_failed before between source (Ok found)
     → MayRun told tells seen before.holds (Some (record { layout = source; name = prefix; work = work }))
     → Has between.holds (HasBricks tells seen found prefix 0)

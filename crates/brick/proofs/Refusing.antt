@@ -20,13 +20,13 @@ err_told None (Some now) gives lent_by fault l = absurd l
 err_told (Some h) None gives lent_by fault l = absurd l
 err_told (Some h) (Some now) gives lent_by fault l = l
 
-pub err_knows : {S D L C T : Type 0} (before after : Option (Holdings S D L C)) (gives : Holdings S D L C → T → Type 0)
-    (lent_by : Holdings S D L C → Holdings S D L C) (fault : IoFault) → Lends before after gives lent_by (Err fault) → Told before after KnowsStill
+pub err_knows : {S D L N C T : Type 0} (before after : Option (Holdings S D L N C)) (gives : Holdings S D L N C → T → Type 0)
+    (lent_by : Holdings S D L N C → Holdings S D L N C) (fault : IoFault) → Lends before after gives lent_by (Err fault) → Told before after KnowsStill
 err_knows before after gives lent_by fault l = knows_equal before after (err_told before after gives lent_by fault l)
 
 -- it refused what it was asked for, by its fault
-pub refused_by : {S D L C T : Type 0} (before after : HostSeen S D L C) (call : Asked) (gives : Holdings S D L C → T → Type 0)
-    (lent_by : Holdings S D L C → Holdings S D L C) (fault : IoFault) → Asks {T = T} before.asked after.asked call (Err fault)
+pub refused_by : {S D L N C T : Type 0} (before after : HostSeen S D L N C) (call : Asked) (gives : Holdings S D L N C → T → Type 0)
+    (lent_by : Holdings S D L N C → Holdings S D L N C) (fault : IoFault) → Asks {T = T} before.asked after.asked call (Err fault)
     → Lends before.holds after.holds gives lent_by (Err fault) → before.faults ≤ after.faults → (fault ≡ io.Failed → Rose before.faults after.faults)
     → IsRefused before after call (refusal_by fault)
 refused_by before after call gives lent_by io.Failed asked lends later rose =

@@ -46,7 +46,7 @@ pub record AsksInOrder (before after : List Asked) (wants : List Asked) (status 
   pub all : status ≡ 0 → after ≡ before ++ wants
 
 -- the work was done over a layout: `out` and `said` are what the sink told before and after it
-abbrev pub DoesWork : {S D L C : Type 0} → (S → Option (List ℕ)) → (S → ℕ) → Views D L C → Layout → List ℕ → Work → HostSeen S D L C → HostSeen S D L C → Option (List ℕ) → Option (List ℕ)
+abbrev pub DoesWork : {S D L N C : Type 0} → (S → Option (List ℕ)) → (S → ℕ) → Views D L C → Layout → List ℕ → Work → HostSeen S D L N C → HostSeen S D L N C → Option (List ℕ) → Option (List ℕ)
     → Ending → Type 0
 DoesWork told source_failed v layout name (Format id) before after out said ending =
     FormatsBrick v.disk.tells v.disk.seen v.disk.may_leave v.disk.faults layout (brick_of layout id) before after name ending × (said ≡ out)
@@ -56,21 +56,21 @@ DoesWork told source_failed v layout prefix (Local turns) before after out said 
     HostsLayout told source_failed v layout prefix turns before after out said ending
 
 -- it was, where a layout was found; else that is how the program ends
-abbrev pub GoesOn : {S D L C : Type 0} → (S → Option (List ℕ)) → (S → ℕ) → Views D L C → Wanted → Result Layout Ending → HostSeen S D L C → HostSeen S D L C → Option (List ℕ)
+abbrev pub GoesOn : {S D L N C : Type 0} → (S → Option (List ℕ)) → (S → ℕ) → Views D L C → Wanted → Result Layout Ending → HostSeen S D L N C → HostSeen S D L N C → Option (List ℕ)
     → Option (List ℕ) → Ending → Type 0
 GoesOn told source_failed v w (Err found) before after out said ending = (ending ≡ found) × (after ≡ before) × (said ≡ out)
 GoesOn told source_failed v w (Ok layout) before after out said ending = DoesWork told source_failed v layout w.name w.work before after out said ending
 
 -- A layout was looked for, and what is wanted was done over it.
-pub record Works {S D L C : Type 0} (told : S → Option (List ℕ)) (source_failed : S → ℕ) (v : Views D L C) (before after : HostSeen S D L C) (w : Wanted)
+pub record Works {S D L N C : Type 0} (told : S → Option (List ℕ)) (source_failed : S → ℕ) (v : Views D L C) (before after : HostSeen S D L N C) (w : Wanted)
     (out said : Option (List ℕ)) (ending : Ending) : Type 0 where
   pub found : Result Layout Ending
-  pub between : HostSeen S D L C
+  pub between : HostSeen S D L N C
   pub finds : FindsLayout told source_failed before between w.layout found
   pub goes_on : GoesOn told source_failed v w found between after out said ending
 
 -- A program that did what its words want, and what it printed.
-pub record Ran {S D L C : Type 0} (told : S → Option (List ℕ)) (source_failed : S → ℕ) (v : Views D L C) (before after : HostSeen S D L C) (w : Wanted)
+pub record Ran {S D L N C : Type 0} (told : S → Option (List ℕ)) (source_failed : S → ℕ) (v : Views D L C) (before after : HostSeen S D L N C) (w : Wanted)
     (out out_after : Option (List ℕ)) (status : ℕ) : Type 0 where
   pub said : Option (List ℕ)
   pub ending : Ending
@@ -79,19 +79,19 @@ pub record Ran {S D L C : Type 0} (told : S → Option (List ℕ)) (source_faile
   pub asks : AsksInOrder before.asked after.asked (calls_of w works.found) status
 
 -- by what the words want
-abbrev pub Runs : {S D L C : Type 0} → (S → Option (List ℕ)) → (S → ℕ) → Views D L C → HostSeen S D L C → HostSeen S D L C
+abbrev pub Runs : {S D L N C : Type 0} → (S → Option (List ℕ)) → (S → ℕ) → Views D L C → HostSeen S D L N C → HostSeen S D L N C
     → Option (List ℕ) → Option (List ℕ) → ℕ → Option Wanted → Type 0
 Runs told source_failed v before after out out_after status None = Prints out out_after usage_text 2 status
 Runs told source_failed v before after out out_after status (Some w) = Ran told source_failed v before after w out out_after status
 
 -- the host holds what a work wants
-abbrev pub MayDo : {S D L C : Type 0} → (S → Option (List ℕ)) → Type 0 → (D → List ℕ) → Holdings S D L C → List ℕ → List ℕ → Work → Type 0
+abbrev pub MayDo : {S D L N C : Type 0} → (S → Option (List ℕ)) → Type 0 → (D → List ℕ) → Holdings S D L N C → List ℕ → List ℕ → Work → Type 0
 MayDo told tells seen h source name (Format id) = MayFormat told h source name id
 MayDo told tells seen h source name (Serve id turns) = MayServe told tells seen h source name id
 MayDo told tells seen h source prefix (Local turns) = MayHost told tells seen h source prefix
 
 -- and tells it, where that is what the words want
-abbrev pub MayRun : {S D L C : Type 0} → (S → Option (List ℕ)) → Type 0 → (D → List ℕ) → Option (Holdings S D L C) → Option Wanted → Type 0
+abbrev pub MayRun : {S D L N C : Type 0} → (S → Option (List ℕ)) → Type 0 → (D → List ℕ) → Option (Holdings S D L N C) → Option Wanted → Type 0
 MayRun told tells seen None w = ⊥
 MayRun told tells seen (Some h) None = ⊥
 MayRun told tells seen (Some h) (Some w) = MayDo told tells seen h w.layout w.name w.work

@@ -19,30 +19,30 @@ pub record IsFresh {D : Type 0} (seen : D → List ℕ) (may_leave : D → List 
   pub durable : LeavesState (shape_of me.0 layout.block layout.records) empty (may_leave disk)
 
 -- the fresh disk of this name was asked for, and given back as this one
-abbrev pub AsksFresh : {S D L C : Type 0} → HostSeen S D L C → HostSeen S D L C → List ℕ → D → Type 0
+abbrev pub AsksFresh : {S D L N C : Type 0} → HostSeen S D L N C → HostSeen S D L N C → List ℕ → D → Type 0
 AsksFresh before after name back = AsksOnly before after (calls.Disk name true) (ReturnsFresh name back)
 
 -- A store was to be made on a fresh disk.
-abbrev pub MakesStore : {S D L C : Type 0} → Type 0 → (D → List ℕ) → (D → List ℕ → Type 0) → (D → ℕ) → Layout → BrickId
-    → HostSeen S D L C → HostSeen S D L C → List ℕ → Ending → Type 0
-MakesStore {S} {D} {L} {C} tells seen may_leave failed layout me before after name (Formatted made) =
+abbrev pub MakesStore : {S D L N C : Type 0} → Type 0 → (D → List ℕ) → (D → List ℕ → Type 0) → (D → ℕ) → Layout → BrickId
+    → HostSeen S D L N C → HostSeen S D L N C → List ℕ → Ending → Type 0
+MakesStore {S} {D} {L} {N} {C} tells seen may_leave failed layout me before after name (Formatted made) =
     (made ≡ me) × ((back : D) × AsksFresh before after name back × (tells → IsFresh seen may_leave layout me back))
-MakesStore {S} {D} {L} {C} tells seen may_leave failed layout me before after name Disk =
+MakesStore {S} {D} {L} {N} {C} tells seen may_leave failed layout me before after name Disk =
     (opened back : D) × AsksFresh before after name back × Rose (failed opened) (failed back)
-MakesStore {S} {D} {L} {C} tells seen may_leave failed layout me before after name Host = AsksInVain before after (calls.Disk name true)
-MakesStore {S} {D} {L} {C} tells seen may_leave failed layout me before after name Memory =
+MakesStore {S} {D} {L} {N} {C} tells seen may_leave failed layout me before after name Host = AsksInVain before after (calls.Disk name true)
+MakesStore {S} {D} {L} {N} {C} tells seen may_leave failed layout me before after name Memory =
     IsUnasked before after ⊎ ((back : D) × AsksFresh before after name back)
-MakesStore {S} {D} {L} {C} tells seen may_leave failed layout me before after name other = ⊥
+MakesStore {S} {D} {L} {N} {C} tells seen may_leave failed layout me before after name other = ⊥
 
 -- A layout was found; a brick that it has not is refused, and else a store was to be made.
-abbrev pub FormatsBrick : {S D L C : Type 0} → Type 0 → (D → List ℕ) → (D → List ℕ → Type 0) → (D → ℕ) → Layout → Option BrickId
-    → HostSeen S D L C → HostSeen S D L C → List ℕ → Ending → Type 0
+abbrev pub FormatsBrick : {S D L N C : Type 0} → Type 0 → (D → List ℕ) → (D → List ℕ → Type 0) → (D → ℕ) → Layout → Option BrickId
+    → HostSeen S D L N C → HostSeen S D L N C → List ℕ → Ending → Type 0
 FormatsBrick tells seen may_leave failed layout None before after name ending = (ending ≡ Usage) × (after ≡ before)
 FormatsBrick tells seen may_leave failed layout (Some me) before after name ending =
     MakesStore tells seen may_leave failed layout me before after name ending
 
 -- The host holds a source with the text of a layout, which has the brick, and the name of the disk is free.
-pub record MayFormat {S D L C : Type 0} (told : S → Option (List ℕ)) (h : Holdings S D L C) (source disk : List ℕ) (id : ℕ) : Type 0 where
+pub record MayFormat {S D L N C : Type 0} (told : S → Option (List ℕ)) (h : Holdings S D L N C) (source disk : List ℕ) (id : ℕ) : Type 0 where
   pub layout : Layout
   pub holds : HoldsLayout told h source layout
   pub has : id < layout.bricks

@@ -40,7 +40,7 @@ TextGives told failed opened back (Err Memory) = ⊤
 TextGives told failed opened back (Err other) = ⊥
 
 -- the source of this name was opened, read and given back
-pub record ReadsSource {S D L C : Type 0} (told : S → Option (List ℕ)) (failed : S → ℕ) (before after : HostSeen S D L C) (name : List ℕ)
+pub record ReadsSource {S D L N C : Type 0} (told : S → Option (List ℕ)) (failed : S → ℕ) (before after : HostSeen S D L N C) (name : List ℕ)
     (result : Result Layout Ending) : Type 0 where
   pub opened : S
   pub back : S
@@ -48,7 +48,7 @@ pub record ReadsSource {S D L C : Type 0} (told : S → Option (List ℕ)) (fail
   pub gives : Gives told failed opened back result
 
 -- a layout was asked for
-abbrev pub FindsLayout : {S D L C : Type 0} → (S → Option (List ℕ)) → (S → ℕ) → HostSeen S D L C → HostSeen S D L C → List ℕ → Result Layout Ending → Type 0
+abbrev pub FindsLayout : {S D L N C : Type 0} → (S → Option (List ℕ)) → (S → ℕ) → HostSeen S D L N C → HostSeen S D L N C → List ℕ → Result Layout Ending → Type 0
 FindsLayout told failed before after name (Ok layout) = ReadsSource told failed before after name (Ok layout)
 FindsLayout told failed before after name (Err Host) = AsksInVain before after (calls.Source name)
 FindsLayout told failed before after name (Err Memory) = IsUnasked before after ⊎ ReadsSource told failed before after name (Err Memory)
@@ -59,7 +59,7 @@ abbrev pub brick_of : Layout → ℕ → Option BrickId
 brick_of layout id = if nat_lt id layout.bricks then Some (record { 0 = id }) else None
 
 -- the host holds a source that tells the text of this layout
-pub record HoldsLayout {S D L C : Type 0} (told : S → Option (List ℕ)) (h : Holdings S D L C) (source : List ℕ) (layout : Layout) : Type 0 where
+pub record HoldsLayout {S D L N C : Type 0} (told : S → Option (List ℕ)) (h : Holdings S D L N C) (source : List ℕ) (layout : Layout) : Type 0 where
   pub opened : S
   pub text : List ℕ
   pub held : h.sources source ≡ here opened

@@ -85,25 +85,25 @@ RunsCommands told failed v layout turns bricks bricks_after link link_after sour
 -- ---- the source, the client's link and the clock
 
 -- The source was lent, and its commands were run; or it was refused.
-abbrev pub HostsBySource : {S D L C : Type 0} → (S → Option (List ℕ)) → (S → ℕ) → Views D L C → Layout → ℕ → HostSeen S D L C → HostSeen S D L C
+abbrev pub HostsBySource : {S D L N C : Type 0} → (S → Option (List ℕ)) → (S → ℕ) → Views D L C → Layout → ℕ → HostSeen S D L N C → HostSeen S D L N C
     → TimedBricks D L C → TimedBricks D L C → L → L → Option (List ℕ) → Option (List ℕ) → Ending → Type 0
-HostsBySource {S} {D} {L} {C} told failed v layout turns before after bricks bricks_after link link_after out said ending =
+HostsBySource {S} {D} {L} {N} {C} told failed v layout turns before after bricks bricks_after link link_after out said ending =
     (IsRefused before after (calls.Source standard_input) ending × (bricks_after ≡ bricks) × (link_after ≡ link) × (said ≡ out))
     ⊎ ((source back : S) × Borrows before after (calls.Source standard_input) (λ h. h.sources standard_input) (λ h. with_source h standard_input) source back
     (λ began ended. (ended ≡ began) × RunsCommands told failed v layout turns bricks bricks_after link link_after source back out said ending))
 
 -- The client's link was lent, at any free port, and then the source was asked for; or the link was refused.
-abbrev pub HostsByClient : {S D L C : Type 0} → (S → Option (List ℕ)) → (S → ℕ) → Views D L C → Layout → ℕ → HostSeen S D L C → HostSeen S D L C
+abbrev pub HostsByClient : {S D L N C : Type 0} → (S → Option (List ℕ)) → (S → ℕ) → Views D L C → Layout → ℕ → HostSeen S D L N C → HostSeen S D L N C
     → TimedBricks D L C → TimedBricks D L C → Option (List ℕ) → Option (List ℕ) → Ending → Type 0
-HostsByClient {S} {D} {L} {C} told failed v layout turns before after bricks bricks_after out said ending =
+HostsByClient {S} {D} {L} {N} {C} told failed v layout turns before after bricks bricks_after out said ending =
     (IsRefused before after (calls.Link 0) ending × (bricks_after ≡ bricks) × (said ≡ out))
     ⊎ ((link back : L) × Borrows before after (calls.Link 0) (λ h. h.links 0) (λ h. with_link h 0) link back
     (λ began ended. HostsBySource told failed v layout turns began ended bricks bricks_after link back out said ending))
 
 -- The clock was lent to the bricks, and then the client's link was asked for; or the clock was refused.
-abbrev pub HostsByClock : {S D L C : Type 0} → (S → Option (List ℕ)) → (S → ℕ) → Views D L C → Layout → ℕ → HostSeen S D L C → HostSeen S D L C
+abbrev pub HostsByClock : {S D L N C : Type 0} → (S → Option (List ℕ)) → (S → ℕ) → Views D L C → Layout → ℕ → HostSeen S D L N C → HostSeen S D L N C
     → List (Hosted D L) → List (Hosted D L) → Option (List ℕ) → Option (List ℕ) → Ending → Type 0
-HostsByClock {S} {D} {L} {C} told failed v layout turns before after bricks bricks_after out said ending =
+HostsByClock {S} {D} {L} {N} {C} told failed v layout turns before after bricks bricks_after out said ending =
     (IsRefused before after calls.Clock ending × (bricks_after ≡ bricks) × (said ≡ out))
     ⊎ ((clock : C) × (timed_after : TimedBricks D L C) × (timed_after.bricks.bricks ≡ bricks_after)
     × Borrows before after calls.Clock (λ h. h.clock) with_clock clock timed_after.clock
@@ -118,21 +118,21 @@ AreSame (brick ∷ more) (after ∷ more_after) = IsSameBrick brick.node after.n
 AreSame bricks bricks_after = ⊥
 
 -- what is done with the bricks that were started so far, and with the host
-abbrev pub Deed : Type 0 → Type 0 → Type 0 → Type 0 → Type 1
-Deed S D L C = List (Hosted D L) → List (Hosted D L) → HostSeen S D L C → HostSeen S D L C → Type 0
+abbrev pub Deed : Type 0 → Type 0 → Type 0 → Type 0 → Type 0 → Type 1
+Deed S D L N C = List (Hosted D L) → List (Hosted D L) → HostSeen S D L N C → HostSeen S D L N C → Type 0
 
 -- The link of this port was lent to a brick, and the brick stood behind those that were started before it for what was done next; or the link was refused.
-abbrev pub HostsByLink : {S D L C : Type 0} → ℕ → Deed S D L C → HostSeen S D L C → HostSeen S D L C → List (Hosted D L) → List (Hosted D L)
+abbrev pub HostsByLink : {S D L N C : Type 0} → ℕ → Deed S D L N C → HostSeen S D L N C → HostSeen S D L N C → List (Hosted D L) → List (Hosted D L)
     → Running D → Running D → Option (List ℕ) → Option (List ℕ) → Ending → Type 0
-HostsByLink {S} {D} {L} {C} port next before after bricks bricks_after node node_after out said ending =
+HostsByLink {S} {D} {L} {N} {C} port next before after bricks bricks_after node node_after out said ending =
     (IsRefused before after (calls.Link port) ending × (bricks_after ≡ bricks) × (node_after ≡ node) × (said ≡ out))
     ⊎ ((link back : L) × Borrows before after (calls.Link port) (λ h. h.links port) (λ h. with_link h port) link back
     (λ began ended. (brick brick_after : Hosted D L) × Begins brick node link × (brick_after.node ≡ node_after) × (brick_after.link ≡ back)
     × next (bricks ++ brick ∷ []) (bricks_after ++ brick_after ∷ []) began ended))
 
 -- The disk's store was opened, and then the link of the brick's port was asked for. The disk is whole, but where a disk failed and the brick is halted.
-pub record HostsStarted {S D L C : Type 0} (v : Views D L C) (layout : Layout) (me : BrickId) (next : Deed S D L C) (disk back : D)
-    (before after : HostSeen S D L C) (bricks bricks_after : List (Hosted D L)) (out said : Option (List ℕ)) (ending : Ending) : Type 0 where
+pub record HostsStarted {S D L N C : Type 0} (v : Views D L C) (layout : Layout) (me : BrickId) (next : Deed S D L N C) (disk back : D)
+    (before after : HostSeen S D L N C) (bricks bricks_after : List (Hosted D L)) (out said : Option (List ℕ)) (ending : Ending) : Type 0 where
   pub node : Running D
   pub node_after : Running D
   pub started : IsStarted v layout me disk node
@@ -140,16 +140,16 @@ pub record HostsStarted {S D L C : Type 0} (v : Views D L C) (layout : Layout) (
   pub left : IsLeft v layout me node_after back (ending ≡ Disk → node_after.brick.halted ≡ false)
 
 -- a disk was lent: its store was opened; or it was not, and nothing else was asked for
-abbrev pub HostsOver : {S D L C : Type 0} → Views D L C → Layout → BrickId → Deed S D L C → D → D → HostSeen S D L C → HostSeen S D L C
+abbrev pub HostsOver : {S D L N C : Type 0} → Views D L C → Layout → BrickId → Deed S D L N C → D → D → HostSeen S D L N C → HostSeen S D L N C
     → List (Hosted D L) → List (Hosted D L) → Option (List ℕ) → Option (List ℕ) → Ending → Type 0
 HostsOver v layout me next disk back before after bricks bricks_after out said ending =
     (RefusesStore v layout me disk back ending × (after ≡ before) × (bricks_after ≡ bricks) × (said ≡ out))
     ⊎ HostsStarted v layout me next disk back before after bricks bricks_after out said ending
 
 -- The disk of this name was lent, and its store was to be opened; or the disk was refused.
-abbrev pub HostsByDisk : {S D L C : Type 0} → Views D L C → Layout → BrickId → List ℕ → Deed S D L C → HostSeen S D L C → HostSeen S D L C
+abbrev pub HostsByDisk : {S D L N C : Type 0} → Views D L C → Layout → BrickId → List ℕ → Deed S D L N C → HostSeen S D L N C → HostSeen S D L N C
     → List (Hosted D L) → List (Hosted D L) → Option (List ℕ) → Option (List ℕ) → Ending → Type 0
-HostsByDisk {S} {D} {L} {C} v layout me name next before after bricks bricks_after out said ending =
+HostsByDisk {S} {D} {L} {N} {C} v layout me name next before after bricks bricks_after out said ending =
     (IsRefused before after (calls.Disk name false) ending × (bricks_after ≡ bricks) × (said ≡ out))
     ⊎ ((disk back : D) × Borrows before after (calls.Disk name false) (λ h. h.disks name) (λ h. with_disk h name) disk back
     (λ began ended. HostsOver v layout me next disk back began ended bricks bricks_after out said ending))
@@ -159,8 +159,8 @@ abbrev pub disk_name : List ℕ → BrickId → List ℕ
 disk_name prefix me = prefix ++ (codes "." ++ decimal me.0)
 
 -- The bricks that are left were hosted, from this number on, beside those that were started; past the last one the commands were run.
-abbrev pub HostsBricks : {S D L C : Type 0} → (S → Option (List ℕ)) → (S → ℕ) → Views D L C → Layout → List ℕ → ℕ → Option (List ℕ) → Option (List ℕ)
-    → Ending → ℕ → ℕ → Deed S D L C
+abbrev pub HostsBricks : {S D L N C : Type 0} → (S → Option (List ℕ)) → (S → ℕ) → Views D L C → Layout → List ℕ → ℕ → Option (List ℕ) → Option (List ℕ)
+    → Ending → ℕ → ℕ → Deed S D L N C
 HostsBricks told failed v layout prefix turns out said ending zero id bricks bricks_after before after =
     HostsByClock told failed v layout turns before after bricks bricks_after out said ending
 HostsBricks told failed v layout prefix turns out said ending (suc left) id bricks bricks_after before after =
@@ -168,13 +168,13 @@ HostsBricks told failed v layout prefix turns out said ending (suc left) id bric
     (HostsBricks told failed v layout prefix turns out said ending left (id + 1)) before after bricks bricks_after out said ending
 
 -- the bricks of a layout from this number on
-abbrev pub HostsFrom : {S D L C : Type 0} → (S → Option (List ℕ)) → (S → ℕ) → Views D L C → Layout → List ℕ → ℕ → Option (List ℕ) → Option (List ℕ)
-    → Ending → ℕ → Deed S D L C
+abbrev pub HostsFrom : {S D L N C : Type 0} → (S → Option (List ℕ)) → (S → ℕ) → Views D L C → Layout → List ℕ → ℕ → Option (List ℕ) → Option (List ℕ)
+    → Ending → ℕ → Deed S D L N C
 HostsFrom told failed v layout prefix turns out said ending id =
     HostsBricks told failed v layout prefix turns out said ending (layout.bricks - id) id
 
 -- A layout was found: all its bricks were hosted, from the first on; or there was no memory for them, and nothing was asked for.
-abbrev pub HostsLayout : {S D L C : Type 0} → (S → Option (List ℕ)) → (S → ℕ) → Views D L C → Layout → List ℕ → ℕ → HostSeen S D L C → HostSeen S D L C
+abbrev pub HostsLayout : {S D L N C : Type 0} → (S → Option (List ℕ)) → (S → ℕ) → Views D L C → Layout → List ℕ → ℕ → HostSeen S D L N C → HostSeen S D L N C
     → Option (List ℕ) → Option (List ℕ) → Ending → Type 0
 HostsLayout told failed v layout prefix turns before after out said ending =
     ((ending ≡ Memory) × (after ≡ before) × (said ≡ out))
@@ -183,40 +183,40 @@ HostsLayout told failed v layout prefix turns before after out said ending =
 -- ---- what may be hosted
 
 -- the host holds standard input, to be lent
-abbrev pub HasCommands : {S D L C : Type 0} → Holdings S D L C → Type 0
+abbrev pub HasCommands : {S D L N C : Type 0} → Holdings S D L N C → Type 0
 HasCommands h = IsMissing (h.sources standard_input) → ⊥
 
 -- and a link for the client
-abbrev pub HasClient : {S D L C : Type 0} → Holdings S D L C → Type 0
+abbrev pub HasClient : {S D L N C : Type 0} → Holdings S D L N C → Type 0
 HasClient h = (IsMissing (h.links 0) → ⊥) × HasCommands h
 
 -- and the clock
-abbrev pub HasEnds : {S D L C : Type 0} → Holdings S D L C → Type 0
+abbrev pub HasEnds : {S D L N C : Type 0} → Holdings S D L N C → Type 0
 HasEnds h = HasClock h × HasClient h
 
 -- the host holds, under its name, a disk that may be started as this brick, and the link of its port
-pub record HasBrick {S D L C : Type 0} (tells : Type 0) (seen : D → List ℕ) (layout : Layout) (prefix : List ℕ) (me : BrickId)
-    (h : Holdings S D L C) : Type 0 where
+pub record HasBrick {S D L N C : Type 0} (tells : Type 0) (seen : D → List ℕ) (layout : Layout) (prefix : List ℕ) (me : BrickId)
+    (h : Holdings S D L N C) : Type 0 where
   pub disk : D
   pub held : h.disks (disk_name prefix me) ≡ here disk
   pub starts : MayStart tells seen layout me disk
   pub link : IsMissing (h.links (port_of (ports_of layout) me)) → ⊥
 
 -- the same for each brick of the layout from this number on; and the rest
-pub record HasBricks {S D L C : Type 0} (tells : Type 0) (seen : D → List ℕ) (layout : Layout) (prefix : List ℕ) (id : ℕ)
-    (h : Holdings S D L C) : Type 0 where
+pub record HasBricks {S D L N C : Type 0} (tells : Type 0) (seen : D → List ℕ) (layout : Layout) (prefix : List ℕ) (id : ℕ)
+    (h : Holdings S D L N C) : Type 0 where
   pub each : (k : ℕ) → id ≤ k → k < layout.bricks → HasBrick tells seen layout prefix (record { 0 = k }) h
   pub ends : HasEnds h
 
 -- the same once the disk of this brick was lent: its link, and the bricks behind it
-pub record HasRest {S D L C : Type 0} (tells : Type 0) (seen : D → List ℕ) (layout : Layout) (prefix : List ℕ) (me : BrickId)
-    (h : Holdings S D L C) : Type 0 where
+pub record HasRest {S D L N C : Type 0} (tells : Type 0) (seen : D → List ℕ) (layout : Layout) (prefix : List ℕ) (me : BrickId)
+    (h : Holdings S D L N C) : Type 0 where
   pub link : IsMissing (h.links (port_of (ports_of layout) me)) → ⊥
   pub bricks : HasBricks tells seen layout prefix (me.0 + 1) h
 
 -- The host holds a source with the text of a layout, the store of each of its bricks and the links of their ports, the clock, a link for the client,
 -- and standard input.
-pub record MayHost {S D L C : Type 0} (told : S → Option (List ℕ)) (tells : Type 0) (seen : D → List ℕ) (h : Holdings S D L C) (source prefix : List ℕ)
+pub record MayHost {S D L N C : Type 0} (told : S → Option (List ℕ)) (tells : Type 0) (seen : D → List ℕ) (h : Holdings S D L N C) (source prefix : List ℕ)
     : Type 0 where
   pub layout : Layout
   pub holds : HoldsLayout told h source layout

@@ -75,17 +75,17 @@ ServesTurns v turns node node_after link link_after clock clock_after out said e
 -- ---- the clock, the link and the disk
 
 -- The clock was lent, and turns were to be served; or it was refused.
-abbrev pub ServesByClock : {S D L C : Type 0} → Views D L C → ℕ → HostSeen S D L C → HostSeen S D L C → Running D → Running D → L → L
+abbrev pub ServesByClock : {S D L N C : Type 0} → Views D L C → ℕ → HostSeen S D L N C → HostSeen S D L N C → Running D → Running D → L → L
     → Option (List ℕ) → Option (List ℕ) → Ending → Type 0
-ServesByClock {S} {D} {L} {C} v turns before after node node_after link link_after out said ending =
+ServesByClock {S} {D} {L} {N} {C} v turns before after node node_after link link_after out said ending =
     (IsRefused before after calls.Clock ending × (node_after ≡ node) × (link_after ≡ link) × (said ≡ out))
     ⊎ ((clock back : C) × Borrows before after calls.Clock (λ h. h.clock) with_clock clock back
     (λ began ended. (ended ≡ began) × ServesTurns v turns node node_after link link_after clock back out said ending))
 
 -- The link of this port was lent, and then the clock was asked for; or the link was refused.
-abbrev pub ServesByLink : {S D L C : Type 0} → Views D L C → ℕ → ℕ → HostSeen S D L C → HostSeen S D L C → Running D → Running D
+abbrev pub ServesByLink : {S D L N C : Type 0} → Views D L C → ℕ → ℕ → HostSeen S D L N C → HostSeen S D L N C → Running D → Running D
     → Option (List ℕ) → Option (List ℕ) → Ending → Type 0
-ServesByLink {S} {D} {L} {C} v turns port before after node node_after out said ending =
+ServesByLink {S} {D} {L} {N} {C} v turns port before after node node_after out said ending =
     (IsRefused before after (calls.Link port) ending × (node_after ≡ node) × (said ≡ out))
     ⊎ ((link back : L) × Borrows before after (calls.Link port) (λ h. h.links port) (λ h. with_link h port) link back
     (λ began ended. ServesByClock v turns began ended node node_after link back out said ending))
@@ -109,8 +109,8 @@ pub record IsLeft {D L C : Type 0} (v : Views D L C) (layout : Layout) (me : Bri
   pub durable : v.disk.tells → whole → LeavesBrick layout me (state_of node) (v.disk.may_leave back)
 
 -- The disk's store was opened, and then the link of the brick's port was asked for. The disk is whole unless it failed.
-pub record ServesStarted {S D L C : Type 0} (v : Views D L C) (layout : Layout) (me : BrickId) (turns : ℕ) (disk back : D)
-    (before after : HostSeen S D L C) (out said : Option (List ℕ)) (ending : Ending) : Type 0 where
+pub record ServesStarted {S D L N C : Type 0} (v : Views D L C) (layout : Layout) (me : BrickId) (turns : ℕ) (disk back : D)
+    (before after : HostSeen S D L N C) (out said : Option (List ℕ)) (ending : Ending) : Type 0 where
   pub node : Running D
   pub node_after : Running D
   pub started : IsStarted v layout me disk node
@@ -141,22 +141,22 @@ RefusesStore v layout me disk back Memory = ⊤
 RefusesStore v layout me disk back other = ⊥
 
 -- a disk was lent: its store was opened; or it was not, and nothing else was asked for
-abbrev pub ServesOver : {S D L C : Type 0} → Views D L C → Layout → BrickId → ℕ → D → D → HostSeen S D L C → HostSeen S D L C
+abbrev pub ServesOver : {S D L N C : Type 0} → Views D L C → Layout → BrickId → ℕ → D → D → HostSeen S D L N C → HostSeen S D L N C
     → Option (List ℕ) → Option (List ℕ) → Ending → Type 0
 ServesOver v layout me turns disk back before after out said ending =
     (RefusesStore v layout me disk back ending × (after ≡ before) × (said ≡ out))
     ⊎ ServesStarted v layout me turns disk back before after out said ending
 
 -- The disk of this name was lent, and its store was to be opened; or the disk was refused.
-abbrev pub ServesByDisk : {S D L C : Type 0} → Views D L C → Layout → BrickId → ℕ → HostSeen S D L C → HostSeen S D L C → List ℕ
+abbrev pub ServesByDisk : {S D L N C : Type 0} → Views D L C → Layout → BrickId → ℕ → HostSeen S D L N C → HostSeen S D L N C → List ℕ
     → Option (List ℕ) → Option (List ℕ) → Ending → Type 0
-ServesByDisk {S} {D} {L} {C} v layout me turns before after name out said ending =
+ServesByDisk {S} {D} {L} {N} {C} v layout me turns before after name out said ending =
     (IsRefused before after (calls.Disk name false) ending × (said ≡ out))
     ⊎ ((disk back : D) × Borrows before after (calls.Disk name false) (λ h. h.disks name) (λ h. with_disk h name) disk back
     (λ began ended. ServesOver v layout me turns disk back began ended out said ending))
 
 -- A layout was found; a brick that it has not is refused, and else the disk was asked for.
-abbrev pub ServesBrick : {S D L C : Type 0} → Views D L C → Layout → Option BrickId → ℕ → HostSeen S D L C → HostSeen S D L C → List ℕ
+abbrev pub ServesBrick : {S D L N C : Type 0} → Views D L C → Layout → Option BrickId → ℕ → HostSeen S D L N C → HostSeen S D L N C → List ℕ
     → Option (List ℕ) → Option (List ℕ) → Ending → Type 0
 ServesBrick v layout None turns before after name out said ending = (ending ≡ Usage) × (after ≡ before) × (said ≡ out)
 ServesBrick v layout (Some me) turns before after name out said ending =
@@ -173,24 +173,24 @@ pub record MayStart {D : Type 0} (tells : Type 0) (seen : D → List ℕ) (layou
   pub openable : st.boot < 2 ^ 32 - 1
 
 -- the host holds the clock, to be lent
-abbrev pub HasClock : {S D L C : Type 0} → Holdings S D L C → Type 0
+abbrev pub HasClock : {S D L N C : Type 0} → Holdings S D L N C → Type 0
 HasClock h = IsMissing h.clock → ⊥
 
 -- and the link of this port
-pub record HasLink {S D L C : Type 0} (port : ℕ) (h : Holdings S D L C) : Type 0 where
+pub record HasLink {S D L N C : Type 0} (port : ℕ) (h : Holdings S D L N C) : Type 0 where
   pub link : IsMissing (h.links port) → ⊥
   pub clock : HasClock h
 
 -- and, under this name, a disk that may be started
-pub record HasDisk {S D L C : Type 0} (tells : Type 0) (seen : D → List ℕ) (layout : Layout) (me : BrickId) (name : List ℕ)
-    (h : Holdings S D L C) : Type 0 where
+pub record HasDisk {S D L N C : Type 0} (tells : Type 0) (seen : D → List ℕ) (layout : Layout) (me : BrickId) (name : List ℕ)
+    (h : Holdings S D L N C) : Type 0 where
   pub disk : D
   pub held : h.disks name ≡ here disk
   pub starts : MayStart tells seen layout me disk
   pub others : HasLink (port_of (ports_of layout) me) h
 
 -- The host holds a source with the text of a layout, which has the brick, a disk that is its store, the link of its port, and the clock.
-pub record MayServe {S D L C : Type 0} (told : S → Option (List ℕ)) (tells : Type 0) (seen : D → List ℕ) (h : Holdings S D L C) (source disk : List ℕ)
+pub record MayServe {S D L N C : Type 0} (told : S → Option (List ℕ)) (tells : Type 0) (seen : D → List ℕ) (h : Holdings S D L N C) (source disk : List ℕ)
     (id : ℕ) : Type 0 where
   pub layout : Layout
   pub holds : HoldsLayout told h source layout

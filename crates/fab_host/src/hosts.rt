@@ -2,12 +2,12 @@
 ghost use Rattle.std.specs.Prelude.{◌≡◌, ◌≤◌, ℕ, List, Option, true, false, IfOk};
 ghost use Rattle.fab_host.specs.Asking.{Asks};
 ghost use Rattle.fab_host.specs.Held.{lent, here, IsKnown, IsMissing};
-ghost use Rattle.fab_host.specs.Holdings.{with_source, with_disk, with_link, with_clock, IsFree};
+ghost use Rattle.fab_host.specs.Holdings.{with_source, with_disk, with_link, with_session, with_clock, IsFree};
 ghost use Rattle.fab_host.specs.Opening.{Lends, Regains, WhereTold, OpeningKept, IsEmptyDisk};
 
 use fab_base::Bytes;
 use fab_disk::Disk;
-use fab_io::{Clock, IoFault, Link, Source};
+use fab_io::{Clock, IoFault, Link, Sink, Source};
 
 /// A call that was asked of a host to open something.
 #[derive(Drop)]
@@ -23,11 +23,22 @@ pub enum Asked {
     },
     /// The link at this port.
     Link(u16),
+    /// The session at this port.
+    Session(u16),
     /// The clock.
     Clock,
 }
 
-/// What opens the sources, disks, links and clocks of a program, and is given them back before the program ends.
+/// A session with one client: what the client sends, and what is sent to it.
+#[derive(Drop)]
+pub struct Connection<I: Source + Drop, O: Sink + Drop> {
+    /// Where the client's bytes come from.
+    pub source: I,
+    /// Where the bytes to the client go.
+    pub sink: O,
+}
+
+/// What opens the sources, disks, links, sessions and clocks of a program, and is given them back before the program ends.
 ///
 /// A host has a count of faults, which never falls and stays at `u64::MAX` once it is there. It tells the calls that were
 /// asked of it, in order; giving back is no such call. It may tell what it holds. A host that is sound fails only where a name is
@@ -37,6 +48,7 @@ pub enum Asked {
 /// Whether a host tells what it holds never changes. If it does, what it has lent can't be opened again until it is given back.
 pub trait Host {
     ghost use Rattle.fab_host.specs.declared.hosts.Asked.{Asked};
+    ghost use Rattle.fab_host.specs.declared.hosts.Connection.{Connection};
     ghost use Rattle.fab_host.specs.Holdings.{Holdings};
 
     /// Its sources.
@@ -48,6 +60,12 @@ pub trait Host {
     /// Its links.
     type Link: Link + Drop;
 
+    /// The sources of its sessions.
+    type Input: Source + Drop;
+
+    /// The sinks of its sessions.
+    type Output: Sink + Drop;
+
     /// Its clocks.
     type Clock: Clock + Drop;
 
@@ -58,7 +76,7 @@ pub trait Host {
     ghost asked: { Self → List Asked };
 
     // What it holds, where it tells that.
-    ghost holds: { Self → Option (Holdings Self.Source Self.Disk Self.Link Self.Clock) };
+    ghost holds: { Self → Option (Holdings Self.Source Self.Disk Self.Link (Connection Self.Input Self.Output) Self.Clock) };
 
     // No call fails from here on, but for a wrong name.
     ghost sound: { Self → Type 0 };
@@ -103,6 +121,18 @@ pub trait Host {
         ensures kept { OpeningKept (faults self.old) (faults self.new) (sound self.old) (sound self.new)
             (result ≡ Err IoFault.Failed) (WhereTold (holds self.old) (λ h. IsMissing (h.links port))) };
 
+    /// Opens a session at this port: one client that has come there.
+    ///
+    /// `Failed` comes only where the count of faults rose in this call; over a sound host, where there is no such session to
+    /// be opened. `NoMemory` changes nothing.
+    fn session(&mut self, port: u16) -> Result<Connection<Self::Input, Self::Output>, IoFault>
+        ensures asked { Asks (asked self.old) (asked self.new) (Asked.Session port) result }
+        ensures lends { Lends (holds self.old) (holds self.new) (λ h session. h.sessions port ≡ here session)
+            (λ h. with_session h port lent) result }
+        ensures gives { sound self.old → IfOk result (λ session. Self.Input.sound session.source × Self.Output.sound session.sink) }
+        ensures kept { OpeningKept (faults self.old) (faults self.new) (sound self.old) (sound self.new)
+            (result ≡ Err IoFault.Failed) (WhereTold (holds self.old) (λ h. IsMissing (h.sessions port))) };
+
     /// Opens the clock.
     ///
     /// `Failed` comes only where the count of faults rose in this call; over a sound host, where it was opened before.
@@ -137,6 +167,14 @@ pub trait Host {
         ensures asked { asked self.new ≡ asked self.old }
         ensures holds { Regains (holds self.old) (holds self.new) (λ h. with_link h port (here link)) }
         ensures sound { Self.Link.sound link → sound self.old → sound self.new }
+        ensures faults { faults self.new ≡ faults self.old };
+
+    /// Takes a session back, by its source and its sink. It can't fail: the opening made room for it.
+    fn keep_session(&mut self, port: u16, source: Self::Input, sink: Self::Output)
+        requires { WhereTold (holds self.old) (λ h. IsKnown (h.sessions port)) }
+        ensures asked { asked self.new ≡ asked self.old }
+        ensures holds { Regains (holds self.old) (holds self.new) (λ h. with_session h port (here (record { source = source; sink = sink }))) }
+        ensures sound { Self.Input.sound source → Self.Output.sound sink → sound self.old → sound self.new }
         ensures faults { faults self.new ≡ faults self.old };
 
     /// Takes a clock back. It can't fail: the opening made room for it.

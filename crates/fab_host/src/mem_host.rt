@@ -4,21 +4,21 @@ ghost use Rattle.fab_disk.specs.MemDisk.{content_of, may_be_left, IsSound};
 ghost use Rattle.fab_host.specs.Asking.{Asks};
 ghost use Rattle.fab_host.specs.Opening.{Lends, OpeningKept, IsEmptyDisk};
 ghost use Rattle.fab_host.specs.Held.{lent, here, IsMissing};
-ghost use Rattle.fab_host.specs.Holdings.{with_source, with_disk, with_link, IsFree};
+ghost use Rattle.fab_host.specs.Holdings.{with_source, with_disk, with_link, with_session, IsFree};
 ghost use Rattle.fab_host.specs.InMemory.{seen_of, host_of, IsSoundHost};
 
 use crate::asking::{ask, name_of};
-use crate::hosts::{Asked, Host};
+use crate::hosts::{Asked, Connection, Host};
 use crate::slots::{
     Slot, add_named, add_ported, find_name, look_named, look_ported, push_named, put_named,
     put_ported, take_named, take_ported,
 };
 use fab_base::Bytes;
 use fab_disk::MemDisk;
-use fab_io::{Calls, IoFault, MemClock, MemLink, MemSource};
+use fab_io::{Calls, IoFault, MemClock, MemLink, MemSink, MemSource};
 use std::alloc::Global;
 
-/// A host that holds sources, disks and links in memory, under the names and ports that it was given them by, and a clock. What was
+/// A host that holds sources, disks, links and sessions in memory, under the names and ports that it was given them by, and a clock. What was
 /// opened and given back can be opened again. A source named `-` is the standard input.
 ///
 /// It fails where a name is missing, or exists where it is to be made, at the calls that [`fail_at`](MemHost::fail_at) lists, and at
@@ -28,6 +28,7 @@ pub struct MemHost {
     sources: Vec<Slot<Bytes, MemSource>>,
     disks: Vec<Slot<Bytes, MemDisk>>,
     links: Vec<Slot<u16, MemLink>>,
+    sessions: Vec<Slot<u16, Connection<MemSource, MemSink>>>,
     clock: Option<MemClock>,
     asked: Vec<Asked>,
     calls: Calls,
@@ -40,6 +41,7 @@ impl Drop for MemHost {
             sources: _,
             disks: _,
             links: _,
+            sessions: _,
             clock: _,
             asked: _,
             calls: _,
@@ -56,6 +58,7 @@ impl MemHost {
             sources: Vec::new(alloc),
             disks: Vec::new(alloc),
             links: Vec::new(alloc),
+            sessions: Vec::new(alloc),
             clock: Some(clock),
             asked: Vec::new(alloc),
             calls: Calls::new(alloc),
@@ -95,6 +98,21 @@ impl MemHost {
         add_ported(&mut self.links, port, link)
     }
 
+    /// Puts a session at this port, in the place of one that was there.
+    ///
+    /// # Errors
+    /// `NoMemory`, and nothing changed.
+    pub fn add_session(
+        &mut self,
+        port: u16,
+        session: Connection<MemSource, MemSink>,
+    ) -> Result<(), IoFault>
+        ensures ok { OnOk result (seen_of self.new ≡ record (seen_of self.old) { held = with_session (seen_of self.old).held port (here session) }) }
+        ensures err { OnErr result (seen_of self.new ≡ seen_of self.old) }
+    {
+        add_ported(&mut self.sessions, port, session)
+    }
+
     /// The calls that are to fail, numbered from 1 over the host's life, in the place of those listed before. Those that open are
     /// numbered together.
     pub fn fail_at(&mut self, calls: Vec<u64>)
@@ -122,6 +140,13 @@ impl MemHost {
         ensures { MatchOption result (IsMissing ((seen_of self.now).held.links port)) (λ link. (seen_of self.now).held.links port ≡ here link.now) }
     {
         look_ported(&self.links, port)
+    }
+
+    /// The session at this port, where it is not lent.
+    pub fn session_at(&self, port: u16) -> Option<&Connection<MemSource, MemSink>>
+        ensures { MatchOption result (IsMissing ((seen_of self.now).held.sessions port)) (λ session. (seen_of self.now).held.sessions port ≡ here session.now) }
+    {
+        look_ported(&self.sessions, port)
     }
 
     // Makes an empty disk, where no source and no disk has the name.
@@ -161,6 +186,10 @@ impl Host for MemHost {
     type Disk = MemDisk;
 
     type Link = MemLink;
+
+    type Input = MemSource;
+
+    type Output = MemSink;
 
     type Clock = MemClock;
 
@@ -209,6 +238,15 @@ impl Host for MemHost {
         }
     }
 
+    fn session(&mut self, port: u16) -> Result<Connection<MemSource, MemSink>, IoFault> {
+        ask(&mut self.asked, Asked::Session(port))?;
+        self.calls.count()?;
+        match take_ported(&mut self.sessions, port) {
+            Some(session) => Ok(session),
+            None => Err(self.calls.refuse()),
+        }
+    }
+
     fn clock(&mut self) -> Result<MemClock, IoFault> {
         ask(&mut self.asked, Asked::Clock)?;
         self.calls.count()?;
@@ -228,6 +266,10 @@ impl Host for MemHost {
 
     fn keep_link(&mut self, port: u16, link: MemLink) {
         put_ported(&mut self.links, port, link);
+    }
+
+    fn keep_session(&mut self, port: u16, source: MemSource, sink: MemSink) {
+        put_ported(&mut self.sessions, port, Connection { source, sink });
     }
 
     fn keep_clock(&mut self, clock: MemClock) {

@@ -4,20 +4,21 @@ ghost use Rattle.std.specs.Io.{ReadsAtMost, StopsAt};
 ghost use Rattle.fab_io.specs.Ends.{Kept};
 
 use crate::asking::{ask, name_of};
-use crate::hosts::{Asked, Host};
+use crate::hosts::{Asked, Connection, Host};
 use crate::os_links::{OsLink, Turns};
 use fab_disk::FileDisk;
-use fab_io::{FileSource, IoFault, Source, SystemClock, UdpLink, raise};
+use fab_io::{FileSource, IoFault, Source, StdSink, StdSource, SystemClock, UdpLink, raise};
 use std::alloc::Global;
 use std::fs::{File, Files};
-use std::net::Net;
+use std::net::{Ipv4Addr, Net, OpenListener, OpenStream, TcpListener};
 use std::path::Path;
 use std::rc::Rc;
 use std::{io, time};
 
-/// A host that opens the files, the UDP ports of 127.0.0.1 and the clock of the system, and gives as standard input the source that
+/// A host that opens the files, the UDP and TCP ports of 127.0.0.1 and the clock of the system, and gives as standard input the source that
 /// it was made over, once.
 ///
+/// A session waits until a client comes to its port, and takes no other one; what is sent to it leaves at once.
 /// A disk is a file that is locked while it is open, so that one that is open elsewhere is a fault. A fresh one is made
 /// exclusively, and its folder is synced. Each error of the system is a fault; of one at which nothing was opened or made, a line on standard
 /// error says the thing and the system's word for why. A host tells the calls asked of it and nothing else, and is never sound; what it is given
@@ -73,6 +74,10 @@ impl<'r, R: Files<File = File> + Net + time::Clock + Eprint, I: Source + Drop> H
     type Disk = FileDisk;
 
     type Link = OsLink;
+
+    type Input = StdSource<R::Stream>;
+
+    type Output = StdSink<R::Stream>;
 
     type Clock = SystemClock<&'r R>;
 
@@ -130,6 +135,20 @@ impl<'r, R: Files<File = File> + Net + time::Clock + Eprint, I: Source + Drop> H
         }
     }
 
+    fn session(
+        &mut self,
+        port: u16,
+    ) -> Result<Connection<StdSource<R::Stream>, StdSink<R::Stream>>, IoFault> {
+        ask(&mut self.asked, Asked::Session(port))?;
+        match accept(self.system, port) {
+            Ok(session) => Ok(session),
+            Err(error) => {
+                let _ = eprintln!(self.system; "session {port}: {error}");
+                Err(raise(&mut self.faults))
+            }
+        }
+    }
+
     fn clock(&mut self) -> Result<SystemClock<&'r R>, IoFault> {
         ask(&mut self.asked, Asked::Clock)?;
         Ok(SystemClock::new(self.system))
@@ -143,7 +162,26 @@ impl<'r, R: Files<File = File> + Net + time::Clock + Eprint, I: Source + Drop> H
         link.close();
     }
 
+    fn keep_session(
+        &mut self,
+        _port: u16,
+        _source: StdSource<R::Stream>,
+        _sink: StdSink<R::Stream>,
+    ) {}
+
     fn keep_clock(&mut self, _clock: SystemClock<&'r R>) {}
+}
+
+// Waits for a client at this port of 127.0.0.1. What is sent to it leaves at once: a reply waits for no other one.
+fn accept<R: Net>(
+    net: &R,
+    port: u16,
+) -> io::Result<Connection<StdSource<R::Stream>, StdSink<R::Stream>>> {
+    let (stream, _) = TcpListener::bind(net, (Ipv4Addr::LOCALHOST, port))?.accept()?;
+    stream.set_nodelay(true)?;
+    let sink = StdSink::new(stream.try_clone()?);
+    let source = StdSource::new(stream);
+    Ok(Connection { source, sink })
 }
 
 // Opens a disk's file and locks it. A fresh one must not be there before; it stays if its lock fails, or the sync of its folder.

@@ -110,12 +110,12 @@ host_bricks-returns g t c =
     let said = g.K.Sink.told hosted.new.out in
     let name_is : c.as_str-name.result.now ≡ name = c.as_str-name.ensures.value ∙ c.in-Ok.ensures in
     let lends = lends_told _ _ _ _ _ _ (c.in-Ok-disk.ensures.lends refl) in
-    let next = HostsFrom g.H.Source.Source.told g.H.Source.Source.faults v c.args.layout.now c.args.prefix.now c.args.turns
-    (g.K.Sink.told c.args.out.now) said hosted.result.2 (c.args.id + 1) in
     record {
       hosts = from_next _ _ v c.args.layout.now c.args.prefix.now c.args.turns (g.K.Sink.told c.args.out.now) said hosted.result.2 c.args.id
           c.args.bricks.bricks hosted.result.0.bricks before after (omega arith)
-          (subst (λ n. HostsByDisk v c.args.layout.now (record { 0 = c.args.id }) n next before after c.args.bricks.bricks hosted.result.0.bricks
+          (subst (λ n. HostsByDisk v c.args.layout.now (record { 0 = c.args.id }) n
+          (HostsFrom g.H.Source.Source.told g.H.Source.Source.faults v c.args.layout.now c.args.prefix.now c.args.turns (g.K.Sink.told c.args.out.now) said
+          hosted.result.2 (c.args.id + 1)) before after c.args.bricks.bricks hosted.result.0.bricks
           (g.K.Sink.told c.args.out.now) said hosted.result.2) name_is (inr (
             c.in-Ok-disk.disk,
             hosted.result.1,
@@ -264,7 +264,6 @@ host_link-returns g t c =
     let more_after = last.ensures.1 in
     let taken = last.ensures.2 in
     let lends = lends_told _ _ _ _ _ _ c.in-Ok.ensures.lends in
-    let from = HostsFrom g.H.Source.Source.told g.H.Source.Source.faults v layout c.args.prefix.now c.args.turns out said hosted.result.1 (me.0 + 1) in
     let same : AreSame (first ++ (brick ∷ [])) (first_after ++ (brick_after ∷ [])) =
     subst (λ bs. AreSame (first ++ (brick ∷ [])) bs) more_after (subst (λ bs. AreSame bs hosted.result.0.bricks) more inner.same) in
     let both = same_last first first_after brick brick_after same in
@@ -278,7 +277,7 @@ host_link-returns g t c =
       link = subst l.sound (sym begins.link_is) linked;
     })) in
     record {
-      hosts = subst (λ p. HostsByLink p from before after first first_after c.args.node last.result.0 out said hosted.result.1) c.port_of-port.ensures.value (inr (
+      hosts = subst (λ p. HostsByLink p (HostsFrom g.H.Source.Source.told g.H.Source.Source.faults v layout c.args.prefix.now c.args.turns out said hosted.result.1 (me.0 + 1)) before after first first_after c.args.node last.result.0 out said hosted.result.1) c.port_of-port.ensures.value (inr (
         c.in-Ok.link,
         last.result.1,
         record {
@@ -291,8 +290,8 @@ host_link-returns g t c =
             begins,
             sym (ap (λ p. p.0) taken),
             sym (ap (λ p. p.1) taken),
-            subst (λ bs. from (first ++ (brick ∷ [])) bs began ended) more_after
-                (subst (λ bs. from bs hosted.result.0.bricks began ended) more inner.hosts),
+            subst (λ bs. HostsFrom g.H.Source.Source.told g.H.Source.Source.faults v layout c.args.prefix.now c.args.turns out said hosted.result.1 (me.0 + 1) (first ++ (brick ∷ [])) bs began ended) more_after
+                (subst (λ bs. HostsFrom g.H.Source.Source.told g.H.Source.Source.faults v layout c.args.prefix.now c.args.turns out said hosted.result.1 (me.0 + 1) bs hosted.result.0.bricks began ended) more inner.hosts),
           );
           asked = c.keep_link.ensures.asked;
           faults = c.keep_link.ensures.faults;

@@ -4,7 +4,7 @@ use Rattle.fab_host.proofs.Lending.{OnOk-with, OnErr-with}
 use Rattle.fab_host.proofs.mem_host.MemHost.add_disk.Goals as goal
 
 pub returns-clause-ok : goal.returns-clause-ok
-returns-clause-ok c = OnOk-with c.add_named.result (ap (λ f. let h : HostInMemory = record { held = record { sources = (seen_of c.args.self.now).held.sources; disks = f; links = (seen_of c.args.self.now).held.links; clock = (seen_of c.args.self.now).held.clock }; asked = c.args.self.now.asked.items; calls = c.args.self.now.calls } in h)) c.add_named.ensures.ok
+returns-clause-ok c = OnOk-with c.add_named.result (ap (λ f. let h : HostInMemory = record { held = record { sources = (seen_of c.args.self.now).held.sources; disks = f; links = (seen_of c.args.self.now).held.links; sessions = (seen_of c.args.self.now).held.sessions; clock = (seen_of c.args.self.now).held.clock }; asked = c.args.self.now.asked.items; calls = c.args.self.now.calls } in h)) c.add_named.ensures.ok
 
 pub returns-clause-err : goal.returns-clause-err
-returns-clause-err c = OnErr-with c.add_named.result (ap (λ f. let h : HostInMemory = record { held = record { sources = (seen_of c.args.self.now).held.sources; disks = f; links = (seen_of c.args.self.now).held.links; clock = (seen_of c.args.self.now).held.clock }; asked = c.args.self.now.asked.items; calls = c.args.self.now.calls } in h)) c.add_named.ensures.err
+returns-clause-err c = OnErr-with c.add_named.result (ap (λ f. let h : HostInMemory = record { held = record { sources = (seen_of c.args.self.now).held.sources; disks = f; links = (seen_of c.args.self.now).held.links; sessions = (seen_of c.args.self.now).held.sessions; clock = (seen_of c.args.self.now).held.clock }; asked = c.args.self.now.asked.items; calls = c.args.self.now.calls } in h)) c.add_named.ensures.err

@@ -14,6 +14,7 @@ returns-in-None-clause-kept c =
       sources = s.sources;
       disks = s.disks;
       links = s.links;
+      sessions = s.sessions;
       clock = λ x is. absurd (missing_lent c.take.new.self x c.take.ensures.after is);
     })
     (subst IsMissing (sym (ap held_in (sym c.take.ensures.value ∙ c.in-None.is))) tt)

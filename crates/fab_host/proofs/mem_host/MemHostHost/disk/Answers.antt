@@ -11,7 +11,7 @@ use Rattle.fab_host.proofs.mem_host.MemHostHost.disk.Goals as goal
 
 pub returns-in-Some-clause-lends : goal.returns-in-Some-clause-lends
 returns-in-Some-clause-lends c =
-    λ e. (c.in-Some.ensures.0, ap (λ f. let h : HoldingsInMemory = record { sources = (seen_of c.args.self.now).held.sources; disks = f; links = (seen_of c.args.self.now).held.links; clock = (seen_of c.args.self.now).held.clock } in h) c.in-Some.ensures.1)
+    λ e. (c.in-Some.ensures.0, ap (λ f. let h : HoldingsInMemory = record { sources = (seen_of c.args.self.now).held.sources; disks = f; links = (seen_of c.args.self.now).held.links; sessions = (seen_of c.args.self.now).held.sessions; clock = (seen_of c.args.self.now).held.clock } in h) c.in-Some.ensures.1)
 
 pub returns-in-Some-clause-gives : goal.returns-in-Some-clause-gives
 returns-in-Some-clause-gives c = λ s. s.disks c.args.name.now c.in-Some.disk c.in-Some.ensures.0
@@ -19,10 +19,10 @@ returns-in-Some-clause-gives c = λ s. s.disks c.args.name.now c.in-Some.disk c.
 pub returns-in-Some-clause-kept : goal.returns-in-Some-clause-kept
 returns-in-Some-clause-kept c =
     kept_lent c.count.ensures.kept.later
-    (λ s. record { unlisted = c.count.ensures.kept.stays s.unlisted; disks = AllHere-lent bytes_eq IsSound _ _ c.args.name.now c.in-Some.ensures.1 s.disks; sources = s.sources; links = s.links; clock = s.clock }) (λ e. cc)
+    (λ s. record { unlisted = c.count.ensures.kept.stays s.unlisted; disks = AllHere-lent bytes_eq IsSound _ _ c.args.name.now c.in-Some.ensures.1 s.disks; sources = s.sources; links = s.links; sessions = s.sessions; clock = s.clock }) (λ e. cc)
 
 pub returns-in-None-clause-lends : goal.returns-in-None-clause-lends
-returns-in-None-clause-lends c = λ e. ap (λ f. let h : HoldingsInMemory = record { sources = (seen_of c.args.self.now).held.sources; disks = f; links = (seen_of c.args.self.now).held.links; clock = (seen_of c.args.self.now).held.clock } in h) c.in-None.ensures.1
+returns-in-None-clause-lends c = λ e. ap (λ f. let h : HoldingsInMemory = record { sources = (seen_of c.args.self.now).held.sources; disks = f; links = (seen_of c.args.self.now).held.links; sessions = (seen_of c.args.self.now).held.sessions; clock = (seen_of c.args.self.now).held.clock } in h) c.in-None.ensures.1
 
 pub returns-in-None-clause-kept : goal.returns-in-None-clause-kept
 returns-in-None-clause-kept c =
@@ -32,6 +32,7 @@ returns-in-None-clause-kept c =
       disks = subst (AllHere IsSound) (sym c.in-None.ensures.1) s.disks;
       sources = s.sources;
       links = s.links;
+      sessions = s.sessions;
       clock = s.clock;
     })
     (λ e. c.in-None.ensures.0, λ t. cc)

@@ -8,7 +8,7 @@ use Rattle.fab_host.proofs.mem_host.MemHostHost.link.Goals as goal
 
 pub returns-in-Some-clause-lends : goal.returns-in-Some-clause-lends
 returns-in-Some-clause-lends c =
-    (c.in-Some.ensures.0, ap (λ f. let h : HoldingsInMemory = record { sources = (seen_of c.args.self.now).held.sources; disks = (seen_of c.args.self.now).held.disks; links = f; clock = (seen_of c.args.self.now).held.clock } in h) c.in-Some.ensures.1)
+    (c.in-Some.ensures.0, ap (λ f. let h : HoldingsInMemory = record { sources = (seen_of c.args.self.now).held.sources; disks = (seen_of c.args.self.now).held.disks; links = f; sessions = (seen_of c.args.self.now).held.sessions; clock = (seen_of c.args.self.now).held.clock } in h) c.in-Some.ensures.1)
 
 pub returns-in-Some-clause-gives : goal.returns-in-Some-clause-gives
 returns-in-Some-clause-gives c = λ s. s.links c.args.port c.in-Some.link c.in-Some.ensures.0
@@ -16,10 +16,10 @@ returns-in-Some-clause-gives c = λ s. s.links c.args.port c.in-Some.link c.in-S
 pub returns-in-Some-clause-kept : goal.returns-in-Some-clause-kept
 returns-in-Some-clause-kept c =
     kept_lent c.count.ensures.kept.later
-    (λ s. record { unlisted = c.count.ensures.kept.stays s.unlisted; links = AllHere-lent nat_eq (λ (x : LinkInMemory). NoneToFail x.calls) _ _ c.args.port c.in-Some.ensures.1 s.links; sources = s.sources; disks = s.disks; clock = s.clock }) (λ e. cc)
+    (λ s. record { unlisted = c.count.ensures.kept.stays s.unlisted; links = AllHere-lent nat_eq (λ (x : LinkInMemory). NoneToFail x.calls) _ _ c.args.port c.in-Some.ensures.1 s.links; sources = s.sources; disks = s.disks; sessions = s.sessions; clock = s.clock }) (λ e. cc)
 
 pub returns-in-None-clause-lends : goal.returns-in-None-clause-lends
-returns-in-None-clause-lends c = ap (λ f. let h : HoldingsInMemory = record { sources = (seen_of c.args.self.now).held.sources; disks = (seen_of c.args.self.now).held.disks; links = f; clock = (seen_of c.args.self.now).held.clock } in h) c.in-None.ensures.1
+returns-in-None-clause-lends c = ap (λ f. let h : HoldingsInMemory = record { sources = (seen_of c.args.self.now).held.sources; disks = (seen_of c.args.self.now).held.disks; links = f; sessions = (seen_of c.args.self.now).held.sessions; clock = (seen_of c.args.self.now).held.clock } in h) c.in-None.ensures.1
 
 pub returns-in-None-clause-kept : goal.returns-in-None-clause-kept
 returns-in-None-clause-kept c =
@@ -29,6 +29,7 @@ returns-in-None-clause-kept c =
       links = subst (AllHere (λ (x : LinkInMemory). NoneToFail x.calls)) (sym c.in-None.ensures.1) s.links;
       sources = s.sources;
       disks = s.disks;
+      sessions = s.sessions;
       clock = s.clock;
     })
     c.in-None.ensures.0
