@@ -6,14 +6,16 @@
 //!
 //! A line `memory WORDS..` runs a command over a host in memory, which keeps what it holds from line to line, and holds the layout of `data/`
 //! as `layout`. Behind ` < ` stands the name of a file in `data/`: its lines `PORT HEX` are the datagrams that wait at the link of brick 0.
-//! After the line `fail` the next call of that host fails.
+//! After the line `fail` the next call of that host fails. The line `session PIECE NAME` puts a session into that host, whose client sends the bytes
+//! of the file NAME in `data/`, at most PIECE of them at a read, and links at which the datagrams of `data/replies` wait for the bricks' client.
 //!
-//! For each command its line, its status and what it printed are printed, and behind ` < ` the datagrams that were sent.
+//! For each command its line, its status and what it printed are printed, then the datagrams that were sent by brick 0 and by the bricks' client, and what
+//! was sent to the client of the session.
 #![tactic(auto)]
 
 use brick::brick;
 use fab_base::Bytes;
-use fab_host::{MemHost, OsHost};
+use fab_host::{Connection, MemHost, OsHost};
 use fab_io::{Datagram, MemClock, MemLink, MemSink, MemSource};
 use std::alloc::Global;
 use std::env::Env;
@@ -29,6 +31,14 @@ const PROCESSES: u32 = 300;
 
 /// The port of brick 0 of the layout in `data/`.
 const PORT: u16 = 17_000;
+
+/// The ports of the other bricks, and that of the bricks' client.
+const OTHER_PORTS: [u16; 2] = [17_001, 17_002];
+
+const CLIENT_PORT: u16 = 0;
+
+/// The port of the session.
+const SESSION_PORT: u16 = 10_809;
 
 /// What a command ends with: its status, and what it printed.
 #[derive(Drop)]
@@ -158,13 +168,61 @@ fn read_datagrams(alloc: Global, text: &str) -> io::Result<Vec<Datagram>> {
     Ok(datagrams)
 }
 
-/// Prints the datagrams that were sent over the link of brick 0.
-fn print_sent(rt: &(impl Print + AllocGlobal), host: &MemHost) -> io::Result<()> {
-    if let Some(link) = host.link_at(PORT) {
-        for datagram in link.sent() {
-            let digits = hex::encode(rt.alloc(), datagram.bytes.as_slice())?;
-            println!(rt; "{} {digits}", datagram.port)?;
+/// The bytes of a file of HEX lines.
+fn read_bytes(alloc: Global, text: &str) -> io::Result<Vec<u8>> {
+    let mut bytes = Vec::new(alloc);
+    for line in text.lines() {
+        let Ok(piece) = hex::decode(alloc, line.as_bytes()) else {
+            return Err(refused());
+        };
+        bytes.extend_from_slice(&piece)?;
+    }
+    Ok(bytes)
+}
+
+/// Puts a session into a host, and the links that are missing, at that of the bricks' client with its datagrams.
+fn add_session(
+    rt: &(impl Files + AllocGlobal),
+    host: &mut MemHost,
+    piece: &str,
+    name: &str,
+) -> io::Result<()> {
+    let alloc = rt.alloc();
+    let mut source =
+        MemSource::new(read_bytes(alloc, fs::read_to_string(rt, name)?.as_str())?);
+    match piece.parse::<usize>() {
+        Ok(piece) if piece > 0 => source.in_pieces_of(piece),
+        _ => return Err(refused()),
+    }
+    let sink = MemSink::new(alloc);
+    let replies = read_datagrams(alloc, fs::read_to_string(rt, "replies")?.as_str())?;
+    for port in OTHER_PORTS {
+        if host.add_link(port, MemLink::new(Vec::new(alloc))).is_err() {
+            return Err(refused());
         }
+    }
+    let session = Connection { source, sink };
+    if host.add_link(CLIENT_PORT, MemLink::new(replies)).is_err()
+        || host.add_session(SESSION_PORT, session).is_err()
+    {
+        return Err(refused());
+    }
+    Ok(())
+}
+
+/// Prints the datagrams that were sent over the links of brick 0 and of the bricks' client, and the bytes that were sent to the session's.
+fn print_sent(rt: &(impl Print + AllocGlobal), host: &MemHost) -> io::Result<()> {
+    for port in [PORT, CLIENT_PORT] {
+        if let Some(link) = host.link_at(port) {
+            for datagram in link.sent() {
+                let digits = hex::encode(rt.alloc(), datagram.bytes.as_slice())?;
+                println!(rt; "{} {digits}", datagram.port)?;
+            }
+        }
+    }
+    if let Some(session) = host.session_at(SESSION_PORT) {
+        let digits = hex::encode(rt.alloc(), session.sink.taken())?;
+        println!(rt; "session {digits}")?;
     }
     Ok(())
 }
@@ -181,6 +239,9 @@ fn main(rt: HostRuntime) -> io::Result<()> {
         } else if line == "fail" {
             let next = host.asked().len() as u64 + 1;
             host.fail_at(vec![in alloc; next; 1]?);
+        } else if let Some(rest) = line.strip_prefix("session ") {
+            let (piece, name) = rest.split_once(' ').unwrap_or((rest, ""));
+            add_session(&rt, &mut host, piece, name)?;
         } else if let Some(rest) = line.strip_prefix("memory ") {
             let (command, datagrams) = rest.split_once(" < ").unwrap_or((rest, ""));
             let ending = place.run_in_memory(&rt, &mut host, command, datagrams)?;
