@@ -59,6 +59,11 @@ send_is session (Says said next) bytes e = let same : said ≡ bytes = cc in ap 
 send_is session Asks bytes e = absurd cc
 send_is session (Ends end) bytes e = absurd cc
 
+-- it sends bytes, and is this session then
+pub says_then : (session session_then : Session) (bytes : List ℕ) → step.Send bytes ≡ step_of (move_of session)
+    → session_then ≡ after session (move_of session) → move_of session ≡ Says bytes session_then
+says_then session session_then bytes e is = send_is session (move_of session) bytes e ∙ ap (λ (s : Session). Says bytes s) (sym is)
+
 module _ {A : Type 0} (takes : A → A → Type 0) (layout : Layout) (turns : ℕ) (before : Outside A) where
   -- ---- one thing more is done
 
@@ -178,6 +183,24 @@ module _ {A : Type 0} (takes : A → A → Type 0) (layout : Layout) (turns : �
         runs = IsRunning-begun session layout is within;
         few = omega (arith, nothing, none);
       }
+
+  -- asked what it does next, it waits for bytes, and is as it was
+  pub IsServing-waits : (now : Outside A) (session session_then : Session) (left sent : ℕ) → IsServing now session left sent
+      → step.Need ≡ step_of (move_of session) → session_then ≡ after session (move_of session)
+      → IsServing now session_then left sent × (move_of session_then ≡ Waits)
+  IsServing-waits now session session_then left sent h need is =
+      let waits : move_of session ≡ Waits = need_is (move_of session) need in
+      let same : session_then ≡ session = is ∙ ap (after session) waits in
+      (subst (λ (s : Session). IsServing now s left sent) (sym same) h, ap move_of same ∙ waits)
+
+  -- or it asks a command
+  pub IsServing-asks : (now : Outside A) (session session_then : Session) (left sent : ℕ) → IsServing now session left sent
+      → step.Ask ≡ step_of (move_of session) → session_then ≡ after session (move_of session)
+      → IsServing now session_then left sent × (move_of session_then ≡ Asks)
+  IsServing-asks now session session_then left sent h ask is =
+      let asks : move_of session ≡ Asks = ask_is (move_of session) ask in
+      let same : session_then ≡ session = is ∙ ap (after session) asks in
+      (subst (λ (s : Session). IsServing now s left sent) (sym same) h, ap move_of same ∙ asks)
 
   -- the turns that are left pay for this piece
   Reads-done : (standing : Standing) (session : Session) (left : ℕ) (piece : List ℕ) → standing.session ≡ session → standing.left ≡ left
