@@ -1,4 +1,4 @@
-use Rattle.std.proofs.Common.{◌+◌, arith}
+use Rattle.std.proofs.Common.{◌+◌, arith, rules}
 use Rattle.replay.specs.declared.endings.RunResult.TheVariants.{BadLine, TooManyLines}
 use Rattle.trace.proofs.CalledEnds.{end-called, long-called, many-called, turns-line, turns-refused, bad_not_whole, bad_not_refuted, many_not_whole, many_not_refuted}
 use Rattle.trace.proofs.schedules.take_turn.Goals as goal
@@ -8,10 +8,13 @@ returns-in-Ended-clause-turns g c =
     let says = rw c.in-Ended.is at c.in_ok-piece.ensures.says in
     (says.0, end-called _ _ says.0)
 
-pub returns-then-count-ge-MOST_LINES-clause-turns : goal.returns-then-count-ge-MOST_LINES-clause-turns
-returns-then-count-ge-MOST_LINES-clause-turns g c =
-    turns-refused _ _ _ _ _ TooManyLines c.too_many_lines.result many_not_whole many_not_refuted
-    (many-called _ _ _ _ (omega arith) c.in_ok-piece.ensures.says c.in_default.not-Ended) c.too_many_lines.ensures.refusal
+pub returns-then-count-ge-MOST_LINES : goal.returns-then-count-ge-MOST_LINES
+returns-then-count-ge-MOST_LINES g c = record {
+  turns = turns-refused _ _ _ _ _ TooManyLines c.too_many_lines.result many_not_whole many_not_refuted
+      (many-called _ _ _ _ (omega arith) c.in_ok-piece.ensures.says c.in_default.not-Ended) c.too_many_lines.ensures.refusal;
+  kept = search rules;
+  cause = search rules;
+}
 
 pub returns-in-Whole-clause-turns : goal.returns-in-Whole-clause-turns
 returns-in-Whole-clause-turns g c =
