@@ -26,7 +26,7 @@ use Rattle.protocol.specs.Nodes.{resent_to}
 use Rattle.synod_laws.specs.Synods.{greatest_told, value_or}
 use Rattle.view_synod.specs.declared.answers.ViewAnswer.{ViewAnswer}
 use Rattle.view_synod.specs.declared.answers.ViewAnswer.TheVariants as answer
-use Rattle.view_synod.specs.Lists.{is_list}
+use Rattle.quorum.specs.Memberships.{is_membership}
 
 -- A proposal: how many data blocks a stripe of the group has; the view whose successor it is about; its ballot; the list that its brick proposes; the list that it
 -- asks the members to accept, or none while it prepares; the call of its phase; and the replies that count in that.
@@ -74,12 +74,12 @@ ballot_messages p =
 -- the list that a promise tells, if it tells one, may keep the group
 abbrev pub may_be_choice : ℕ → ℕ → Option Choice → Bool
 may_be_choice m bricks None = true
-may_be_choice m bricks (Some choice) = is_list m bricks choice.members
+may_be_choice m bricks (Some choice) = is_membership m bricks choice.members
 
 -- so may those of a later view, if they are told
 abbrev pub may_be_lineage : ℕ → ℕ → Option Lineage → Bool
 may_be_lineage m bricks None = true
-may_be_lineage m bricks (Some lineage) = is_list m bricks lineage.members && is_list m bricks lineage.prior
+may_be_lineage m bricks (Some lineage) = is_membership m bricks lineage.members && is_membership m bricks lineage.prior
 
 -- A reply of this kind answers the phase of a proposal that asks for this list, or prepares: a promise while it prepares, an acceptance once it asks, and each
 -- refusal. Lists in it may keep a group of m data blocks on so many bricks.

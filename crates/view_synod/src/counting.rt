@@ -5,11 +5,11 @@ ghost use Rattle.protocol.specs.Coordinators.{call_same};
 
 use crate::answers::{ViewAnswer, ViewNext};
 use crate::choices::{greatest_choice, refused_by};
-use crate::lists::is_list;
 use crate::proposals::{Proposal, has_seat};
-use fab_base::{BrickId, Members, NoMem, ViewNo};
+use fab_base::{Boxed, BrickId, Members, NoMem, ViewNo};
 use messages::{Call, Choice, Lineage, Message, Messages, Reply};
 use protocol::Counted;
+use quorum::is_membership;
 use std::alloc::Global;
 
 /// Whether two calls are the same, phase and all.
@@ -23,7 +23,7 @@ impl Proposal {
     ghost use Rattle.std.specs.Prelude.{◌≡◌, ◌<◌, ◌≤◌, [], not, nat_lt, true, None, Some, IfSome, IfOk, OnOk, OnErr, length, vec_capacity};
     ghost use Rattle.fab_base.specs.Layouts.{seat_in};
     ghost use Rattle.synod_laws.specs.Synods.{value_or};
-    ghost use Rattle.view_synod.specs.Lists.{is_list};
+    ghost use Rattle.quorum.specs.Memberships.{is_membership};
     ghost use Rattle.view_synod.specs.Evidence.{HasEvidence};
     ghost use Rattle.view_synod.specs.Proposals.{ballot_quorum, may_be_choice, may_be_lineage, answers_ballot, seat_voting, with_vote, asking, greatest_choice, decided};
     ghost use Rattle.view_synod.specs.Proposers.{IsUnderWay, with_state, voting_on, left, GoesOn, Decides};
@@ -42,9 +42,9 @@ impl Proposal {
 
     /// Whether these members may keep the group.
     fn may_keep(&self, members: &Members) -> bool
-        ensures { result ≡ is_list self.now.state.m self.now.bricks members.now }
+        ensures { result ≡ is_membership self.now.state.m self.now.bricks members.now }
     {
-        is_list(self.policy.m(), self.bricks, members.as_slice())
+        is_membership(self.policy.m(), self.bricks, members.as_slice())
     }
 
     /// Whether the list that a promise tells, if it tells one, may keep the group.
@@ -58,12 +58,15 @@ impl Proposal {
     }
 
     /// Whether the members of a later view, and of the one before it, may keep the group, if they are told.
-    fn may_be_lineage(&self, lineage: &Option<Lineage>) -> bool
+    fn may_be_lineage(&self, lineage: &Option<Boxed<Lineage>>) -> bool
         ensures { result ≡ may_be_lineage self.now.state.m self.now.bricks lineage.now }
     {
         match lineage {
             None => true,
-            Some(lineage) => self.may_keep(&lineage.members) && self.may_keep(&lineage.prior),
+            Some(lineage) => {
+                let lineage = lineage.get();
+                self.may_keep(&lineage.members) && self.may_keep(&lineage.prior)
+            }
         }
     }
 
@@ -119,7 +122,7 @@ impl Proposal {
     /// The list to ask for once a quorum has promised: that of the greatest ballot that the promises tell, or the proposal's own if they tell none.
     fn chosen(&self) -> Members
         ensures value { result ≡ value_or self.now.state.own (greatest_choice self.now.state.counted) }
-        ensures may_keep { is_list self.now.state.m self.now.bricks result ≡ true }
+        ensures may_keep { is_membership self.now.state.m self.now.bricks result ≡ true }
     {
         match greatest_choice(self.counted.as_slice()) {
             Some((_, members)) => members,

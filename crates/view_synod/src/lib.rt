@@ -9,7 +9,6 @@ pub mod acceptors;
 pub mod answers;
 mod choices;
 mod counting;
-pub mod lists;
 pub mod proposals;
 pub mod proposers;
 pub mod rounds;
@@ -17,7 +16,6 @@ pub mod votes;
 
 pub use acceptors::Acceptor;
 pub use answers::{ViewAnswer, ViewNext};
-pub use lists::{is_list, lists_have_quorums};
 pub use proposals::Proposal;
 pub use proposers::Proposer;
 pub use rounds::Rounds;

@@ -110,7 +110,7 @@ fn policy_of(m: u8, members: &Members) -> Policy
 impl Proposal {
     ghost use Rattle.std.specs.Prelude.{◌≡◌, ◌-◌, ◌<◌, ◌≤◌, ◌^◌, [], true, IfOk, length, vec_capacity};
     ghost use Rattle.quorum.specs.Quorums.{IsWithinLimits};
-    ghost use Rattle.view_synod.specs.Lists.{is_list};
+    ghost use Rattle.quorum.specs.Memberships.{is_membership};
     ghost use Rattle.view_synod.specs.Proposals.{begun_proposal, ballot_request, ballot_messages};
 
     /// A proposal of these members under a ballot, as it begins: they may keep the group, the members of the view are within the limits of a quorum of
@@ -127,7 +127,7 @@ impl Proposal {
     ) -> Proposal
         requires limits { IsWithinLimits m (length view.members) }
         requires number { view.number.0 < 2 ^ 32 - 1 }
-        requires may_keep { is_list m bricks members ≡ true }
+        requires may_keep { is_membership m bricks members ≡ true }
         ensures { result ≡ record { bricks = bricks; state = begun_proposal m group view call ballot members } }
     {
         let policy = policy_of(m, &view.members);
