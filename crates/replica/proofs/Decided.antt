@@ -25,9 +25,9 @@ use Rattle.replica.specs.declared.plans.Plan.{Plan}
 use Rattle.replica.specs.Parts.{as_version, part_of, log_seen, part_seen, IsBegun, IsPartsOf, IsFirstView}
 use Rattle.replica.specs.Plans.{planned, is_shared, IsChange}
 use Rattle.replica.specs.Reactions.{place_of, part_at, IsReacted, IsStep}
-use Rattle.replica.specs.Calls.{shares_block, part_calls, message_calls}
-use Rattle.replica.proofs.Sharing.{change_planned, calls_planned}
-use Rattle.replica.proofs.Stepping.{Serves, reaction_at, step_served, calls_served}
+use Rattle.replica.specs.Calls.{shares_block, part_append, message_append}
+use Rattle.replica.proofs.Sharing.{change_planned, append_planned}
+use Rattle.replica.proofs.Stepping.{Serves, reaction_at, step_served, append_served}
 
 -- what is decided for the part that a store shows, by the member at this seat of stripes of m blocks of this many bytes
 pub record IsDecided {D : Type 0} (store : Brick D) (layout : Layout) (call : Call) (request : Request) (m seat : ℕ) (plan : Plan) : Type 0 where
@@ -112,11 +112,10 @@ module _ {D : Type 0} (store : Brick D) (layout : Layout) (me from : BrickId) (c
         (subst (λ (b : ℕ). IsReacted b call store.state (reaction_at layout me from call request store.state m seat) reply after) is.size
         (subst (λ (r : Reaction). IsReacted store.shape.block call store.state r reply after) reaction_is reacted))
 
-    -- with as many calls
-    pub calls_decided : (node : Node) → IsPartsOf layout store.state node
-        → message_calls layout me from store.shape store.listed node (Message.Request call request)
-        ≡ part_calls store.shape store.listed (is_shared plan) part reaction.replica
-    calls_decided node parts =
-        calls_served layout me from call request store.state store node parts m seat served
-        ∙ sym (calls_planned store.shape.block (shares_block request) part store (full_at store.shape.records (live store.state)) plan is.change
-        ∙ (λ k. part_calls store.shape store.listed (shares_block request) (part_at (is.size k) store.state call) (reaction_is k).replica))
+    -- which appends the same
+    pub append_decided : (node : Node) → IsPartsOf layout store.state node
+        → message_append layout me from node (Message.Request call request) ≡ part_append (is_shared plan) part reaction.replica
+    append_decided node parts =
+        append_served layout me from call request store.state node parts m seat served
+        ∙ sym (append_planned store.shape.block (shares_block request) part (full_at store.shape.records (live store.state)) plan is.change
+        ∙ (λ k. part_append (shares_block request) (part_at (is.size k) store.state call) (reaction_is k).replica))

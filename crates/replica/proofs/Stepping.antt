@@ -13,7 +13,7 @@ use Rattle.brick_state.specs.States.{Place, StateOf, no_group, live}
 use Rattle.brick_state.specs.States.{group_at as group_of_state}
 use Rattle.fab_base.specs.declared.member_lists.View.{View}
 use Rattle.brick_store.specs.Blocks.{learnt_of, accepted_of}
-use Rattle.brick_store.specs.Bricks.{Brick}
+use Rattle.brick_store.specs.Calls.{Append}
 use Rattle.fab_base.specs.Layouts.{Layout, Group}
 use Rattle.protocol.specs.Replicas.{Replica, Reaction, handle}
 use Rattle.protocol.specs.Views.{Learnt, first_learnt}
@@ -21,8 +21,8 @@ use Rattle.protocol.specs.Nodes.{Node, NodeStep, put, group_at, with_part, seat_
 use Rattle.replica.specs.Parts.{learnt_or, part_in, IsPartsOf, IsFirstView}
 use Rattle.stripe_code.specs.Codes.{block_code, coding}
 use Rattle.replica.specs.Reactions.{part_at, served_seat, member_step, answer_packets, IsReacted, IsStep}
-use Rattle.replica.specs.Calls.{shares_block, part_calls, message_calls}
-use Rattle.replica.proofs.Runs.{calls_kept, replica_after}
+use Rattle.replica.specs.Calls.{shares_block, part_append, message_append}
+use Rattle.replica.proofs.Runs.{append_kept, replica_after}
 
 -- ---- the step of the machine
 
@@ -165,28 +165,25 @@ module _ (layout : Layout) (me from : BrickId) (call : Call) (request : Request)
     views = λ h v t other. refl;
   }
 
-  -- how many calls that makes
-  module _ {D : Type 0} (store : Brick D) (node : Node) (parts : IsPartsOf layout before node) where
-    abbrev changed_by : NodeStep → ℕ
-    changed_by step = part_calls store.shape store.listed (shares_block request) (replica_at node call) (replica_at step.node call)
+  -- what that appends
+  module _ (node : Node) (parts : IsPartsOf layout before node) where
+    abbrev changed_by : NodeStep → Option Append
+    changed_by step = part_append (shares_block request) (replica_at node call) (replica_at step.node call)
 
-    pub calls_served : (m seat : ℕ) → Serves (Some (m, seat))
-        → message_calls layout me from store.shape store.listed node (Message.Request call request)
-        ≡ part_calls store.shape store.listed (shares_block request) (part_at layout.block before call) (reaction_at m seat).replica
-    calls_served m seat served =
+    pub append_served : (m seat : ℕ) → Serves (Some (m, seat)) → message_append layout me from node (Message.Request call request)
+        ≡ part_append (shares_block request) (part_at layout.block before call) (reaction_at m seat).replica
+    append_served m seat served =
         ap changed_by (served_step m seat served node parts)
-        ∙ ap (part_calls store.shape store.listed (shares_block request) (replica_at node call)) (replica_after node call (reaction_at m seat))
-        ∙ ap (λ (r : Replica). part_calls store.shape store.listed (shares_block request) r (reaction_at m seat).replica)
-        (parts.replicas call.group.0 call.view.0 call.stripe.0)
+        ∙ ap (part_append (shares_block request) (replica_at node call)) (replica_after node call (reaction_at m seat))
+        ∙ ap (λ (r : Replica). part_append (shares_block request) r (reaction_at m seat).replica) (parts.replicas call.group.0 call.view.0 call.stripe.0)
 
-    pub calls_void : Serves None → message_calls layout me from store.shape store.listed node (Message.Request call request) ≡ 0
-    calls_void void = ap changed_by (void_step void node parts) ∙ calls_kept store (shares_block request) (replica_at node call)
+    pub append_void : Serves None → message_append layout me from node (Message.Request call request) ≡ None
+    append_void void = ap changed_by (void_step void node parts) ∙ append_kept (shares_block request) (replica_at node call)
 
--- a message that is no request asks for nothing, and makes no call
+-- a message that is no request asks for nothing, and appends nothing
 module _ (layout : Layout) (me from : BrickId) (before : StateOf Version) where
-  abbrev nothing : {D : Type 0} → Brick D → Node → Message → Type 0
-  nothing store node message =
-      (message_calls layout me from store.shape store.listed node message ≡ 0) × IsStep layout me from message before None before
+  abbrev nothing : Node → Message → Type 0
+  nothing node message = (message_append layout me from node message ≡ None) × IsStep layout me from message before None before
 
   ignored : (message : Message) → ((node : Node) → member_step layout me from node message ≡ no_step node) → IsStep layout me from message before None before
   ignored message same = record {
@@ -196,11 +193,11 @@ module _ (layout : Layout) (me from : BrickId) (before : StateOf Version) where
     views = λ h v t other. refl;
   }
 
-  pub other_ignored : {D : Type 0} (store : Brick D) (node : Node) (message : Message)
-      → ((call : Call) (request : Request) → message ≡ Message.Request call request → ⊥) → nothing store node message
-  other_ignored store node (Message.Request call request) other = absurd (other call request refl)
-  other_ignored store node (Message.Reply call reply) other = (refl, ignored (Message.Reply call reply) (λ n. refl))
-  other_ignored store node (Message.Learn group view) other = (refl, ignored (Message.Learn group view) (λ n. refl))
-  other_ignored store node (Message.Synced group view) other = (refl, ignored (Message.Synced group view) (λ n. refl))
-  other_ignored store node (Message.Client ask) other = (refl, ignored (Message.Client ask) (λ n. refl))
-  other_ignored store node (Message.ClientReply id answer) other = (refl, ignored (Message.ClientReply id answer) (λ n. refl))
+  pub other_ignored : (node : Node) (message : Message) → ((call : Call) (request : Request) → message ≡ Message.Request call request → ⊥)
+      → nothing node message
+  other_ignored node (Message.Request call request) other = absurd (other call request refl)
+  other_ignored node (Message.Reply call reply) other = (refl, ignored (Message.Reply call reply) (λ n. refl))
+  other_ignored node (Message.Learn group view) other = (refl, ignored (Message.Learn group view) (λ n. refl))
+  other_ignored node (Message.Synced group view) other = (refl, ignored (Message.Synced group view) (λ n. refl))
+  other_ignored node (Message.Client ask) other = (refl, ignored (Message.Client ask) (λ n. refl))
+  other_ignored node (Message.ClientReply id answer) other = (refl, ignored (Message.ClientReply id answer) (λ n. refl))

@@ -9,11 +9,13 @@ use Rattle.messages.specs.declared.replies.Reply.{Reply}
 use Rattle.messages.specs.declared.replies.Reply.TheVariants.{Full}
 use Rattle.frame_store.specs.declared.shapes.Shape.{Shape}
 use Rattle.version_log.specs.Versions.{Version}
-use Rattle.brick_state.specs.States.{StateOf}
+use Rattle.brick_state.specs.States.{StateOf, live}
 use Rattle.brick_store.specs.declared.faults.StoreFault.{StoreFault}
 use Rattle.brick_store.specs.declared.faults.StoreFault.TheVariants as faults
 use Rattle.brick_store.specs.Bricks.{Brick, IsOrdered}
+use Rattle.brick_store.specs.Calls.{Append, calls_for, IsListedAfter}
 use Rattle.brick_store.specs.Images.{StandsFor}
+use Rattle.brick_store.specs.Lengths.{ListsBy}
 use Rattle.replica.specs.declared.faults.ReplicaFault.{ReplicaFault}
 use Rattle.replica.specs.declared.faults.ReplicaFault.TheVariants.{Disk, Halted, NoMemory}
 use Rattle.replica.specs.Parts.{part_in}
@@ -42,6 +44,12 @@ StandsForNext {A} shape Follows image = (st : StateOf Version) × (answer : Opti
 abbrev pub NextChange : {D A : Type 0} → on_disk.Ghosts D → ℕ → Brick D → (Option A → StateOf Version → Type 0) → D → End → Type 0
 NextChange d calls store Follows new end =
     Change d calls (StandsFor store.shape store.state) (StandsForNext store.shape Follows) store.disk new end
+
+-- What a store keeps is changed so, by what is appended to its list.
+pub record KeepsNext {D A : Type 0} (d : on_disk.Ghosts D) (append : Option Append) (Follows : Option A → StateOf Version → Type 0) (old new : Brick D)
+    (end : End) : Type 0 where
+  pub change : NextChange d (calls_for old.shape old.listed append) old Follows new.disk end
+  pub listed : ListsBy end (IsListedAfter old.shape (live old.state) old.listed append) old.listed new.listed
 
 -- The store runs, and its state stands on its disk.
 pub record Runs {D : Type 0} (d : on_disk.Ghosts D) (store : Brick D) : Type 0 where

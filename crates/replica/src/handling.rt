@@ -10,8 +10,8 @@ ghost use Rattle.messages.specs.declared.replies.Reply as told;
 ghost use Rattle.replica.specs.Parts.{IsPartsOf, IsFirstView};
 ghost use Rattle.replica.specs.Plans.{planned, is_shared, IsChange};
 ghost use Rattle.replica.specs.Reactions.{part_at, served_seat, IsReacted, IsStep};
-ghost use Rattle.replica.specs.Handling.{Handles, NextChange, Runs, end_of, answered, me_of, seen_as};
-ghost use Rattle.replica.specs.Calls.{part_calls, message_calls};
+ghost use Rattle.replica.specs.Handling.{Handles, KeepsNext, Runs, end_of, answered, me_of, seen_as};
+ghost use Rattle.replica.specs.Calls.{part_append, message_append};
 
 use crate::faults::ReplicaFault;
 use crate::members::decide;
@@ -66,12 +66,12 @@ fn carry_out<D: Disk>(
     ensures handles { Handles D.Disk (IsReacted store.old.shape.block call store.old.state
         (planned (full_at store.old.shape.records (live store.old.state)) (part_at store.old.shape.block store.old.state call) plan))
         store.old store.new result }
-    ensures change { NextChange D.Disk
-        (part_calls store.old.shape store.old.listed (is_shared plan) (part_at store.old.shape.block store.old.state call)
+    ensures change { KeepsNext D.Disk
+        (part_append (is_shared plan) (part_at store.old.shape.block store.old.state call)
         (planned (full_at store.old.shape.records (live store.old.state)) (part_at store.old.shape.block store.old.state call) plan).replica)
-        store.old (IsReacted store.old.shape.block call store.old.state
+        (IsReacted store.old.shape.block call store.old.state
         (planned (full_at store.old.shape.records (live store.old.state)) (part_at store.old.shape.block store.old.state call) plan))
-        store.new.disk (end_of result) }
+        store.old store.new (end_of result) }
 {
     let (group, view, stripe) = (call.group, call.view, call.stripe);
     match plan {
@@ -169,11 +169,11 @@ pub fn handle<D: Disk>(
     requires shape { store.old.shape ≡ shape_of store.old.shape.me layout.now.block layout.now.records }
     requires view { IsFirstView store.old.state }
     ensures handles { Handles D.Disk (IsStep layout.now (me_of store.old) from message.now store.old.state) store.old store.new result }
-    // At each moment each image opens as the state before, or as what the message makes the store keep. The calls are those that the
-    // message makes of the machine's brick.
-    ensures change { (node : Node) → IsPartsOf layout.now store.old.state node → NextChange D.Disk
-        (message_calls layout.now (me_of store.old) from store.old.shape store.old.listed node message.now)
-        store.old (IsStep layout.now (me_of store.old) from message.now store.old.state) store.new.disk (end_of result) }
+    // At each moment each image opens as the state before, or as what the message makes the store keep. What is appended is what keeps
+    // what the message makes of the machine's brick.
+    ensures change { (node : Node) → IsPartsOf layout.now store.old.state node → KeepsNext D.Disk
+        (message_append layout.now (me_of store.old) from node message.now)
+        (IsStep layout.now (me_of store.old) from message.now store.old.state) store.old store.new (end_of result) }
 {
     // A member answers whoever asks.
     let _ = from;

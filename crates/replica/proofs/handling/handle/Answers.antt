@@ -1,5 +1,5 @@
 -- What is planned for the part that the store shows is the machine's reaction, and so its step.
-use Rattle.std.proofs.Common.{◌≡◌, ℕ, false, Option, None, Result, Ok, refl, sym, ap, subst, ◌∙◌, rules}
+use Rattle.std.proofs.Common.{◌≡◌, false, Option, None, Result, Ok, refl, sym, ap, subst, ◌∙◌, rules}
 use Rattle.messages.specs.declared.packets.Message.{Message}
 use Rattle.messages.specs.declared.replies.Reply.{Reply}
 use Rattle.replica.specs.declared.faults.ReplicaFault.{ReplicaFault}
@@ -8,12 +8,12 @@ use Rattle.protocol.specs.Nodes.{full_at}
 use Rattle.replica.specs.Plans.{planned, is_shared}
 use Rattle.replica.specs.Reactions.{part_at, IsReacted, IsStep}
 use Rattle.std.proofs.lemmas.Result.{err_from_is_err_and}
-use Rattle.fab_disk.specs.Changing.{Whole}
-use Rattle.replica.specs.Handling.{me_of, Handles, Runs, NextChange, end_of}
-use Rattle.replica.specs.Calls.{part_calls, message_calls}
-use Rattle.replica.proofs.Answering.{handles_seen, handles_untouched, next_none, next_refused, next_seen, still_here}
-use Rattle.replica.proofs.Stepping.{step_void, calls_void, other_ignored}
-use Rattle.replica.proofs.Decided.{decided, change_decided, step_decided, calls_decided}
+use Rattle.replica.specs.Handling.{me_of, Handles, Runs, KeepsNext, end_of}
+use Rattle.brick_store.specs.Calls.{Append}
+use Rattle.replica.specs.Calls.{part_append, message_append}
+use Rattle.replica.proofs.Answering.{handles_seen, handles_untouched, keeps_none, keeps_refused, next_seen, still_here}
+use Rattle.replica.proofs.Stepping.{step_void, append_void, other_ignored}
+use Rattle.replica.proofs.Decided.{decided, change_decided, step_decided, append_decided}
 use Rattle.replica.proofs.handling.handle.Goals as goal
 
 pub carry_out-requires-clause-change : goal.carry_out-requires-clause-change
@@ -55,37 +55,35 @@ returns g c =
     let reaction = planned (full_at old.shape.records (live old.state)) part plan in
     let in_first : call.view.0 ≡ 1 = c.in-Some.ensures.first refl in
     let step = step_decided old layout me from call request member.m member.seat plan is c.in-Some.ensures.seat c.requires.view in_first in
-    let made = part_calls old.shape old.listed (is_shared plan) part reaction.replica in
+    let made = part_append (is_shared plan) part reaction.replica in
     let Reacted = IsReacted old.shape.block call old.state reaction in
     let Follows = λ (m : Message). IsStep layout me from m old.state in
     let asked = Message.Request call request in
-    let both = subst (λ (r : Result (Option Message) ReplicaFault). Handles d (Follows asked) old new r × NextChange d made old (Follows asked) new.disk (end_of r))
+    let both = subst (λ (r : Result (Option Message) ReplicaFault). Handles d (Follows asked) old new r × KeepsNext d made (Follows asked) old new (end_of r))
     (sym c.answer.ensures) (
       handles_seen d (λ (r : Reply). Message.Reply call r) Reacted (Follows asked) step old new c.carry_out.result c.carry_out.ensures.handles,
-      next_seen d (λ (r : Reply). Message.Reply call r) Reacted (Follows asked) step made old new.disk c.carry_out.result c.carry_out.ensures.change,
+      next_seen d (λ (r : Reply). Message.Reply call r) Reacted (Follows asked) step made old new c.carry_out.result c.carry_out.ensures.change,
     ) in
     record {
       handles = subst (λ (m : Message). Handles d (Follows m) old new result) (sym c.in-Request.is) both.0;
-      change = λ node parts. subst (λ (m : Message). NextChange d (message_calls layout me from old.shape old.listed node m) old (Follows m) new.disk (end_of result))
+      change = λ node parts. subst (λ (m : Message). KeepsNext d (message_append layout me from node m) (Follows m) old new (end_of result))
           (sym c.in-Request.is)
-          (subst (λ (n : ℕ). NextChange d n old (Follows asked) new.disk (end_of result))
-          (sym (calls_decided old layout me from call request member.m member.seat plan is c.in-Some.ensures.seat node parts)) both.1);
+          (subst (λ (a : Option Append). KeepsNext d a (Follows asked) old new (end_of result))
+          (sym (append_decided old layout me from call request member.m member.seat plan is c.in-Some.ensures.seat node parts)) both.1);
     }
 
 pub returns-then-is_halted-clause-change : goal.returns-then-is_halted-clause-change
 returns-then-is_halted-clause-change g c node parts =
     let d = g.D.Disk in
     let old = c.args.store.now in
-    next_refused d g.met.D.Disk.only_now (IsStep c.args.layout.now (me_of old) c.args.from c.args.message.now old.state) old old.disk
-    (still_here d old.disk) _
+    keeps_refused d g.met.D.Disk.only_now (IsStep c.args.layout.now (me_of old) c.args.from c.args.message.now old.state) old _
 
 pub returns-in_err-plan-clause-change : goal.returns-in_err-plan-clause-change
 returns-in_err-plan-clause-change g c node parts =
     let d = g.D.Disk in
     let old = c.args.store.now in
     let p = err_from_is_err_and c.from_residual.result c.from_residual.ensures.1 in
-    rw (p.1, p.2) (next_refused d g.met.D.Disk.only_now (IsStep c.args.layout.now (me_of old) c.args.from c.args.message.now old.state) old old.disk
-    (still_here d old.disk) _)
+    rw (p.1, p.2) (keeps_refused d g.met.D.Disk.only_now (IsStep c.args.layout.now (me_of old) c.args.from c.args.message.now old.state) old _)
 
 pub returns-in_err-plan-clause-handles : goal.returns-in_err-plan-clause-handles
 returns-in_err-plan-clause-handles g c = search rules
@@ -109,9 +107,9 @@ returns-in_default-member_served g c =
     record {
       handles = handles_untouched d Follows old old (answers no_message) runs refl refl refl (still_here d old.disk).untouched (λ h. absurd cc)
           (λ h. absurd cc) follows;
-      change = λ node parts. subst (λ (n : ℕ). NextChange d n old Follows old.disk Whole)
-          (sym (ap (message_calls layout me from old.shape old.listed node) c.in-Request.is ∙ calls_void layout me from call request old.state old node parts void))
-          (next_none d g.met.D.Disk.only_now Follows old old.disk (still_here d old.disk) runs.stands None follows);
+      change = λ node parts. keeps_none d g.met.D.Disk.only_now Follows old _
+          (ap (message_append layout me from node) c.in-Request.is ∙ append_void layout me from call request old.state node parts void) runs.stands None
+          follows;
     }
 
 pub returns-in_default-clause-handles : goal.returns-in_default-clause-handles
@@ -123,7 +121,6 @@ returns-in_default-clause-change g c node parts =
     let old = c.args.store.now in
     let layout = c.args.layout.now in
     let Follows = IsStep layout (me_of old) c.args.from c.args.message.now old.state in
-    let nothing = other_ignored layout (me_of old) c.args.from old.state old node c.args.message.now c.in_default.not-Request in
-    subst (λ (n : ℕ). NextChange d n old Follows old.disk Whole) (sym nothing.0)
-    (next_none d g.met.D.Disk.only_now Follows old old.disk (still_here d old.disk)
-    (λ told. c.is_halted.ensures.stands told (sym c.is_halted.ensures.value ∙ c.if-is_halted.false)) None nothing.1)
+    let nothing = other_ignored layout (me_of old) c.args.from old.state node c.args.message.now c.in_default.not-Request in
+    keeps_none d g.met.D.Disk.only_now Follows old _ nothing.0
+    (λ told. c.is_halted.ensures.stands told (sym c.is_halted.ensures.value ∙ c.if-is_halted.false)) None nothing.1
