@@ -1,5 +1,5 @@
 -- What the operation did with the message is carried out.
-use Rattle.std.proofs.Common.{◌≡◌, ◌≤◌, true, length, vec_capacity, refl, ap, sym, ◌∙◌, subst, arith}
+use Rattle.std.proofs.Common.{◌≡◌, ◌≤◌, true, length, vec_capacity, ap, sym, ◌∙◌, subst, arith}
 use Rattle.messages.specs.declared.turns.Next.TheVariants.{Wait, Send, End}
 use Rattle.fab_base.specs.Layouts.{Group}
 use Rattle.protocol.specs.Coordinators as machine
