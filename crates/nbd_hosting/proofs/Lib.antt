@@ -1,2 +1,2 @@
-mod Leaving
 mod Standings
+mod Stepping

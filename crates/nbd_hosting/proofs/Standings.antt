@@ -1,20 +1,18 @@
 -- A session as it is served, and where that ends.
-use Rattle.std.proofs.Common.{◌≡◌, ◌⊎◌, ◌+◌, ◌-◌, ◌≤◌, ℕ, Bool, true, false, cond, List, [], ◌∷◌, ◌++◌, length, Option, Some, None, refl, sym, ap, subst, ◌∙◌, inl, inr, arith}
+use Rattle.std.proofs.Common.{◌≡◌, ◌+◌, ◌-◌, ◌≤◌, ℕ, true, false, List, [], ◌∷◌, ◌++◌, length, Option, Some, None, refl, sym, ap, subst, ◌∙◌, inl, inr, arith}
 use Rattle.std.specs.Io.KnownBytes.{Consumes, Appends, Keeps, IsAtEnd}
 use Rattle.std.proofs.KnownBytes.{Appends-nil, Appends-trans, Consumes-nil, Consumes-trans, Consumes-kept}
 use Rattle.fab_base.specs.Layouts.{Layout}
-use Rattle.fab_io.specs.declared.links.Datagram.{Datagram}
 use Rattle.fab_io.specs.Ends.{AppendsFront}
 use Rattle.fab_io.proofs.Told.{Stays-refl, Grows-none, Grows-trans}
 use Rattle.front.specs.declared.steps.RangeAnswer.{RangeAnswer}
 use Rattle.nbd_front.specs.declared.steps.End.{End}
 use Rattle.nbd_front.specs.declared.steps.End.TheVariants.{Disc, Abort, Eof, Dropped, NoExport, Turns}
-use Rattle.nbd_front.specs.declared.steps.Step.{Step}
 use Rattle.nbd_front.specs.declared.steps.Step.TheVariants as step
 use Rattle.nbd_front.specs.Sessions.{Session, begun, Move, Waits, Says, Asks, Ends, move_of, step_of, after, fed, answered, wanted_of, wants_turn, ReadsNoFurther, AskedCommand, Reading, Writing, asked_of}
-use Rattle.nbd_front.specs.Talks.{Sent, Answered, HasSaid, said_by}
+use Rattle.nbd_front.specs.Talks.{HasSaid, said_by}
 use Rattle.nbd_front.proofs.Telling.{begins, takes_bytes, moves_on, answers_on}
-use Rattle.nbd_front.specs.Lives.{IsLive, owed}
+use Rattle.nbd_front.specs.Lives.{owed}
 use Rattle.nbd_front.proofs.Leading.{LeadsOn, leads_on, IsLive-begun, IsLive-fed, IsLive-said, IsLive-answered, owed_fed, owed_said, owed_asks}
 use Rattle.hosting.specs.Commanded.{IsRangeOf}
 use Rattle.hosting.specs.Faults.{AtSource, AtSink}
@@ -25,7 +23,7 @@ use Rattle.hosting.proofs.Wanting.{IsRangeOf-begun}
 use Rattle.layout.specs.Limits.{IsLayout}
 use Rattle.serving.specs.Datagrams.{Looked}
 use Rattle.serving.proofs.Looks.{Looked-none, Looked-trans}
-use Rattle.nbd_hosting.specs.Serving.{range_of, Deed, Reads, Sends, Runs, Standing, beginning, part_turns, asks_for, after_deed, IsDone, standing_of, AreDone, Outside, HasServed, IsLeftOpen, EndsAs, ServesSession, StopsSending, StopsRunning, ServesUntil}
+use Rattle.nbd_hosting.specs.Serving.{range_of, Reads, Sends, Runs, Standing, beginning, part_turns, asks_for, after_deed, IsDone, Outside, HasServed, EndsAs, ServesSession, ServesUntil}
 use Rattle.nbd_hosting.specs.Steps.{IsServing}
 
 -- ---- the range of a command
@@ -60,6 +58,13 @@ send_is session Waits bytes e = absurd cc
 send_is session (Says said next) bytes e = let same : said ≡ bytes = cc in ap (λ (b : List ℕ). Says b next) same
 send_is session Asks bytes e = absurd cc
 send_is session (Ends end) bytes e = absurd cc
+
+-- a session that waits, or that asks a command, is as it was
+pub waits_same : (first session : Session) → step.Need ≡ step_of (move_of first) → session ≡ after first (move_of first) → session ≡ first
+waits_same first session need is = is ∙ ap (after first) (need_is (move_of first) need)
+
+pub asks_same : (first session : Session) → step.Ask ≡ step_of (move_of first) → session ≡ after first (move_of first) → session ≡ first
+asks_same first session ask is = is ∙ ap (after first) (ask_is (move_of first) ask)
 
 -- it sends bytes, and is this session then
 pub says_then : (session session_then : Session) (bytes : List ℕ) → step.Send bytes ≡ step_of (move_of session)
@@ -175,24 +180,6 @@ module _ {A : Type 0} (takes : A → A → Type 0) (layout : Layout) (turns : �
         runs = IsLive-begun session layout is within;
         few = omega (arith, nothing, none);
       }
-
-  -- asked what it does next, it waits for bytes, and is as it was
-  pub IsServing-waits : (now : Outside A) (session session_then : Session) (left sent : ℕ) → IsServing takes layout turns before now session left sent
-      → step.Need ≡ step_of (move_of session) → session_then ≡ after session (move_of session)
-      → IsServing takes layout turns before now session_then left sent × (move_of session_then ≡ Waits)
-  IsServing-waits now session session_then left sent h need is =
-      let waits : move_of session ≡ Waits = need_is (move_of session) need in
-      let same : session_then ≡ session = is ∙ ap (after session) waits in
-      (subst (λ (s : Session). IsServing takes layout turns before now s left sent) (sym same) h, ap move_of same ∙ waits)
-
-  -- or it asks a command
-  pub IsServing-asks : (now : Outside A) (session session_then : Session) (left sent : ℕ) → IsServing takes layout turns before now session left sent
-      → step.Ask ≡ step_of (move_of session) → session_then ≡ after session (move_of session)
-      → IsServing takes layout turns before now session_then left sent × (move_of session_then ≡ Asks)
-  IsServing-asks now session session_then left sent h ask is =
-      let asks : move_of session ≡ Asks = ask_is (move_of session) ask in
-      let same : session_then ≡ session = is ∙ ap (after session) asks in
-      (subst (λ (s : Session). IsServing takes layout turns before now s left sent) (sym same) h, ap move_of same ∙ asks)
 
   -- the turns that are left pay for this piece
   Reads-done : (standing : Standing) (session : Session) (left : ℕ) (piece : List ℕ) → standing.session ≡ session → standing.left ≡ left

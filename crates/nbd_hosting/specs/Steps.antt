@@ -1,12 +1,12 @@
 -- One step of a session that is served.
-use Rattle.std.specs.Prelude.{◌≡◌, ◌⊎◌, ◌+◌, ◌-◌, ◌≤◌, ℕ, true, List, length, Option, Some, None, Result, Ok, Err}
+use Rattle.std.specs.Prelude.{◌≡◌, ◌⊎◌, ◌+◌, ◌-◌, ◌≤◌, ◌<◌, ℕ, true, List, length, Option, Some, None, Result, Ok, Err}
 use Rattle.std.specs.Io.KnownBytes.{Consumes, Keeps, IsAtEnd}
 use Rattle.fab_base.specs.Layouts.{Layout}
 use Rattle.front.specs.declared.steps.RangeAnswer.{RangeAnswer}
 use Rattle.nbd_front.specs.declared.steps.End.{End}
 use Rattle.nbd_front.specs.declared.steps.End.TheVariants.{Eof, Turns}
 use Rattle.nbd_front.specs.Sessions.{Session, fed, answered, wanted_of, wants_turn, asked_of}
-use Rattle.nbd_front.specs.Lives.{IsLive, owed}
+use Rattle.nbd_front.specs.Lives.{IsLive, owed, effort}
 use Rattle.hosting.specs.Faults.{AtSource}
 use Rattle.hosting.specs.Rounds.{Heard, Told, Took, RunsRange, StopsRange}
 use Rattle.hosting.specs.declared.faults.HostFault.{HostFault}
@@ -63,12 +63,12 @@ pub record IsServing {A : Type 0} (takes : A → A → Type 0) (layout : Layout)
   pub runs : IsLive session
   pub few : sent + left + owed session ≤ turns
 
--- If a session was served until now, it is served on so; or it ended; or it was stopped.
+-- If a session was served until now, it is served on so, with less ahead; or it ended; or it was stopped.
 abbrev pub ServesOn : {A : Type 0} → (A → A → Type 0) → (A → A → HostFault → Type 0) → Layout → (now later : Outside A) → (session session_after : Session)
     → (left left_after sent sent_after : ℕ) → Result (Option End) HostFault → Type 0
 ServesOn {A} takes stops layout now later session session_after left left_after sent sent_after (Ok None) =
     (turns : ℕ) (before : Outside A) → IsServing takes layout turns before now session left sent
-    → IsServing takes layout turns before later session_after left_after sent_after
+    → IsServing takes layout turns before later session_after left_after sent_after × (effort session_after left_after < effort session left)
 ServesOn {A} takes stops layout now later session session_after left left_after sent sent_after (Ok (Some end)) =
     (turns : ℕ) (before : Outside A) → IsServing takes layout turns before now session left sent
     → ServesSession takes layout turns before later end

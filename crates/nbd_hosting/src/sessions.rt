@@ -57,7 +57,7 @@ fn send<K: Sink>(sink: &mut K, bytes: &[u8]) -> Result<(), HostFault>
 
 /// The range of bytes of a volume that a command reads or writes. It borrows what is written.
 fn range_of<'s>(alloc: Global, layout: &'s Layout, command: Command<'s>) -> Range<'s>
-    ensures { result ≡ range_of layout.now (shown command) }
+    ensures { result ≡ range_of layout.now (shown command.entry) }
 {
     match command {
         Command::Read {
@@ -212,7 +212,7 @@ fn serve<B: Bricks, L: Link, S: Source, K: Sink>(
     let _turns = client.turns;
     let mut session = Session::new(alloc, layout);
     let mut room = vec![in alloc; 0u8; PIECE]?;
-    for _ in 0..u64::MAX {
+    loop {
         if let Some(end) = take_step(
             alloc,
             layout,
@@ -225,8 +225,6 @@ fn serve<B: Bricks, L: Link, S: Source, K: Sink>(
             return Ok(end);
         }
     }
-    // No run of a program gets here.
-    Err(HostFault::NoMemory)
 }
 
 /// Serves one client's session over NBD by the bricks of a layout. The bricks and the client's link come back as they are then.
