@@ -15,25 +15,14 @@ use Rattle.nbd_front.specs.declared.steps.SessionStage.{SessionStage}
 use Rattle.nbd_front.specs.declared.steps.SessionStage.TheVariants as stage
 use Rattle.nbd_front.specs.Wire.{client_flags, is_option, option_size, option_number, option_data, choice_of, is_request, request_size, request_of}
 use Rattle.nbd_front.specs.Sessions.{Session, begun, Move, Waits, Says, Asks, Ends, export_of, chosen, reply_to, option_move, opened, flags_move, past_request, replied, served, request_move, move_in, move_of, fed, answered, part_size, EndsInPart, ReadsNoFurther, turn_in, wants_turn}
+use Rattle.nbd_front.specs.Lives.{HasNoWant, IsLive, one_if, owed_in, owed}
 use Rattle.nbd_front.proofs.Asking.{asks_stage, asks_whole}
 use Rattle.nbd_front.proofs.Finishing.{past_option, option_by, flags_by, request_by}
-
--- it did not end for want of bytes or of turns
-abbrev pub GoesOn : SessionStage → Type 0
-GoesOn (stage.Over Eof) = ⊥
-GoesOn (stage.Over Turns) = ⊥
-GoesOn here = Unit {0}
-
--- a session that runs, and reads no further than its part
-pub record IsRunning (session : Session) : Type 0 where
-  pub open_still : session.ended ≡ false
-  pub within : ReadsNoFurther session
-  pub goes : GoesOn session.stage
 
 -- a session that has said something runs, and has no byte left; and none ends for want of bytes or of turns
 abbrev pub LeadsOn : Move → Type 0
 LeadsOn Waits = Unit {0}
-LeadsOn (Says bytes next) = (next.ended ≡ false) × (length next.unread ≡ 0) × GoesOn next.stage
+LeadsOn (Says bytes next) = (next.ended ≡ false) × (length next.unread ≡ 0) × HasNoWant next.stage
 LeadsOn Asks = Unit {0}
 LeadsOn (Ends Eof) = ⊥
 LeadsOn (Ends Turns) = ⊥
@@ -113,15 +102,15 @@ request_on session open_still whole =
     by_tests false false plain none = tt
 
 -- where a session leads that runs
-pub leads_on : (session : Session) → IsRunning session → LeadsOn (move_of session)
+pub leads_on : (session : Session) → IsLive session → LeadsOn (move_of session)
 leads_on session runs = by_stage session.stage runs.within runs.goes
   where
     by_reply : (none : Bool) → length session.unread ≡ 0
-        → (session.ended ≡ false) × (length session.unread ≡ 0) × GoesOn (cond none stage.Requests stage.Sending)
+        → (session.ended ≡ false) × (length session.unread ≡ 0) × HasNoWant (cond none stage.Requests stage.Sending)
     by_reply true empty = (runs.open_still, empty, tt)
     by_reply false empty = (runs.open_still, empty, tt)
 
-    by_end : (end : End) → GoesOn (stage.Over end) → LeadsOn (Ends end)
+    by_end : (end : End) → HasNoWant (stage.Over end) → LeadsOn (Ends end)
     by_end Eof goes = goes
     by_end Turns goes = goes
     by_end Disc goes = tt
@@ -129,7 +118,7 @@ leads_on session runs = by_stage session.stage runs.within runs.goes
     by_end Dropped goes = tt
     by_end NoExport goes = tt
 
-    by_stage : (here : SessionStage) → EndsInPart session.unread here → GoesOn here → LeadsOn (move_in session here)
+    by_stage : (here : SessionStage) → EndsInPart session.unread here → HasNoWant here → LeadsOn (move_in session here)
     by_stage stage.Greeting whole goes = (runs.open_still, (let none : length session.unread ≡ 0 = omega (arith, whole) in none), tt)
     by_stage stage.Flags whole goes = flags_on session runs.open_still whole
     by_stage (stage.Options brief) whole goes = option_on session brief runs.open_still whole
@@ -140,48 +129,36 @@ leads_on session runs = by_stage session.stage runs.within runs.goes
 
 -- ---- a session goes on to run
 
-pub IsRunning-begun : (session : Session) (layout : Layout) → session ≡ begun layout → ReadsNoFurther session → IsRunning session
-IsRunning-begun session layout is within =
+pub IsLive-begun : (session : Session) (layout : Layout) → session ≡ begun layout → ReadsNoFurther session → IsLive session
+IsLive-begun session layout is within =
     record {
       open_still = ap (λ (s : Session). s.ended) is;
       within = within;
-      goes = subst (λ (s : Session). GoesOn s.stage) (sym is) tt;
+      goes = subst (λ (s : Session). HasNoWant s.stage) (sym is) tt;
     }
 
-pub IsRunning-fed : (old new : Session) (piece : List ℕ) → IsRunning old → new ≡ fed old piece → ReadsNoFurther new → IsRunning new
-IsRunning-fed old new piece runs is within =
+pub IsLive-fed : (old new : Session) (piece : List ℕ) → IsLive old → new ≡ fed old piece → ReadsNoFurther new → IsLive new
+IsLive-fed old new piece runs is within =
     record {
       open_still = ap (λ (s : Session). s.ended) is ∙ runs.open_still;
       within = within;
-      goes = subst (λ (s : Session). GoesOn s.stage) (sym is) runs.goes;
+      goes = subst (λ (s : Session). HasNoWant s.stage) (sym is) runs.goes;
     }
 
-pub IsRunning-answered : (old new : Session) (answer : RangeAnswer) → IsRunning old → new ≡ answered old answer → ReadsNoFurther new → IsRunning new
-IsRunning-answered old new answer runs is within =
+pub IsLive-answered : (old new : Session) (answer : RangeAnswer) → IsLive old → new ≡ answered old answer → ReadsNoFurther new → IsLive new
+IsLive-answered old new answer runs is within =
     record {
       open_still = ap (λ (s : Session). s.ended) is ∙ runs.open_still;
       within = within;
-      goes = subst (λ (s : Session). GoesOn s.stage) (sym is) tt;
+      goes = subst (λ (s : Session). HasNoWant s.stage) (sym is) tt;
     }
 
-pub IsRunning-said : (old new : Session) (bytes : List ℕ) → IsRunning old → move_of old ≡ Says bytes new → ReadsNoFurther new → IsRunning new
-IsRunning-said old new bytes runs is within =
+pub IsLive-said : (old new : Session) (bytes : List ℕ) → IsLive old → move_of old ≡ Says bytes new → ReadsNoFurther new → IsLive new
+IsLive-said old new bytes runs is within =
     let leads : LeadsOn (Says bytes new) = subst LeadsOn is (leads_on old runs) in
     record { open_still = leads.0; within = within; goes = leads.2 }
 
 -- ---- the request that a turn was taken for
-
--- one where this is so
-abbrev pub one_if : Bool → ℕ
-one_if holds = cond holds 1 0
-
--- one where bytes of a request have come
-abbrev pub owed_in : List ℕ → SessionStage → ℕ
-owed_in bytes stage.Requests = one_if (nat_lt 0 (length bytes))
-owed_in bytes here = 0
-
-abbrev pub owed : Session → ℕ
-owed session = owed_in session.unread session.stage
 
 -- a turn is taken as its first byte comes
 pub owed_fed : (session : Session) (piece : List ℕ) → owed (fed session piece) ≤ owed session + one_if (wants_turn session)
@@ -218,7 +195,7 @@ owed_none bytes stage.Sending none = refl
 owed_none bytes (stage.Over end) none = refl
 
 -- none is owed behind what a session said
-pub owed_said : (old new : Session) (bytes : List ℕ) → IsRunning old → move_of old ≡ Says bytes new → owed new ≡ 0
+pub owed_said : (old new : Session) (bytes : List ℕ) → IsLive old → move_of old ≡ Says bytes new → owed new ≡ 0
 owed_said old new bytes runs is =
     let leads : LeadsOn (Says bytes new) = subst LeadsOn is (leads_on old runs) in
     owed_none new.unread new.stage leads.1

@@ -5,4 +5,5 @@ pub mod Finishing
 pub mod Telling
 pub mod Within
 pub mod Leading
+pub mod Nearing
 mod Worked

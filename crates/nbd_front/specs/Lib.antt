@@ -1,3 +1,4 @@
 pub mod Wire
 pub mod Sessions
 pub mod Talks
+pub mod Lives
