@@ -264,13 +264,6 @@ module _ {A : Type 0} (takes : A → A → Type 0) (layout : Layout) (turns : �
         few = omega (arith, was, owes, none, more);
       }
 
-  -- a command's request took a turn
-  pub room_for : (now : Outside A) (session : Session) (left sent : ℕ) → IsServing takes layout turns before now session left sent → move_of session ≡ Asks → sent + left + 1 ≤ turns
-  room_for now session left sent h asks =
-      let was = h.few in
-      let owes : owed session ≡ 1 = owed_asks session asks in
-      omega (arith, was, owes)
-
   -- ---- the end
 
   -- by itself

@@ -13,7 +13,7 @@ use Rattle.hosting.specs.Faults.{AtSource, AtSink}
 use Rattle.hosting.specs.Rounds.{Told}
 use Rattle.hosting.specs.declared.faults.HostFault.{HostFault}
 use Rattle.nbd_hosting.specs.Serving.{Outside, ServesSession}
-use Rattle.nbd_hosting.specs.Steps.{ReadsPart, RunsAsked, IsServing, ServesOn}
+use Rattle.nbd_hosting.specs.Steps.{ReadsClient, RunsAsked, IsServing, ServesOn}
 use Rattle.nbd_hosting.proofs.Standings.{need_is, ask_is, ended_is, waits_same, asks_same, says_then, IsServing-read, IsServing-sent, IsServing-run, Serves-own, Serves-eof, Serves-turns, Serves-open, Until-idle, Until-read, Until-fed, Until-sent, Until-run}
 
 -- a session that asks a command asks it still
@@ -70,7 +70,7 @@ module _ {A : Type 0} (takes : A → A → Type 0) (stops : A → A → HostFaul
   -- bytes were read, or were not
   pub ServesOn-read : (now : Outside A) (source : Option (List ℕ)) (first session session_then : Session) (left left_then sent : ℕ)
       (r : Result (Option End) HostFault) → step.Need ≡ step_of (move_of first) → session ≡ after first (move_of first)
-      → ReadsPart session session_then left left_then now.source source r → OnOk r (ReadsNoFurther session → ReadsNoFurther session_then)
+      → ReadsClient session session_then left left_then now.source source r → OnOk r (ReadsNoFurther session → ReadsNoFurther session_then)
       → ServesOn takes stops layout now (record now { source = source }) first session_then left left_then sent sent r
   ServesOn-read now source first session session_then left left_then sent (Ok None) need is (piece, taken, session_is, left_is) within =
       λ turns before h.

@@ -23,15 +23,15 @@ pub record TakesPiece (session : Session) (left : ℕ) (source source_after : Op
 
 -- Bytes were read, and the session has them; or no turn was left for them; or the source is at its end; or it failed; or no memory was left, and the
 -- session has not got what was read.
-abbrev pub ReadsPart : Session → Session → ℕ → ℕ → Option (List ℕ) → Option (List ℕ) → Result (Option End) HostFault → Type 0
-ReadsPart session session_after left left_after source source_after (Ok None) =
+abbrev pub ReadsClient : Session → Session → ℕ → ℕ → Option (List ℕ) → Option (List ℕ) → Result (Option End) HostFault → Type 0
+ReadsClient session session_after left left_after source source_after (Ok None) =
     (piece : List ℕ) × TakesPiece session left source source_after piece × (session_after ≡ fed session piece)
     × (left_after ≡ left - part_turns session)
-ReadsPart session session_after left left_after source source_after (Ok (Some Turns)) =
+ReadsClient session session_after left left_after source source_after (Ok (Some Turns)) =
     (source_after ≡ source) × (wants_turn session ≡ true) × (left ≡ 0)
-ReadsPart session session_after left left_after source source_after (Ok (Some Eof)) = Keeps source source_after × IsAtEnd source_after
-ReadsPart session session_after left left_after source source_after (Ok (Some end)) = ⊥
-ReadsPart session session_after left left_after source source_after (Err fault) =
+ReadsClient session session_after left left_after source source_after (Ok (Some Eof)) = Keeps source source_after × IsAtEnd source_after
+ReadsClient session session_after left left_after source source_after (Ok (Some end)) = ⊥
+ReadsClient session session_after left left_after source source_after (Err fault) =
     AtSource fault × (Keeps source source_after ⊎ ((piece : List ℕ) × TakesPiece session left source source_after piece))
 
 -- ---- its command

@@ -8,7 +8,7 @@ ghost use Rattle.hosting.specs.Rounds.{Heard, KeepsBricks, RunsRange, StopsRange
 ghost use Rattle.nbd_front.specs.Lives.{owed};
 ghost use Rattle.nbd_front.specs.Sessions.{Asks, ReadsNoFurther, Waits, asked_of, move_of, shown};
 ghost use Rattle.nbd_hosting.specs.Serving.{ServesSession, ServesUntil, outside, range_of};
-ghost use Rattle.nbd_hosting.specs.Steps.{ReadsPart, RunsAsked, ServesOn};
+ghost use Rattle.nbd_hosting.specs.Steps.{ReadsClient, RunsAsked, ServesOn};
 
 use fab_io::{IoFault, Link, Sink, Source};
 use front::{Range, RangeAnswer};
@@ -110,7 +110,7 @@ fn read_part<S: Source>(
 ) -> Result<Option<End>, HostFault>
     requires waits { move_of session.old ≡ Waits }
     requires some { 0 < length room.old }
-    ensures reads { ReadsPart session.old session.new turns.old turns.new (S.told source.old) (S.told source.new) result }
+    ensures reads { ReadsClient session.old session.new turns.old turns.new (S.told source.old) (S.told source.new) result }
     ensures within { OnOk result (ReadsNoFurther session.old → ReadsNoFurther session.new) }
     ensures kept { Kept (S.faults source.old) (S.faults source.new) (S.sound source.old) (S.sound source.new) (result ≡ Err HostFault.Source) }
 {
