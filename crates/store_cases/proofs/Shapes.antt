@@ -14,8 +14,8 @@ of_answer before after old new (Ok u) ok refused = ok.shape
 of_answer before after old new (Err e) ok refused = refused.shape
 
 -- a change keeps what a store was made for, also where it was refused
-pub same_shape : {D : Type 0} {old new : Brick D} {after : StateOf Version} {adds : Bool} {result : Result (Unit {0}) StoreFault}
-    → Answers old new after adds result → new.shape ≡ old.shape
+pub same_shape : {D : Type 0} {old new : Brick D} {after : StateOf Version} {body : ℕ} {adds : Bool} {result : Result (Unit {0}) StoreFault}
+    → Answers old new after body adds result → new.shape ≡ old.shape
 same_shape {old = old} {new = new} {after = after} {result = result} made =
     of_answer old.state after old new result made.ok made.refused
 

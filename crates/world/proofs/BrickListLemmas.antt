@@ -27,7 +27,7 @@ use Rattle.protocol.specs.Worlds.{World, first_world, is_brick, is_up}
 use Rattle.fab_base.specs.Layouts.{Layout}
 use Rattle.protocol.specs.Nodes as machine
 use Rattle.world.specs.Runs.{brick_of}
-use Rattle.world.specs.Disks.{IsUnwritten}
+use Rattle.world.specs.Disks.{IsUnwritten, ListsPacket}
 use Rattle.world.specs.Faults.{IsReached, IsLeft, plan_of}
 use Rattle.world.specs.Shown.{IsRunning, Rests, ShowsPower, ShowsBrick, ShowsBricks, Takes, HandledAs, IsNodeOf, IsOn, IsUp, FindsUp, AreNodesOf, disk_in, disks_of}
 use Rattle.lines.specs.declared.forms.Fault.{Fault}
@@ -259,6 +259,13 @@ module _ (layout : Layout) (bricks : List Brick) (number : BrickId) (old : Brick
     still = λ none.
         unwritten_but bricks number old (with_power old power) within is
         (subst (λ (p : Power). IsUnwritten (disk_in p) (disk_in power)) (sym on) (took.still none));
+    lists = λ was one was_is one_is.
+        let same : node.brick.disk ≡ was = (let e : Some node.brick.disk ≡ Some was = sym disk_here ∙ was_is in cc) in
+        let now : disk_in power ≡ one =
+        (let e : Some (disk_in power) ≡ Some one = sym (disk_set bricks number.0 (with_power old power) within) ∙ one_is in cc)
+        in
+        subst (λ (d : MemDisk). ListsPacket layout number (w.nodes number.0) packet d one) same
+        (subst (λ (d : MemDisk). ListsPacket layout number (w.nodes number.0) packet node.brick.disk d) now took.lists);
   }
   took_as (Ok None) took = record {
     disk = node.brick.disk;

@@ -23,7 +23,7 @@ use Rattle.protocol.specs.Calms.{IsCalm}
 use Rattle.world.specs.Runs.{brick_of}
 use Rattle.world.specs.Faults.{IsEventsOf, IsStartOf, StaysDown, IsStarted, IsNoStart, IsReached, plan_of}
 use Rattle.world.specs.Ledgers.{Notes}
-use Rattle.world.specs.Disks.{KeepsOthers, LeavesDisks, receiver_of, changes_disk_of}
+use Rattle.world.specs.Disks.{KeepsOthers, LeavesDisks, ListsHandled, receiver_of, changes_disk_of}
 use Rattle.world.specs.EventCalls.{handled_calls}
 use Rattle.world.specs.Shown.{Shows, ShowsBricks, StartsAs, Tells, Comes, IsReachedBy, Refused, HandledWhole, HandledPart, disks_of}
 use Rattle.world.specs.Texts.{marks_if, is_deliverable, outcome_of, marks_text, outcome_text, new_marks, event_text, text_of, line_text}
@@ -78,7 +78,8 @@ unsent_comes layout w state number fault none shows notes =
     (inr (record { spared = λ struck. (let never : Some struck.packet ≡ None = sym struck.sent ∙ none in cc); events_are = refl }))
     (shows_still layout state w (happens (coding layout) w (Delivers number)) (happens_unsent (coding layout) w number none) shows)
     (sym (ap (λ p. marks_if (is_deliverable (coding layout) w p)) none))
-    (same_kept layout w (Delivers number) (disks_of state.bricks.items) (disks_of state.bricks.items) refl)
+    (same_kept layout w (Delivers number) (disks_of state.bricks.items) (disks_of state.bricks.items) refl
+    (subst (λ (p : Option Packet). ListsHandled layout w p (disks_of state.bricks.items) (disks_of state.bricks.items)) (sym none) tt))
     (subst (λ (v : World). Notes state.ledger v) (sym (happens_unsent (coding layout) w number none)) notes)
 
 -- a message to a brick that is not up
@@ -90,7 +91,9 @@ astray_comes layout w state number fault packet sent down shows notes =
     (inr (record { spared = λ struck. not_struck struck.packet struck.sent struck.up; events_are = refl }))
     (shows_still layout state w (happens (coding layout) w (Delivers number)) (happens_astray (coding layout) w number packet sent down) shows)
     (handled_astray layout w packet (packet_of w.packets number) sent down)
-    (same_kept layout w (Delivers number) (disks_of state.bricks.items) (disks_of state.bricks.items) refl)
+    (same_kept layout w (Delivers number) (disks_of state.bricks.items) (disks_of state.bricks.items) refl
+    (subst (λ (p : Option Packet). ListsHandled layout w p (disks_of state.bricks.items) (disks_of state.bricks.items)) (sym sent)
+    (λ up. let never : true ≡ false = sym up ∙ down in absurd cc)))
     (subst (λ (v : World). Notes state.ledger v) (sym (happens_astray (coding layout) w number packet sent down)) notes)
   where
     not_struck : (other : Packet) → packet_of w.packets number ≡ Some other → is_up layout w other.to ≡ true → ⊥
@@ -124,6 +127,8 @@ module _ (layout : Layout) (w : World) (old new : Simulation) (number : ℕ) (fa
       (record {
         others = subst (λ (b : Option BrickId). KeepsOthers b (disks_of old.bricks.items) (disks_of new.bricks.items)) (sym changes_here) others;
         still = λ none. handled.still (λ listed. sym (calls_here listed) ∙ none listed true);
+        lists = subst (λ (p : Option Packet). ListsHandled layout w p (disks_of old.bricks.items) (disks_of new.bricks.items)) (sym sent)
+            (λ is. handled.lists);
       })
       (subst (λ (v : World). Notes new.ledger v) (sym (happens_handled (coding layout) w number packet sent up)) notes)
     where
@@ -164,6 +169,7 @@ module _ (layout : Layout) (w : World) (old new : Simulation) (number : ℕ) (fa
         still = λ none.
             absurd (never_within (packet_calls layout packet.to (w.nodes packet.to.0) packet handled.reached.listed) (plan_of fault)
             (sym (calls_here handled.reached.listed) ∙ none handled.reached.listed true) handled.reached.within);
+        lists = tt;
       })
       (subst (λ (v : World). Notes new.ledger v) (sym (happens_stopped_during (coding layout) w packet.to (Some number) up)) notes)
 

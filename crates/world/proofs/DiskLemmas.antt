@@ -10,7 +10,7 @@ use Rattle.fab_disk.specs.MemDisk.{content_of}
 use Rattle.fab_disk.specs.declared.mem_disk.MemDisk.{MemDisk}
 use Rattle.protocol.specs.Settings.{Setting}
 use Rattle.protocol.specs.Worlds.{World, Event}
-use Rattle.world.specs.Disks.{KeepsOthers, IsUnwritten, AreUnwritten, LeavesDisks, KeepsDisks, changes_disk_of}
+use Rattle.world.specs.Disks.{KeepsOthers, IsUnwritten, AreUnwritten, LeavesDisks, KeepsDisks, ListsEvent, changes_disk_of}
 use Rattle.world.specs.Shown.{disk_in, disks_of}
 use Rattle.world.specs.declared.bricks.Brick.{Brick}
 use Rattle.world.proofs.Places.{set_here, set_elsewhere}
@@ -84,8 +84,10 @@ pub one_kept : (setting : Setting) (w : World) (event : Event) (old new : List M
 one_kept setting w event old new kept = (new, kept, refl)
 
 -- where no disk has changed
-pub same_kept : (layout : Layout) (w : World) (event : Event) (old new : List MemDisk) → new ≡ old → LeavesDisks layout w event old new
-same_kept layout w event old new same = record {
+pub same_kept : (layout : Layout) (w : World) (event : Event) (old new : List MemDisk) → new ≡ old → ListsEvent layout w event old new
+    → LeavesDisks layout w event old new
+same_kept layout w event old new same lists = record {
+  lists = lists;
   others = by (changes_disk_of layout w event);
   still = λ none i was disk at now.
       unwritten_same was disk

@@ -21,10 +21,10 @@ use Rattle.messages.specs.declared.packets.Packet.{Packet}
 use Rattle.version_log.specs.Versions.{Version}
 use Rattle.brick_state.specs.States.{StateOf}
 use Rattle.brick_store.specs.Images.{IsFound, IsListed}
-use Rattle.brick_store.specs.Calls.{opening_calls}
-use Rattle.brick_store.specs.Openings.{opens_appendable, IsCounted, IsWornOut}
+use Rattle.brick_store.specs.Calls.{Append, IsListedAfter, opening_calls}
+use Rattle.brick_store.specs.Openings.{opens_appendable, IsCounted, IsListedOnOpening, IsWornOut}
 use Rattle.coord_phase.specs.Messages.{packets_from}
-use Rattle.node.specs.Calls.{packet_calls}
+use Rattle.node.specs.Calls.{packet_append, packet_calls}
 use Rattle.node.specs.Ends.{StepChange, end_of}
 use Rattle.node.specs.Openings.{OpensBrick}
 use Rattle.node.specs.Outcomes.{Outcome}
@@ -165,6 +165,20 @@ unfolding machine.restarted
 restarted_again node openings =
     ap (λ (k : ℕ). record node { boot = k; seq = 0; known = 0; busy = 0; calls = machine.no_calls }) (omega arith)
 
+-- how long the list of a brick's disk is, by what its store says
+listed_by : (layout : Layout) (me : BrickId) (node : Running MemDisk) (listed : ℕ) → node.layout ≡ layout → node.me ≡ me
+    → node.brick.shape ≡ shape_at node.layout node.me → IsListed node.brick.shape node.brick.listed (content_of node.brick.disk)
+    → node.brick.listed ≡ listed → IsListed (shape_at layout me) listed (content_of node.brick.disk)
+listed_by layout me node listed layout_is me_is shape is long =
+    subst (λ (n : ℕ). IsListed (shape_at layout me) n (content_of node.brick.disk)) long
+    (subst (λ (s : Shape). IsListed s node.brick.listed (content_of node.brick.disk))
+    (shape ∙ ap (λ (l : Layout). shape_at l node.me) layout_is ∙ ap (shape_at layout) me_is) is)
+
+-- a brick that starts keeps as many live records
+restarted_live : (openings : ℕ) (node : machine.Node) → (machine.restarted openings node).live ≡ node.live
+unfolding machine.restarted
+restarted_live openings node = refl
+
 -- A brick that is down is started over its disk, with a plan.
 module _ (layout : Layout) (me : BrickId) (state after : machine.Node) (fault : Option Fault) (disk armed : MemDisk)
     (rests : Rests layout me state after disk) (arms : IsArmed (plan_of fault) disk armed) where
@@ -205,8 +219,10 @@ module _ (layout : Layout) (me : BrickId) (state after : machine.Node) (fault : 
       → IsCounted (shape_at layout me) (content_of armed) node.brick.state → Stands in_memory (ImageShows layout me (state_of node)) node.brick.disk
       → OpensBrick in_memory layout me armed node.brick.disk Whole → IsSameBrick node up → state_of up ≡ state_of node → up.brick.halted ≡ node.brick.halted
       → IsUnwritten node.brick.disk up.brick.disk → (is_unlisted node.brick.disk → IsSound up.brick.disk)
-      → WasStarted layout me state after disk fault (Up up)
-  started node up layout_is me_is runs state_is found stands opens same state_same halted still sound =
+      → IsListedOnOpening (shape_at layout me) (content_of armed) (state_of node).live node.brick.listed
+      → up.brick.shape ≡ shape_at up.layout up.me → IsListed up.brick.shape up.brick.listed (content_of up.brick.disk)
+      → up.brick.listed ≡ node.brick.listed → WasStarted layout me state after disk fault (Up up)
+  started node up layout_is me_is runs state_is found stands opens same state_same halted still sound longer shape listed long =
       let next : machine.Node = machine.restarted (found_there.openings + 1) (found_of state after found_there.found) in
       let is : state_of node ≡ next =
       state_is node_there shows_there ∙ restarted_again (found_of state after found_there.found) found_there.openings
@@ -230,6 +246,14 @@ module _ (layout : Layout) (me : BrickId) (state after : machine.Node) (fault : 
             sound = sound (unlisted_after node.brick.disk Whole opens);
           },
         );
+        lists = record {
+          after = node.brick.listed;
+          is_listed = listed_by layout me up node.brick.listed (same.layout ∙ layout_is) (same.me ∙ me_is) shape listed long;
+          longer = subst (λ (image : List ℕ). IsListedOnOpening (shape_at layout me) image (found_of state after found_there.found).live node.brick.listed)
+              arms.content
+              (subst (λ (n : ℕ). IsListedOnOpening (shape_at layout me) (content_of armed) n node.brick.listed)
+              (ap (λ (s : machine.Node). s.live) is ∙ restarted_live (found_there.openings + 1) (found_of state after found_there.found)) longer);
+        };
       }
 
   -- its store can't be opened once more, or memory was refused
@@ -346,7 +370,7 @@ module _ (layout : Layout) (me : BrickId) (state : machine.Node) (time : ℕ) (p
   -- what its step makes of its disk
   abbrev pub Stepped : Running MemDisk → End → Type 0
   Stepped new end =
-      StepChange in_memory (packet_calls armed.layout armed.me (state_of armed) packet armed.brick.listed)
+      StepChange in_memory (packet_append armed.layout armed.me (state_of armed) packet)
       (machine.absorbed (coding armed.layout) armed.me (state_of armed) packet) armed new end
 
   change_there : (new : Running MemDisk) (end : End) → Stepped new end
@@ -374,8 +398,9 @@ module _ (layout : Layout) (me : BrickId) (state : machine.Node) (time : ℕ) (p
       → state_of up ≡ state_of new → IsUnwritten new.brick.disk up.brick.disk
       → (packet_calls armed.layout armed.me (state_of armed) packet armed.brick.listed ≡ 0 → IsUntouched content_of may_be_left moment_of was_left_since armed.brick.disk new.brick.disk)
       → Stepped new Whole → up.brick.halted ≡ false → (is_unlisted new.brick.disk → IsSound up.brick.disk)
-      → TookWhole layout me state time packet node.brick.disk fault (Up up) outs
-  took_whole new up outs stays_new stays_up steps up_is still idle step halted sound =
+      → up.brick.shape ≡ shape_at up.layout up.me → IsListed up.brick.shape up.brick.listed (content_of up.brick.disk)
+      → up.brick.listed ≡ new.brick.listed → TookWhole layout me state time packet node.brick.disk fault (Up up) outs
+  took_whole new up outs stays_new stays_up steps up_is still idle step halted sound shape_up listed_up long =
       let next : machine.Node = (machine.received (coding layout) me time state packet).node in
       let run = (change_there new Whole step).run in
       let is : state_of new ≡ next = steps.state_is ∙ ap (λ (s : machine.NodeStep). s.node) steps_there in
@@ -403,6 +428,15 @@ module _ (layout : Layout) (me : BrickId) (state : machine.Node) (time : ℕ) (p
         still = λ none.
             unwritten_by (plan_of fault) node.brick.disk armed.brick.disk new.brick.disk up.brick.disk arms (idle (calls_there ∙ none armed.brick.listed))
             still;
+        lists = record {
+          before = armed.brick.listed;
+          after = new.brick.listed;
+          was_listed = listed_there;
+          is_listed = listed_by layout me up new.brick.listed (stays_up.layout ∙ stays_new.layout ∙ same.layout ∙ runs.layout_is)
+              (stays_up.me ∙ stays_new.me ∙ same.me ∙ runs.me_is) shape_up listed_up long;
+          longer = as_there (λ l b s. IsListedAfter (shape_at l b) s.live armed.brick.listed (packet_append l b s packet) new.brick.listed)
+              (step.listed.whole refl);
+        };
       }
 
   pub took_part : (new : Running MemDisk) (left last : MemDisk) → left ≡ new.brick.disk → armed.brick.halted ≡ false → Stepped new Cut
@@ -473,9 +507,9 @@ module _ (layout : Layout) (me : BrickId) (state : machine.Node) (time : ℕ) (p
 abbrev failed : (T : Type 0) → NodeFault → Result T NodeFault
 failed T fault = Err fault
 
-pub step_by : (T : Type 0) (calls : ℕ) (kept : machine.Node) (old new : Running MemDisk) (fault is : NodeFault) → fault ≡ is
-    → StepChange in_memory calls kept old new (end_of (failed T fault)) → StepChange in_memory calls kept old new (end_of (failed T is))
-step_by T calls kept old new fault is same step = subst (λ (f : NodeFault). StepChange in_memory calls kept old new (end_of (failed T f))) same step
+pub step_by : (T : Type 0) (append : Option Append) (kept : machine.Node) (old new : Running MemDisk) (fault is : NodeFault) → fault ≡ is
+    → StepChange in_memory append kept old new (end_of (failed T fault)) → StepChange in_memory append kept old new (end_of (failed T is))
+step_by T append kept old new fault is same step = subst (λ (f : NodeFault). StepChange in_memory append kept old new (end_of (failed T f))) same step
 
 -- want of memory halts no brick
 pub halted_as : (T : Type 0) (halted now : Bool) (fault : NodeFault) → now ≡ halted_after {T = T} halted (Err fault) → fault ≡ NoMemory → now ≡ halted

@@ -13,7 +13,7 @@ use Rattle.protocol.specs.Nodes as machine
 use Rattle.protocol.specs.Worlds.{World, Event, Starts, Stops, Found, Before, After, is_brick, is_up, may_start, world_found, world_started, happens}
 use Rattle.world.specs.EventCalls.{is_down}
 use Rattle.world.specs.Faults.{IsLeftOpening, StartsDown, Finds, found_of}
-use Rattle.world.specs.Disks.{KeepsOthers, IsUnwritten}
+use Rattle.world.specs.Disks.{KeepsOthers, IsUnwritten, ListsOpening, OfDisk}
 use Rattle.world.specs.Shown.{Rests, ShowsPower, ShowsBricks, StartsAs, TurnsOn, WasStarted, IsWorn, WasCutShort, Tells, disk_in, disks_of}
 use Rattle.world.specs.Texts.{marks_if}
 use Rattle.world.specs.declared.bricks.Brick.{Brick}
@@ -144,6 +144,21 @@ module _ (layout : Layout) (bricks : List Brick) (number : BrickId) (old : Brick
       shows_kept layout bricks number.0 old power w within is
       (subst (λ (up : Bool). ShowsPower layout number (w.nodes number.0) (w.after number.0) up power) (sym down_here) shown) shows
 
+  -- how long the list of its disk is then
+  lists_here : (was : WasStarted layout number (w.nodes number.0) (w.after number.0) disk fault power)
+      → OfDisk number (ListsOpening layout number (found_of (w.nodes number.0) (w.after number.0) was.finds.found)) (disks_of bricks) (disks_of new_bricks)
+  lists_here was before one before_is one_is =
+      let node : machine.Node = found_of (w.nodes number.0) (w.after number.0) was.finds.found in
+      let same : disk ≡ before =
+      (let e : Some disk ≡ Some before =
+      sym (disk_at bricks number.0 old within is ∙ ap (λ (p : Power). Some (disk_in p)) off) ∙ before_is in cc)
+      in
+      let now : disk_in power ≡ one =
+      (let e : Some (disk_in power) ≡ Some one = sym (disk_set bricks number.0 (with_power old power) within) ∙ one_is in cc)
+      in
+      subst (λ (d : MemDisk). ListsOpening layout number node d one) same
+      (subst (λ (d : MemDisk). ListsOpening layout number node disk d) now was.lists)
+
   comes_started : WasStarted layout number (w.nodes number.0) (w.after number.0) disk fault power
       → (events : List Event) × StartsAs layout w number fault bricks new_bricks true events
   comes_started was =
@@ -181,7 +196,11 @@ module _ (layout : Layout) (bricks : List Brick) (number : BrickId) (old : Brick
           comes = sym (ap marks_if may);
           tells = λ history tells. subst (λ (x : World). Tells history x) (sym happened) (tells_found_started history w number openings was.finds.found tells);
           kept = one_kept (coding layout) w event (disks_of bricks) (disks_of new_bricks)
-              (record { others = others_here; still = λ none. absurd (never_none (may_start layout w number openings) 4 may (none 0 true)) });
+              (record {
+                others = others_here;
+                still = λ none. absurd (never_none (may_start layout w number openings) 4 may (none 0 true));
+                lists = λ yes was_disk one was_is one_is. lists_here was was_disk one was_is one_is;
+              });
         },
       )
 
@@ -206,6 +225,7 @@ module _ (layout : Layout) (bricks : List Brick) (number : BrickId) (old : Brick
                 still = λ none.
                     unwritten_but bricks number old (with_power old power) within is
                     (subst (λ (p : Power). IsUnwritten (disk_in p) (disk_in power)) (sym off) was.still);
+                lists = λ yes. let never : true ≡ false = sym yes ∙ may in absurd cc;
               });
         },
       )
@@ -223,7 +243,11 @@ module _ (layout : Layout) (bricks : List Brick) (number : BrickId) (old : Brick
           comes = sym (ap marks_if down);
           tells = λ history tells. unchanged_tells history w (happens (coding layout) w event) happened tells;
           kept = one_kept (coding layout) w event (disks_of bricks) (disks_of new_bricks)
-              (record { others = others_here; still = λ none. absurd (never_none (is_down layout w number) 4 is_down_here (none 0 true)) });
+              (record {
+                others = others_here;
+                still = λ none. absurd (never_none (is_down layout w number) 4 is_down_here (none 0 true));
+                lists = tt;
+              });
         },
       )
 
@@ -263,7 +287,8 @@ starts_not layout bricks new number fault w not_down may same shows =
         bricks = unchanged_bricks layout new w (happens (coding layout) w event) happened shows;
         comes = sym (ap marks_if may);
         tells = λ history tells. unchanged_tells history w (happens (coding layout) w event) happened tells;
-        kept = one_kept (coding layout) w event (disks_of bricks) (disks_of new) (same_kept layout w event (disks_of bricks) (disks_of new) same);
+        kept = one_kept (coding layout) w event (disks_of bricks) (disks_of new) (same_kept layout w event (disks_of bricks) (disks_of new) same
+            (λ yes. let never : true ≡ false = sym yes ∙ may in absurd cc));
       },
     )
 

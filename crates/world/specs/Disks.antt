@@ -6,13 +6,17 @@ use Rattle.fab_disk.specs.MemDisk.{content_of, may_be_left}
 use Rattle.fab_disk.specs.declared.mem_disk.MemDisk.{MemDisk}
 use Rattle.messages.specs.declared.packets.Packet.{Packet}
 use Rattle.fab_disk.specs.Changing.{Stands}
-use Rattle.node.specs.Running.{ImageShows}
+use Rattle.brick_store.specs.Calls.{IsListedAfter}
+use Rattle.brick_store.specs.Images.{IsListed}
+use Rattle.brick_store.specs.Openings.{IsListedOnOpening}
+use Rattle.node.specs.Calls.{packet_append}
+use Rattle.node.specs.Running.{shape_at, ImageShows}
 use Rattle.protocol.specs.Nodes.{Node}
 use Rattle.protocol.specs.Settings.{Setting}
-use Rattle.protocol.specs.Worlds.{World, Event, Invokes, Delivers, Sets, Ticks, Stops, Starts, is_up, packet_of, happens}
+use Rattle.protocol.specs.Worlds.{World, Event, Invokes, Delivers, Sets, Ticks, Stops, Starts, is_up, may_start, packet_of, happens}
 use Rattle.world.specs.Runs.{Run, world_of, brick_of}
 use Rattle.world.specs.EventCalls.{MakesNoCall, is_down}
-use Rattle.world.specs.Faults.{in_memory, HoldsOne}
+use Rattle.world.specs.Faults.{in_memory, HoldsOne, found_of}
 
 -- a disk keeps just what this brick of the layout keeps: a crash leaves what a read gives, and that shows the brick
 abbrev pub ShowsDisk : Layout → BrickId → Node → MemDisk → Type 0
@@ -58,10 +62,46 @@ pub record IsUnwritten (old new : MemDisk) : Type 0 where
 abbrev pub AreUnwritten : List MemDisk → List MemDisk → Type 0
 AreUnwritten old new = (i : ℕ) (was disk : MemDisk) → slice_get old i ≡ Some was → slice_get new i ≡ Some disk → IsUnwritten was disk
 
--- An event changes no disk but that of its brick, and nothing of that where it makes no call of it.
+-- The list of frames of a brick's disk, once it handled a packet: it is longer by what keeps that.
+pub record ListsPacket (layout : Layout) (me : BrickId) (node : Node) (packet : Packet) (was disk : MemDisk) : Type 0 where
+  pub before : ℕ
+  pub after : ℕ
+  pub was_listed : IsListed (shape_at layout me) before (content_of was)
+  pub is_listed : IsListed (shape_at layout me) after (content_of disk)
+  pub longer : IsListedAfter (shape_at layout me) node.live before (packet_append layout me node packet) after
+
+-- The list, once the brick started: it is the one that was found, and the count of the opening.
+pub record ListsOpening (layout : Layout) (me : BrickId) (node : Node) (was disk : MemDisk) : Type 0 where
+  pub after : ℕ
+  pub is_listed : IsListed (shape_at layout me) after (content_of disk)
+  pub longer : IsListedOnOpening (shape_at layout me) (content_of was) node.live after
+
+-- so it is of the disk of this brick
+abbrev pub OfDisk : BrickId → (MemDisk → MemDisk → Type 0) → List MemDisk → List MemDisk → Type 0
+OfDisk brick P old new = (was disk : MemDisk) → slice_get old brick.0 ≡ Some was → slice_get new brick.0 ≡ Some disk → P was disk
+
+-- how long the list of the receiver of a packet is then, where it is up
+abbrev pub ListsHandled : Layout → World → Option Packet → List MemDisk → List MemDisk → Type 0
+ListsHandled layout w None old new = Unit {0}
+ListsHandled layout w (Some packet) old new =
+    is_up layout w packet.to ≡ true → OfDisk packet.to (ListsPacket layout packet.to (w.nodes packet.to.0) packet) old new
+
+-- How long the list of an event's brick is after it. Of one that stopped in the midst of it nothing is told here.
+abbrev pub ListsEvent : Layout → World → Event → List MemDisk → List MemDisk → Type 0
+ListsEvent layout w (Invokes brick ask) old new = Unit {0}
+ListsEvent layout w (Delivers number) old new = ListsHandled layout w (packet_of w.packets number) old new
+ListsEvent layout w (Sets brick time) old new = Unit {0}
+ListsEvent layout w (Ticks brick) old new = Unit {0}
+ListsEvent layout w (Stops brick during) old new = Unit {0}
+ListsEvent layout w (Starts brick openings found) old new =
+    may_start layout w brick openings ≡ true
+    → OfDisk brick (ListsOpening layout brick (found_of (w.nodes brick.0) (w.after brick.0) found)) old new
+
+-- An event changes no disk but that of its brick, and nothing of that where it makes no call of it. That one's list is longer by what the event appends.
 pub record LeavesDisks (layout : Layout) (w : World) (event : Event) (old new : List MemDisk) : Type 0 where
   pub others : KeepsOthers (changes_disk_of layout w event) old new
   pub still : MakesNoCall layout w event → AreUnwritten old new
+  pub lists : ListsEvent layout w event old new
 
 -- each of these events, one after another from this world, changes no disk but that of its brick
 abbrev pub KeepsDisks : Setting → World → List Event → List MemDisk → List MemDisk → Type 0

@@ -27,7 +27,7 @@ use Rattle.protocol.specs.Worlds.{Event}
 use Rattle.protocol_laws.specs.Marked.{OwnMarks}
 use Rattle.world.specs.Runs.{brick_of}
 use Rattle.world.specs.Faults.{HoldsOne, IsEventsOf, IsStartOf, IsLeft, IsLeftOpening, IsReached, IsReachedOpening, Finds, plan_of, found_of}
-use Rattle.world.specs.Disks.{ShowsDisk, IsUnwritten, AreUnwritten, KeepsDisks, LeavesContents}
+use Rattle.world.specs.Disks.{ShowsDisk, IsUnwritten, AreUnwritten, KeepsDisks, LeavesContents, ListsPacket, ListsOpening, OfDisk}
 use Rattle.lines.specs.declared.forms.Fault.{Fault}
 use Rattle.lines.specs.declared.forms.Line.{Line}
 use Rattle.lines.specs.declared.forms.Line.TheVariants.{Calm}
@@ -170,6 +170,7 @@ pub record TookWhole (layout : Layout) (me : BrickId) (state : machine.Node) (ti
   pub on : (after : machine.Node) → ShowsPower layout me (machine.received (coding layout) me time state packet).node after true power
   pub spared : IsReached layout me state packet disk (plan_of fault) → ⊥
   pub still : ((listed : ℕ) → packet_calls layout me state packet listed ≡ 0) → IsUnwritten disk (disk_in power)
+  pub lists : ListsPacket layout me state packet disk (disk_in power)
 
 -- or a call was befallen in the midst of that, and the brick is down
 pub record TookPart (layout : Layout) (me : BrickId) (state : machine.Node) (packet : Packet) (disk : MemDisk) (fault : Option Fault)
@@ -191,6 +192,7 @@ pub record WasStarted (layout : Layout) (me : BrickId) (state after : machine.No
   pub may : machine.may_open (finds.openings + 1) state ≡ true
   pub spared : IsReachedOpening layout me disk (plan_of fault) → ⊥
   pub on : (other : machine.Node) → ShowsPower layout me (machine.restarted (finds.openings + 1) (found_of state after finds.found)) other true power
+  pub lists : ListsOpening layout me (found_of state after finds.found) disk (disk_in power)
 
 -- or its store can't be opened once more
 pub record IsWorn (layout : Layout) (me : BrickId) (state after : machine.Node) (disk : MemDisk) (power : Power) : Type 0 where
@@ -226,6 +228,7 @@ pub record HandledWhole (layout : Layout) (w : World) (number : BrickId) (packet
   pub spared : (disk : MemDisk) → slice_get (disks_of old) number.0 ≡ Some disk
       → IsReached layout number (w.nodes number.0) packet disk (plan_of fault) → ⊥
   pub still : ((listed : ℕ) → packet_calls layout number (w.nodes number.0) packet listed ≡ 0) → AreUnwritten (disks_of old) (disks_of new)
+  pub lists : OfDisk number (ListsPacket layout number (w.nodes number.0) packet) (disks_of old) (disks_of new)
 
 pub record HandledPart (layout : Layout) (w : World) (number : BrickId) (packet : Packet) (fault : Option Fault) (old new : List Brick) : Type 0 where
   pub disk : MemDisk

@@ -96,6 +96,7 @@ fn take_message(
         Ok(outs) => {
             // What was synced need not be undone any more: the disk lets go of it.
             node.arm(Plan::Never);
+            look(&node);
             (Power::Up(node), Ok(Some(outs)))
         }
         Err(NodeFault::Disk) => (Power::Down(left_by(node.into_disk(), fault)), Ok(None)),
@@ -162,6 +163,7 @@ fn open_over(
     match Node::start(alloc, layout, me, disk) {
         Ok(mut node) => {
             node.arm(Plan::Never);
+            look(&node);
             (Power::Up(node), Ok(true))
         }
         Err((OpenFault::Disk, left)) => (Power::Down(left_by(left, fault)), Ok(false)),

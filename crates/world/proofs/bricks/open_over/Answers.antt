@@ -18,6 +18,8 @@ returns-in-Ok-clause-turns c state after rests =
     c.in-Ok.ensures.layout c.in-Ok.ensures.me c.in-Ok.ensures.runs (c.in-Ok.ensures.state tt) (c.in-Ok.ensures.found tt) (c.in-Ok.ensures.stands tt)
     c.in-Ok.ensures.opens c.arm-in-Ok.ensures.same c.arm-in-Ok.ensures.state c.arm-in-Ok.ensures.halted
     (record { content = c.arm-in-Ok.ensures.content; crash = c.arm-in-Ok.ensures.crash }) (λ unlisted. c.arm-in-Ok.ensures.again refl unlisted)
+    (c.in-Ok.ensures.listed tt) c.look.ensures.shape (c.look.ensures.listed (c.arm-in-Ok.ensures.halted ∙ c.in-Ok.ensures.runs))
+    c.arm-in-Ok.ensures.room_left
 
 pub returns-in-Err-Disk-default-clause-turns : goal.returns-in-Err-Disk-default-clause-turns
 returns-in-Err-Disk-default-clause-turns c state after rests =

@@ -16,10 +16,12 @@ returns-in-Ok-clause-takes c layout me state runs =
       listed = c.arm.ensures.listed;
     } in
     let on : c.arm.new.self.brick.halted ≡ false = c.arm.ensures.halted ∙ runs.runs in
+    let running : c.arm-in-Ok.new.self.brick.halted ≡ false = c.arm-in-Ok.ensures.halted ∙ c.in-Ok.ensures.halts ∙ on in
     took_whole layout me state c.args.time c.args.packet.now c.args.fault c.args.node c.arm.new.self runs c.arm.ensures.same c.arm.ensures.state arms
     c.look.ensures.shape (c.look.ensures.listed on) c.on_message.new.self c.arm-in-Ok.new.self c.in-Ok.outs c.on_message.ensures.same c.arm-in-Ok.ensures.same
     c.in-Ok.ensures.step c.arm-in-Ok.ensures.state (record { content = c.arm-in-Ok.ensures.content; crash = c.arm-in-Ok.ensures.crash }) (λ none. (c.in-Ok.ensures.still none).1)
-    c.in-Ok.ensures.change (c.arm-in-Ok.ensures.halted ∙ c.in-Ok.ensures.halts ∙ on) (λ unlisted. c.arm-in-Ok.ensures.again refl unlisted)
+    c.in-Ok.ensures.change running (λ unlisted. c.arm-in-Ok.ensures.again refl unlisted) c.look-in-Ok.ensures.shape (c.look-in-Ok.ensures.listed running)
+    c.arm-in-Ok.ensures.room_left
 
 pub returns-in-Err-Disk-clause-takes : goal.returns-in-Err-Disk-clause-takes
 returns-in-Err-Disk-clause-takes c layout me state runs =

@@ -33,7 +33,7 @@ returns-in-Invoke-clause-comes c =
     (ok_three c.invoke.result _ _
     (λ outcome shown noted came w reached shows notes. one_event c.args.layout.now w (disks_of c.args.self.now.bricks.items) c.invoke.new.self
     (Invoke c.in-Invoke.brick c.in-Invoke.group c.in-Invoke.stripe c.in-Invoke.access) outcome event refl (shown w shows) (came w shows)
-    (same_kept c.args.layout.now w event (disks_of c.args.self.now.bricks.items) (disks_of c.invoke.new.self.bricks.items) c.invoke.ensures.disks)
+    (same_kept c.args.layout.now w event (disks_of c.args.self.now.bricks.items) (disks_of c.invoke.new.self.bricks.items) c.invoke.ensures.disks tt)
     (noted w reached shows notes))
     c.invoke.ensures.shows c.invoke.ensures.notes c.invoke.ensures.outcome)
 
@@ -65,7 +65,7 @@ returns-in-SetClock-clause-comes c w reached shows notes =
     (one_event c.args.layout.now w (disks_of c.args.self.now.bricks.items) c.set_clock.new.self (SetClock c.in-SetClock.brick c.in-SetClock.time)
     c.set_clock.result (Sets (brick_of c.in-SetClock.brick) c.in-SetClock.time) refl (c.set_clock.ensures.shows w shows) c.set_clock.ensures.outcome
     (same_kept c.args.layout.now w (Sets (brick_of c.in-SetClock.brick) c.in-SetClock.time) (disks_of c.args.self.now.bricks.items)
-    (disks_of c.set_clock.new.self.bricks.items) c.set_clock.ensures.disks)
+    (disks_of c.set_clock.new.self.bricks.items) c.set_clock.ensures.disks tt)
     (notes_clock_event c.args.layout.now c.set_clock.new.self.ledger w (brick_of c.in-SetClock.brick) c.in-SetClock.time
     (subst (λ (ledger : Ledger). Notes ledger w) (sym c.set_clock.ensures.ledger) notes)))
 
@@ -79,7 +79,7 @@ returns-in-Tick-clause-comes c =
     (λ outcome shown came w reached shows notes. one_event c.args.layout.now w (disks_of c.args.self.now.bricks.items) c.tick.new.self
     (Tick c.in-Tick.brick) outcome (Ticks (brick_of c.in-Tick.brick)) refl (shown w shows) (came w shows)
     (same_kept c.args.layout.now w (Ticks (brick_of c.in-Tick.brick)) (disks_of c.args.self.now.bricks.items) (disks_of c.tick.new.self.bricks.items)
-    c.tick.ensures.disks)
+    c.tick.ensures.disks tt)
     (notes_tick_event c.args.layout.now c.tick.new.self.ledger w (brick_of c.in-Tick.brick)
     (subst (λ (ledger : Ledger). Notes ledger w) (sym c.tick.ensures.ledger) notes)))
     c.tick.ensures.shows c.tick.ensures.outcome)
@@ -102,7 +102,7 @@ returns-in-Crash-clause-comes c =
     (λ outcome shown came w reached shows notes. one_event c.args.layout.now w (disks_of c.args.self.now.bricks.items) c.crash.new.self
     (Crash c.in-Crash.brick) outcome (Stops (brick_of c.in-Crash.brick) None) (refl, c.crash.ensures.disks) (shown w shows) (came w shows)
     (same_kept c.args.layout.now w (Stops (brick_of c.in-Crash.brick) None) (disks_of c.args.self.now.bricks.items)
-    (disks_of c.crash.new.self.bricks.items) c.crash.ensures.disks)
+    (disks_of c.crash.new.self.bricks.items) c.crash.ensures.disks tt)
     (notes_stop_event c.args.layout.now c.crash.new.self.ledger w (brick_of c.in-Crash.brick)
     (subst (λ (ledger : Ledger). Notes ledger w) (sym c.crash.ensures.ledger) notes)))
     c.crash.ensures.shows c.crash.ensures.outcome)
