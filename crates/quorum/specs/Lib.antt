@@ -1,2 +1,3 @@
 pub mod Quorums
 pub mod Tallies
+pub mod Memberships

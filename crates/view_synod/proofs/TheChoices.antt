@@ -12,13 +12,13 @@ use Rattle.messages.specs.declared.replies.Reply.{Reply}
 use Rattle.messages.specs.declared.replies.Reply.TheVariants as reply
 use Rattle.protocol.specs.declared.phases.Counted.{Counted}
 use Rattle.synod_laws.specs.Synods.{greater_told, value_or}
-use Rattle.view_synod.specs.Lists.{is_list}
-use Rattle.view_synod.specs.Proposals.{Proposal, answers_ballot, may_be_choice, told_choice, greatest_choice}
+use Rattle.quorum.specs.Memberships.{is_membership}
+use Rattle.protocol.specs.Proposals.{Proposal, answers_ballot, may_be_choice, told_choice, greatest_choice}
 use Rattle.view_synod.specs.Proposers.{IsUnderWay}
 
 -- the list of what was told, or else the proposer's own, may keep the group
 abbrev may_keep : ℕ → ℕ → List BrickId → Option (Ballot × List BrickId) → Type 0
-may_keep m bricks own told = is_list m bricks (value_or own told) ≡ true
+may_keep m bricks own told = is_membership m bricks (value_or own told) ≡ true
 
 -- so may that of the greater of two
 keeps_greater : (m bricks : ℕ) (own : List BrickId) (a b : Option (Ballot × List BrickId)) → may_keep m bricks own a → may_keep m bricks own b
@@ -29,13 +29,13 @@ keeps_greater m bricks own (Some a) (Some b) first second =
     cond_both (ballot_below a.0 b.0) (Some b) (Some a) (λ (o : Option (Ballot × List BrickId)). may_keep m bricks own o) (λ lower. second) (λ isnt. first)
 
 -- what a choice may be, its list may be
-keeps_choice : (m bricks : ℕ) (own : List BrickId) (accepted : Option Choice) → is_list m bricks own ≡ true → may_be_choice m bricks accepted ≡ true
+keeps_choice : (m bricks : ℕ) (own : List BrickId) (accepted : Option Choice) → is_membership m bricks own ≡ true → may_be_choice m bricks accepted ≡ true
     → may_keep m bricks own (option_map (λ (choice : Choice). (choice.ballot, choice.members)) accepted)
 keeps_choice m bricks own None mine told = mine
 keeps_choice m bricks own (Some choice) mine told = told
 
 -- so may what an answering reply tells
-keeps_told : (m bricks : ℕ) (own : List BrickId) (asks : Option (List BrickId)) (r : Reply) → is_list m bricks own ≡ true
+keeps_told : (m bricks : ℕ) (own : List BrickId) (asks : Option (List BrickId)) (r : Reply) → is_membership m bricks own ≡ true
     → answers_ballot m bricks asks r ≡ true → may_keep m bricks own (told_choice r)
 keeps_told m bricks own asks (reply.Found order newest) mine answers = mine
 keeps_told m bricks own asks reply.Ordered mine answers = mine
@@ -54,7 +54,7 @@ keeps_told m bricks own asks (reply.Outbid ballot) mine answers = mine
 keeps_told m bricks own asks reply.NotSynced mine answers = mine
 
 -- so may the greatest that is told
-keeps_greatest : (m bricks : ℕ) (own : List BrickId) (asks : Option (List BrickId)) (counted : List Counted) → is_list m bricks own ≡ true
+keeps_greatest : (m bricks : ℕ) (own : List BrickId) (asks : Option (List BrickId)) (counted : List Counted) → is_membership m bricks own ≡ true
     → list_all (λ c. answers_ballot m bricks asks c.reply) counted ≡ true → may_keep m bricks own (greatest_choice counted)
 keeps_greatest m bricks own asks [] mine answers = mine
 keeps_greatest m bricks own asks (c ∷ counted) mine answers =
@@ -63,5 +63,5 @@ keeps_greatest m bricks own asks (c ∷ counted) mine answers =
     (keeps_greatest m bricks own asks counted mine parts.1)
 
 -- the list that a proposal under way asks for may keep the group
-pub chosen_may_keep : (bricks : ℕ) (p : Proposal) → IsUnderWay bricks p → is_list p.m bricks (value_or p.own (greatest_choice p.counted)) ≡ true
+pub chosen_may_keep : (bricks : ℕ) (p : Proposal) → IsUnderWay bricks p → is_membership p.m bricks (value_or p.own (greatest_choice p.counted)) ≡ true
 chosen_may_keep bricks p is = keeps_greatest p.m bricks p.own p.asks p.counted is.own is.answers

@@ -1,6 +1,4 @@
 pub mod Lists
 pub mod Acceptors
-pub mod Proposals
 pub mod Proposers
 pub mod Evidence
-pub mod Rounds

@@ -1,5 +1,5 @@
 -- A proposal as its brick keeps it.
-use Rattle.std.specs.Prelude.{◌≡◌, ℕ, ◌-◌, ◌<◌, ◌^◌, Bool, true, false, not, ◌&&◌, nat_lt, if◌then◌else◌, List, [], ◌∷◌, length, Option, Some, None, is_some}
+use Rattle.std.specs.Prelude.{◌≡◌, ℕ, ◌-◌, ◌<◌, ◌^◌, Bool, true, false, not, ◌&&◌, nat_lt, if◌then◌else◌, List, [], ◌∷◌, length, map, Option, Some, None, is_some}
 use Rattle.std.specs.List.{list_all}
 use Rattle.fab_base.specs.declared.identities.BrickId.{BrickId}
 use Rattle.fab_base.specs.declared.identities.CallId.{CallId}
@@ -8,14 +8,15 @@ use Rattle.fab_base.specs.declared.member_lists.View.{View}
 use Rattle.fab_base.specs.declared.stamps.Ballot.{Ballot}
 use Rattle.messages.specs.declared.packets.Message.{Message}
 use Rattle.messages.specs.declared.packets.Message.TheVariants as message
+use Rattle.messages.specs.declared.packets.Packet.{Packet}
 use Rattle.quorum.specs.Quorums.{IsWithinLimits}
 use Rattle.protocol.specs.declared.phases.Counted.{Counted}
 use Rattle.protocol.specs.Coordinators.{has_seat}
 use Rattle.view_synod.specs.declared.answers.ViewNext.{ViewNext}
 use Rattle.view_synod.specs.declared.answers.ViewNext.TheVariants as next
-use Rattle.view_synod.specs.declared.answers.ViewAnswer.TheVariants as answer
-use Rattle.view_synod.specs.Lists.{is_list}
-use Rattle.view_synod.specs.Proposals.{Proposal, begun_proposal, Voting, Ignored, Waited, Asks, Ended, ballot_messages, answers_ballot, seat_voting, voted}
+use Rattle.protocol.specs.declared.tellings.ViewAnswer.TheVariants as answer
+use Rattle.quorum.specs.Memberships.{is_membership}
+use Rattle.protocol.specs.Proposals.{Proposal, ballot_packets, begun_proposal, Voting, Ignored, Waited, Asks, Ended, answers_ballot, seat_voting, voted}
 
 -- a proposal, on a disk of so many bricks
 pub record Proposing : Type 0 where
@@ -30,14 +31,14 @@ are_apart (c ∷ counted) = not (has_seat c.seat counted) && are_apart counted
 -- the list that it asks for, if it asks for one, may keep the group
 abbrev pub may_be_asked : ℕ → ℕ → Option (List BrickId) → Bool
 may_be_asked m bricks None = true
-may_be_asked m bricks (Some members) = is_list m bricks members
+may_be_asked m bricks (Some members) = is_membership m bricks members
 
 -- What is true of a proposal all along: the members of its view are within the limits of a quorum, and the successor has a number; its list, and the one that it
 -- asks for, may keep the group; while it prepares it is in its first phase; and each reply that counts is of a seat of the view, answers the phase, and is its seat's only one.
 pub record IsUnderWay (bricks : ℕ) (p : Proposal) : Type 0 where
   pub limits : IsWithinLimits p.m (length p.view.members)
   pub number : p.view.number.0 < 2 ^ 32 - 1
-  pub own : is_list p.m bricks p.own ≡ true
+  pub own : is_membership p.m bricks p.own ≡ true
   pub asked : may_be_asked p.m bricks p.asks ≡ true
   pub phase : p.asks ≡ None → p.call.phase ≡ 1
   pub seats : list_all (λ c. nat_lt c.seat (length p.view.members)) p.counted ≡ true
@@ -63,6 +64,10 @@ voting_on x from message = Ignored
 abbrev pub voting_in : Option Proposing → BrickId → Message → Voting
 voting_in None from message = Ignored
 voting_in (Some x) from message = voting_on x from message
+
+-- the messages of the phase, whichever brick sends them: as it begins they go to all members, and later to those without a counted reply
+abbrev pub ballot_messages : Proposal → List (BrickId × Message)
+ballot_messages p = map (λ (packet : Packet). (packet.to, packet.message)) (ballot_packets (record { 0 = 0 }) p)
 
 -- it sends the messages of its phase
 abbrev pub SendsPhase : Proposal → ViewNext → Type 0
@@ -96,7 +101,7 @@ Decides x voting does after = (before : Proposal) → GoesOn (Some (with_state x
 -- a new proposal of these members, where they may keep the group
 abbrev pub started : ℕ → ℕ → GroupId → View → CallId → Ballot → List BrickId → Option Proposing
 started bricks m group view call ballot members =
-    if is_list m bricks members then Some (record { bricks = bricks; state = begun_proposal m group view call ballot members }) else None
+    if is_membership m bricks members then Some (record { bricks = bricks; state = begun_proposal m group view call ballot members }) else None
 
 -- It begins with the messages of its first phase. Where its members may not keep the group, that is its end, and nothing is sent.
 abbrev pub StartsAs : Option Proposing → ViewNext → Option Proposing → Type 0

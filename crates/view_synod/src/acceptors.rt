@@ -1,9 +1,11 @@
 //! The acceptor of a view's successor.
 
 ghost use Rattle.std.specs.Prelude.{◌≡◌};
+ghost use Rattle.std.specs.Option.{option_map};
+ghost use Rattle.protocol.specs.Ballots.{choice_of};
 
-use crate::votes::Vote;
 use fab_base::{Ballot, Members, View, ViewNo};
+use messages::{Choice, Lineage, Reply};
 use std::marker::Model;
 
 /// A ballot, and the list that was accepted under it.
@@ -42,10 +44,24 @@ fn copy_accepted(accepted: &Option<Accepted>) -> Option<Accepted>
     }
 }
 
+/// A list that was accepted, with its ballot, as a promise tells it.
+fn choice_of(accepted: &Option<Accepted>) -> Option<Choice>
+    ensures { result ≡ option_map choice_of accepted.now }
+{
+    match accepted {
+        Some((ballot, members)) => Some(Choice {
+            ballot: *ballot,
+            members: members.copy(),
+        }),
+        None => None,
+    }
+}
+
 impl Acceptor {
-    ghost use Rattle.std.specs.Prelude.{◌≡◌};
+    ghost use Rattle.std.specs.Prelude.{◌≡◌, None, Some};
     ghost use Rattle.synod_laws.specs.Synods.{last_of};
-    ghost use Rattle.view_synod.specs.Acceptors.{kept_of, promised_of, outbidding, refusal, prepare_vote, after_prepare, accept_vote, after_accept, NeverFalls, PromisesTruly, AcceptsTruly};
+    ghost use Rattle.protocol.specs.Ballots.{moved_to, outbidding, ballot_refusal};
+    ghost use Rattle.view_synod.specs.Acceptors.{kept_of, promised_of, vote_of, after_vote, NeverFalls, PromisesTruly, AcceptsTruly};
 
     /// A brick that is asked for the successor of the view `of`: it has learnt this view of the group, whose stripes are all known to be in it or not; and for
     /// the successor of that it has promised to this ballot and accepted this list last, if any.
@@ -103,18 +119,31 @@ impl Acceptor {
         }
     }
 
+    /// The later view that it has learnt, as it tells it.
+    fn moved(&self) -> Reply
+        ensures { result ≡ moved_to self.now.learnt.view }
+    {
+        Reply::Moved {
+            view: self.learnt.number,
+            lineage: Some(Lineage {
+                members: self.learnt.members.copy(),
+                prior: self.learnt.prior.copy(),
+            }),
+        }
+    }
+
     /// Why it refuses a ballot, if it does.
-    fn refusal(&self, ballot: Ballot) -> Option<Vote>
-        ensures { result ≡ refusal self.now ballot }
+    fn refusal(&self, ballot: Ballot) -> Option<Reply>
+        ensures { result ≡ ballot_refusal self.now.of self.now.learnt self.now.kept ballot }
     {
         if self.of.0 < self.learnt.number.0 {
-            return Some(Vote::Moved(self.learnt.copy()));
+            return Some(self.moved());
         }
         if !self.synced {
-            return Some(Vote::NotSynced);
+            return Some(Reply::NotSynced);
         }
         match self.outbidding(ballot) {
-            Some(greater) => Some(Vote::Outbid(greater)),
+            Some(greater) => Some(Reply::Outbid { ballot: greater }),
             None => None,
         }
     }
@@ -122,9 +151,10 @@ impl Acceptor {
     /// Promises to a ballot: it accepts nothing under a lesser one from then on. It tells the list that it accepted last.
     ///
     /// It refuses if it has learnt a later view, if its view is not synced, or if it has promised to a greater ballot, in this order. Nothing changes then.
-    pub fn prepare(&mut self, ballot: Ballot) -> Vote
-        ensures vote { result ≡ prepare_vote self.old ballot }
-        ensures kept { self.new ≡ after_prepare self.old ballot }
+    #[tactic(auto, unfolding(protocol::specs::Ballots::voting))]
+    pub fn prepare(&mut self, ballot: Ballot) -> Reply
+        ensures vote { result ≡ (vote_of self.old ballot None).reply }
+        ensures kept { self.new ≡ after_vote self.old ballot None }
         ensures never_falls { NeverFalls self.old.kept self.new.kept }
         ensures truly { PromisesTruly result self.old.kept ballot self.new.kept }
     {
@@ -133,7 +163,9 @@ impl Acceptor {
             None => {
                 let accepted = self.accepted();
                 self.kept = Some((ballot, copy_accepted(&accepted)));
-                Vote::Promise(accepted)
+                Reply::Promise {
+                    accepted: choice_of(&accepted),
+                }
             }
         }
     }
@@ -141,9 +173,10 @@ impl Acceptor {
     /// Accepts a list of members under a ballot, to which it promises too.
     ///
     /// It refuses as a promise does. Nothing changes then.
-    pub fn accept(&mut self, ballot: Ballot, members: Members) -> Vote
-        ensures vote { result ≡ accept_vote self.old ballot }
-        ensures kept { self.new ≡ after_accept self.old ballot members }
+    #[tactic(auto, unfolding(protocol::specs::Ballots::voting))]
+    pub fn accept(&mut self, ballot: Ballot, members: Members) -> Reply
+        ensures vote { result ≡ (vote_of self.old ballot (Some members)).reply }
+        ensures kept { self.new ≡ after_vote self.old ballot (Some members) }
         ensures never_falls { NeverFalls self.old.kept self.new.kept }
         ensures truly { AcceptsTruly result self.old.kept ballot members self.new.kept }
     {
@@ -151,7 +184,7 @@ impl Acceptor {
             Some(refused) => refused,
             None => {
                 self.kept = Some((ballot, Some((ballot, members))));
-                Vote::Accepted
+                Reply::Accepted
             }
         }
     }

@@ -5,7 +5,7 @@ ghost use Rattle.protocol.specs.Coordinators.{call_same};
 
 use crate::answers::{ViewAnswer, ViewNext};
 use crate::choices::{greatest_choice, refused_by};
-use crate::lists::is_list;
+use crate::lists::is_membership;
 use crate::proposals::{Proposal, has_seat};
 use fab_base::{BrickId, Members, NoMem, ViewNo};
 use messages::{Call, Choice, Lineage, Message, Messages, Reply};
@@ -23,9 +23,9 @@ impl Proposal {
     ghost use Rattle.std.specs.Prelude.{◌≡◌, ◌<◌, ◌≤◌, [], not, nat_lt, true, None, Some, IfSome, IfOk, OnOk, OnErr, length, vec_capacity};
     ghost use Rattle.fab_base.specs.Layouts.{seat_in};
     ghost use Rattle.synod_laws.specs.Synods.{value_or};
-    ghost use Rattle.view_synod.specs.Lists.{is_list};
+    ghost use Rattle.quorum.specs.Memberships.{is_membership};
     ghost use Rattle.view_synod.specs.Evidence.{HasEvidence};
-    ghost use Rattle.view_synod.specs.Proposals.{ballot_quorum, may_be_choice, may_be_lineage, answers_ballot, seat_voting, with_vote, asking, greatest_choice, decided};
+    ghost use Rattle.protocol.specs.Proposals.{ballot_quorum, may_be_choice, may_be_lineage, answers_ballot, seat_voting, with_voice, asking, greatest_choice, ballot_decided};
     ghost use Rattle.view_synod.specs.Proposers.{IsUnderWay, with_state, voting_on, left, GoesOn, Decides};
 
     /// The seat of a brick among the members of the view, the first if there are several. None where it is no member.
@@ -42,9 +42,9 @@ impl Proposal {
 
     /// Whether these members may keep the group.
     fn may_keep(&self, members: &Members) -> bool
-        ensures { result ≡ is_list self.now.state.m self.now.bricks members.now }
+        ensures { result ≡ is_membership self.now.state.m self.now.bricks members.now }
     {
-        is_list(self.policy.m(), self.bricks, members.as_slice())
+        is_membership(self.policy.m(), self.bricks, members.as_slice())
     }
 
     /// Whether the list that a promise tells, if it tells one, may keep the group.
@@ -81,7 +81,7 @@ impl Proposal {
     }
 
     /// The seat at which a brick's reply counts: it is to this very phase, answers it, and is its seat's first.
-    #[tactic(auto, unfolding(crate::specs::Proposals::seat_voting))]
+    #[tactic(auto, unfolding(protocol::specs::Proposals::seat_voting))]
     pub(crate) fn seat_to_count(&self, from: BrickId, call: Call, reply: &Reply) -> Option<u8>
         ensures { result ≡ seat_voting self.now.bricks self.now.state from.0 call reply.now }
     {
@@ -97,8 +97,8 @@ impl Proposal {
 
     /// Counts a reply at a seat, where it counts. Where memory runs out nothing has changed.
     fn count(&mut self, alloc: Global, seat: u8, from: BrickId, reply: &Reply) -> Result<(), NoMem>
-        requires { IsUnderWay self.old.bricks (with_vote self.old.state seat from reply.now) }
-        ensures counted { OnOk result (self.new ≡ with_state self.old (with_vote self.old.state seat from reply.now)) }
+        requires { IsUnderWay self.old.bricks (with_voice self.old.state seat from reply.now) }
+        ensures counted { OnOk result (self.new ≡ with_state self.old (with_voice self.old.state seat from reply.now)) }
         ensures err { OnErr result (self.new ≡ self.old) }
     {
         self.counted.push(Counted {
@@ -119,7 +119,7 @@ impl Proposal {
     /// The list to ask for once a quorum has promised: that of the greatest ballot that the promises tell, or the proposal's own if they tell none.
     fn chosen(&self) -> Members
         ensures value { result ≡ value_or self.now.state.own (greatest_choice self.now.state.counted) }
-        ensures may_keep { is_list self.now.state.m self.now.bricks result ≡ true }
+        ensures may_keep { is_membership self.now.state.m self.now.bricks result ≡ true }
     {
         match greatest_choice(self.counted.as_slice()) {
             Some((_, members)) => members,
@@ -139,11 +139,11 @@ impl Proposal {
     }
 
     /// What a quorum of replies decides. There is room for the messages of a phase.
-    #[tactic(auto, unfolding(crate::specs::Proposals::decided))]
+    #[tactic(auto, unfolding(protocol::specs::Proposals::ballot_decided))]
     fn decide(&mut self, room: Messages) -> ViewNext
         requires empty { room.items ≡ [] }
         requires room { length self.old.state.view.members ≤ vec_capacity room }
-        ensures { Decides self.old (decided self.old.state) result (left result self.new) }
+        ensures { Decides self.old (ballot_decided self.old.state) result (left result self.new) }
     {
         if let Some(answer) = refused_by(self.counted.as_slice()) {
             return ViewNext::End(answer);

@@ -2,7 +2,8 @@
 
 ghost use Rattle.std.specs.Prelude.{◌≡◌, nat_lt};
 ghost use Rattle.std.specs.List.{list_all};
-ghost use Rattle.view_synod.specs.Lists.{stands_in, are_distinct, is_list, ListsHaveQuorums};
+ghost use Rattle.quorum.specs.Memberships.{stands_in, are_distinct, is_membership};
+ghost use Rattle.view_synod.specs.Lists.{ListsHaveQuorums};
 
 use fab_base::BrickId;
 
@@ -33,9 +34,9 @@ fn are_of_disk(bricks: u16, members: &[BrickId]) -> bool
 }
 
 /// Whether these members may keep a group of `m` data blocks on a disk of `bricks` bricks: `m` to 32 distinct bricks, each of them the disk's.
-#[tactic(auto, unfolding(crate::specs::Lists::is_list))]
-pub fn is_list(m: u8, bricks: u16, members: &[BrickId]) -> bool
-    ensures { result ≡ is_list m bricks members.now }
+#[tactic(auto, unfolding(quorum::specs::Memberships::is_membership))]
+pub fn is_membership(m: u8, bricks: u16, members: &[BrickId]) -> bool
+    ensures { result ≡ is_membership m bricks members.now }
 {
     if members.len() < usize::from(m) || members.len() > 32 {
         return false;

@@ -1,10 +1,10 @@
 //! The proposer of a view's successor.
 
 ghost use Rattle.std.specs.Prelude.{◌≡◌, if◌then◌else◌, Some, None, true, IfOk, IfSome};
-ghost use Rattle.view_synod.specs.Lists.{is_list};
+ghost use Rattle.quorum.specs.Memberships.{is_membership};
 
 use crate::answers::{ViewAnswer, ViewNext};
-use crate::lists::is_list;
+use crate::lists::is_membership;
 use crate::proposals::Proposal;
 use fab_base::{Ballot, BrickId, CallId, GroupId, Members, NoMem, View};
 use messages::Message;
@@ -32,10 +32,10 @@ impl Model for Proposer {
 /// These members, where they may keep a group of `m` data blocks on a disk of `bricks` bricks.
 #[tactic(auto, using(crate::proofs::ShortLists::list_is_short))]
 fn list_of(m: u8, bricks: u16, members: &[BrickId]) -> Option<Members>
-    ensures value { result ≡ (if is_list m bricks members.now then Some members.now else None) }
-    ensures may_keep { IfSome result (λ list. is_list m bricks list ≡ true) }
+    ensures value { result ≡ (if is_membership m bricks members.now then Some members.now else None) }
+    ensures may_keep { IfSome result (λ list. is_membership m bricks list ≡ true) }
 {
-    if !is_list(m, bricks, members) {
+    if !is_membership(m, bricks, members) {
         return None;
     }
     Members::new(members)

@@ -1,7 +1,7 @@
 //! The rounds of a brick's ballots.
 
 use crate::answers::ViewNext;
-use crate::lists::is_list;
+use crate::lists::is_membership;
 use crate::proposers::Proposer;
 use fab_base::{Ballot, BrickId, CallId, GroupId, NoMem, View};
 use messages::{Message, Reply};
@@ -25,9 +25,9 @@ impl Model for Rounds {
 impl Rounds {
     ghost use Rattle.std.specs.Prelude.{◌≡◌, ◌-◌, ◌<◌, ◌^◌, nat_lt, not, IfOk, OnOk, OnErr, length};
     ghost use Rattle.quorum.specs.Quorums.{IsWithinLimits};
-    ghost use Rattle.view_synod.specs.Lists.{is_list};
+    ghost use Rattle.quorum.specs.Memberships.{is_membership};
     ghost use Rattle.view_synod.specs.Proposers.{started, StartsAs};
-    ghost use Rattle.view_synod.specs.Rounds.{round_heard, next_ballot, round_used};
+    ghost use Rattle.protocol.specs.Proposals.{round_heard, next_ballot, round_used};
 
     /// The rounds of a brick that was just started: it has used and heard of none.
     pub fn new() -> Rounds
@@ -74,7 +74,7 @@ impl Rounds {
         requires limits { IsWithinLimits m (length view.members) }
         requires number { view.number.0 < 2 ^ 32 - 1 }
         ensures starts { IfOk result (λ begun. StartsAs (started bricks m group view call (next_ballot self.old me call) members.now) begun.1 begun.0) }
-        ensures used { OnOk result (self.new ≡ round_used self.old (is_list m bricks members.now)) }
+        ensures used { OnOk result (self.new ≡ round_used self.old (is_membership m bricks members.now)) }
         ensures err { OnErr result (self.new ≡ self.old) }
     {
         let round = self.greatest + 1;
@@ -84,7 +84,7 @@ impl Rounds {
             boot: call.boot,
         };
         let begun = Proposer::start(alloc, bricks, m, group, view, call, ballot, members)?;
-        if is_list(m, bricks, members) {
+        if is_membership(m, bricks, members) {
             self.greatest = round;
         }
         Ok(begun)

@@ -1,6 +1,6 @@
 -- What is left decides.
 use Rattle.std.proofs.Common.{◌≡◌, drop}
-use Rattle.view_synod.specs.Lists.{are_distinct}
+use Rattle.quorum.specs.Memberships.{are_distinct}
 use Rattle.view_synod.proofs.lists.are_distinct.Given as goal
 
 abbrev pub invariant-loop-seat : goal.invariant-loop-seat
