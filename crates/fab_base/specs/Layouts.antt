@@ -2,6 +2,7 @@
 use Rattle.std.specs.Prelude.{ℕ, ◌+◌, nat_eq, if◌then◌else◌, List, [], ◌∷◌, Option, Some, None, slice_get, slice_index_or}
 use Rattle.std.specs.Option.{option_map}
 use Rattle.fab_base.specs.declared.identities.BrickId.{BrickId}
+use Rattle.fab_base.specs.declared.member_lists.View.{View}
 use Rattle.fab_base.specs.declared.segments.Segment.{Segment}
 
 -- a group: the members of its view 1, by seat; the data blocks of a stripe; and how many stripes
@@ -9,6 +10,10 @@ pub record Group : Type 0 where
   pub members : List BrickId
   pub m : ℕ
   pub stripes : ℕ
+
+-- view 1 of a group of these members: none were before them
+abbrev pub first_view : List BrickId → View
+first_view members = record { number = record { 0 = 1 }; members = members; prior = [] }
 
 -- a volume: its name in ASCII, and the runs of stripes that its bytes stand in, in order
 pub record Volume : Type 0 where

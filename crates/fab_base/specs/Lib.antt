@@ -1,3 +1,5 @@
 pub mod Stamps
 pub mod Layouts
 pub mod Faults
+pub mod Asks
+pub mod Texts

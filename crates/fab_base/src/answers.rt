@@ -1,6 +1,7 @@
 //! What an operation is answered, and why one is not begun.
 
-ghost use Rattle.std.specs.Prelude.{◌≡◌, IfOk};
+ghost use Rattle.std.specs.Prelude.{◌≡◌, IfOk, string_bytes};
+ghost use Rattle.fab_base.specs.Texts.{cause_text, refusal_text};
 
 use crate::block_bytes::Bytes;
 use crate::faults::NoMem;
@@ -40,6 +41,23 @@ pub enum Cause {
     },
 }
 
+impl Cause {
+    /// The line that says it, with the line feed.
+    pub fn text(&self, alloc: Global) -> Result<String, NoMem>
+        ensures { IfOk result (λ text. string_bytes text ≡ cause_text self.now) }
+    {
+        Ok(match self {
+            Cause::Later { brick, stamp } => format!(in alloc; "later {brick} {stamp}\n")?,
+            Cause::Gone { brick } => format!(in alloc; "gone {brick}\n")?,
+            Cause::Full { brick, live } => format!(in alloc; "full {brick} {live}\n")?,
+            Cause::Moved { brick, view } => {
+                let view = view.0;
+                format!(in alloc; "moved {brick} {view}\n")?
+            }
+        })
+    }
+}
+
 /// The end of an operation.
 #[derive(Drop)]
 pub enum Answer {
@@ -51,19 +69,6 @@ pub enum Answer {
     Aborted(Cause),
 }
 
-impl Answer {
-    /// An equal value.
-    pub fn copy(&self, alloc: Global) -> Result<Answer, NoMem>
-        ensures { IfOk result (λ made. made ≡ self.now) }
-    {
-        match self {
-            Answer::Data(bytes) => Ok(Answer::Data(bytes.copy(alloc)?)),
-            Answer::Done => Ok(Answer::Done),
-            Answer::Aborted(cause) => Ok(Answer::Aborted(*cause)),
-        }
-    }
-}
-
 /// Why an operation is not begun. Nothing has changed then.
 #[derive(Clone, Copy, Debug, PartialEq, Eq)]
 pub enum Refusal {
@@ -71,6 +76,8 @@ pub enum Refusal {
     Down,
     /// There is no such group or stripe.
     NoStripe,
+    /// The bricks named are not distinct members of the view, or fewer than a quorum. Nothing asks for named bricks yet.
+    NoQuorum,
     /// There is no such data block.
     NoBlock,
     /// The bytes to write are not one block, or not m blocks.
@@ -79,4 +86,22 @@ pub enum Refusal {
     Busy,
     /// The brick has no later time, or no further call number.
     Spent,
+}
+
+impl Refusal {
+    /// The line that says it, with the line feed.
+    pub fn text(self, alloc: Global) -> Result<String, NoMem>
+        ensures { IfOk result (λ text. string_bytes text ≡ refusal_text self) }
+    {
+        let text = match self {
+            Refusal::Down => "refused down\n",
+            Refusal::NoStripe => "refused nostripe\n",
+            Refusal::NoQuorum => "refused noquorum\n",
+            Refusal::NoBlock => "refused noblock\n",
+            Refusal::Length => "refused length\n",
+            Refusal::Busy => "refused busy\n",
+            Refusal::Spent => "refused spent\n",
+        };
+        Ok(String::from_str(alloc, text)?)
+    }
 }

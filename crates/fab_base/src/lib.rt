@@ -8,19 +8,19 @@
 pub mod answers;
 pub mod asks;
 pub mod block_bytes;
+pub mod boxes;
 pub mod faults;
 pub mod identities;
 pub mod member_lists;
-pub mod notes;
 pub mod segments;
 pub mod stamps;
 
 pub use answers::{Answer, Cause, Refusal};
 pub use asks::{Ask, Op};
 pub use block_bytes::Bytes;
+pub use boxes::Boxed;
 pub use faults::{IoFault, NoMem};
 pub use identities::{BrickId, CallId, GroupId, StripeNo, ViewNo};
 pub use member_lists::{Members, View};
-pub use notes::Note;
 pub use segments::Segment;
 pub use stamps::{Ballot, Stamp};

@@ -1,6 +1,7 @@
 //! Lists of members, and views.
 
-ghost use Rattle.std.specs.Prelude.{◌≡◌, ◌<◌, ◌≤◌, ◌↔◌, length, IsSome, IfSome, slice_get};
+ghost use Rattle.std.specs.Prelude.{◌≡◌, ◌<◌, ◌≤◌, ◌↔◌, [], length, IsSome, IfSome};
+ghost use Rattle.fab_base.specs.Layouts.{first_view};
 
 use crate::identities::{BrickId, ViewNo};
 use std::marker::Model;
@@ -9,7 +10,7 @@ use std::marker::Model;
 #[derive(Drop)]
 pub struct Members {
     seats: [BrickId; 32],
-    count: usize,
+    count: u8,
 }
 
 impl Model for Members {
@@ -24,6 +25,16 @@ impl Model for Members {
 }
 
 impl Members {
+    /// No bricks.
+    pub fn none() -> Members
+        ensures { result ≡ [] }
+    {
+        Members {
+            seats: [BrickId(0); 32],
+            count: 0,
+        }
+    }
+
     /// These bricks, in this order. None exactly where there are more than 32.
     pub fn new(bricks: &[BrickId]) -> Option<Members>
         ensures room { IsSome result ↔ (length bricks.now ≤ 32) }
@@ -33,8 +44,8 @@ impl Members {
             return None;
         }
         let mut seats = [BrickId(0); 32];
-        let count = bricks.len();
-        seats[..count].copy_from_slice(bricks);
+        seats[..bricks.len()].copy_from_slice(bricks);
+        let count = bricks.len() as u8;
         Some(Members { seats, count })
     }
 
@@ -53,7 +64,7 @@ impl Members {
         ensures value { result.now ≡ self.now }
         ensures small { length result.now ≤ 32 }
     {
-        &self.seats[..self.count]
+        &self.seats[..usize::from(self.count)]
     }
 }
 
@@ -69,6 +80,17 @@ pub struct View {
 }
 
 impl View {
+    /// View 1 of a group of these members: none were before them.
+    pub fn first(members: Members) -> View
+        ensures { result ≡ first_view members }
+    {
+        View {
+            number: ViewNo(1),
+            members,
+            prior: Members::none(),
+        }
+    }
+
     /// An equal value.
     pub fn copy(&self) -> View
         ensures { result ≡ self.now }

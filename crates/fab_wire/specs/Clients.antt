@@ -3,7 +3,7 @@ use Rattle.std.proofs.Common.{◌≡◌, ℕ, ◌<◌, List, [], ◌∷◌, Opti
 use Rattle.fab_base.specs.declared.answers.Answer.TheVariants as answers
 use Rattle.fab_base.specs.declared.answers.Cause.TheVariants as causes
 use Rattle.fab_base.specs.declared.answers.Refusal.{Refusal}
-use Rattle.fab_base.specs.declared.answers.Refusal.TheVariants.{Down, NoStripe, NoBlock, Length, Busy, Spent}
+use Rattle.fab_base.specs.declared.answers.Refusal.TheVariants.{Down, NoStripe, NoQuorum, NoBlock, Length, Busy, Spent}
 use Rattle.fab_base.specs.declared.identities.GroupId.{GroupId}
 use Rattle.fab_base.specs.declared.identities.StripeNo.{StripeNo}
 use Rattle.messages.specs.declared.clients.ClientAnswer.{ClientAnswer}
@@ -47,7 +47,7 @@ pub data Status : Type 0 where
   Moved : Status
   Refuse : Refusal → Status
 
--- a brick that is down answers nothing: its number has no room in a byte
+-- A brick that is down answers nothing, and no client names bricks: the numbers of these two have no room in a byte.
 abbrev pub status_number : Status → ℕ
 status_number Data = 0
 status_number Done = 1
@@ -61,6 +61,7 @@ status_number (Refuse Length) = 18
 status_number (Refuse Busy) = 19
 status_number (Refuse Spent) = 20
 status_number (Refuse Down) = 256
+status_number (Refuse NoQuorum) = 257
 
 abbrev pub status_value : ℕ → Option Status
 status_value = find status_number (Data ∷ Done ∷ Later ∷ Gone ∷ Full ∷ Moved
@@ -101,6 +102,7 @@ answer_union = record { back = answer_back; forth = answer_forth }
 -- the number of a status that has room is its own
 status_known : (status : Status) → status_number status < 256 → status_value (status_number status) ≡ Some status
 status_known (Refuse Down) lt = absurd (omega (arith, lt))
+status_known (Refuse NoQuorum) lt = absurd (omega (arith, lt))
 status_known status lt = refl
 
 pub status_stands : Stands 1 (λ (status : Status). exactly (status_number status)) status_value
@@ -110,6 +112,7 @@ status_stands = exact_stands status_number status_value status_known refl Done (
 abbrev pub AnswerFits : ClientAnswer → Type 0
 AnswerFits (Ended (answers.Data bytes)) = ContentFits bytes
 AnswerFits (Refused Down) = ⊥
+AnswerFits (Refused NoQuorum) = ⊥
 AnswerFits answer = Unit {0}
 
 abbrev pub answer_fields : Codec ClientAnswer
@@ -118,6 +121,7 @@ answer_fields = one_of status_stands answer_union
 pub answer_within : (answer : ClientAnswer) → AllFit (answer_fields.parts answer) → AnswerFits answer
 answer_within (Ended (answers.Data bytes)) fits = answer_fields.within (Ended (answers.Data bytes)) fits
 answer_within (Refused Down) fits = absurd (omega (arith, fits.0.0))
+answer_within (Refused NoQuorum) fits = absurd (omega (arith, fits.0.0))
 answer_within answer fits = tt
 
 abbrev pub answer_codec : Codec ClientAnswer

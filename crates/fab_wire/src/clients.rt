@@ -58,7 +58,7 @@ pub fn put_answer(out: &mut Vec<u8>, answer: &ClientAnswer) -> Result<(), NoMem>
         ClientAnswer::Refused(Refusal::Length) => 18u8.put(out),
         ClientAnswer::Refused(Refusal::Busy) => 19u8.put(out),
         ClientAnswer::Refused(Refusal::Spent) => 20u8.put(out),
-        ClientAnswer::Refused(Refusal::Down) => unreachable!(),
+        ClientAnswer::Refused(Refusal::Down | Refusal::NoQuorum) => unreachable!(),
     }
 }
 

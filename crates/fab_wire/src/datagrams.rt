@@ -12,7 +12,7 @@ ghost use Rattle.fab_wire.specs.Spelling.{HasSpelling, fields_of, message_codec,
 use crate::clients::{put_answer, put_client, take_answer, take_client};
 use crate::phases::{put_reply, put_request, take_reply, take_request};
 use crate::values::{CallField, take_call};
-use fab_base::{Ballot, Bytes, NoMem, Stamp};
+use fab_base::{Ballot, Boxed, Bytes, NoMem, Stamp};
 use fields::{Field, ReadFault, Reader, take_fields};
 use messages::{Call, Message};
 use std::alloc::Global;
@@ -40,7 +40,8 @@ pub enum WireFault {
 }
 
 /// The one spelling of a message. Asks that it has one: a list of members has at least one, a block at most 4,096 bytes, a
-/// client's bytes are at most 32,768, a seat is below 32, a data block below 16, and `Refusal::Down` is not sent.
+/// client's bytes are at most 32,768, a seat is below 32, a data block below 16, and neither
+/// `Refusal::Down` nor `Refusal::NoQuorum` is sent.
 #[tactic(auto, using(fields::proofs::Writings::joined), unfolding(crate::specs::Spelling::message_fields))]
 pub fn encode(alloc: Global, message: &Message) -> Result<Bytes, NoMem>
     requires { HasSpelling message.now }
@@ -111,7 +112,7 @@ fn put_body(out: &mut Vec<u8>, message: &Message) -> Result<(), NoMem>
         Message::Reply(call, reply) => { put_reply(out, CallField(*call), reply) }
         Message::Learn { group, view } => {
             (10u8, *group).put(out)?;
-            view.put(out)
+            view.get().put(out)
         }
         Message::Synced { group, view } => (11u8, (*group, *view)).put(out),
         Message::Client(ask) => {
@@ -154,7 +155,13 @@ fn take_body(alloc: Global, from: &mut Reader<'_>) -> Result<Message, ReadFault>
     Ok(match number {
         1..=9 => { Message::Request(take_call(from)?, take_request(alloc, from, number)?) }
         32..=45 => Message::Reply(take_call(from)?, take_reply(alloc, from, number)?),
-        10 => take_fields!(from; Message::Learn { group, view }),
+        10 => {
+            let (group, view) = from.take()?;
+            Message::Learn {
+                group,
+                view: Boxed::new(alloc, view)?,
+            }
+        }
         11 => take_fields!(from; Message::Synced { group, view }),
         64 => Message::Client(take_client(alloc, from)?),
         65 => Message::ClientReply {

@@ -14,7 +14,7 @@ ghost use Rattle.fab_wire.specs.Values.{call_codec};
 use crate::values::{
     CallField, put_look, put_version, put_want, take_data_block, take_look, take_version, take_want,
 };
-use fab_base::{Ballot, Bytes, Members, NoMem, Stamp, ViewNo};
+use fab_base::{Ballot, Boxed, Bytes, Members, NoMem, Stamp, ViewNo};
 use fields::{Field, ReadFault, Reader, put_block, take_block, take_fields};
 use messages::{Choice, Lineage, Reply, Request};
 use std::alloc::Global;
@@ -126,9 +126,10 @@ pub fn put_reply(out: &mut Vec<u8>, call: CallField, reply: &Reply) -> Result<()
         Reply::Later { stamp } => (37u8, (call, *stamp)).put(out),
         Reply::Full { live } => (38u8, (call, *live)).put(out),
         Reply::Moved { view, lineage } => {
-            let known = lineage
-                .as_ref()
-                .map(|known| (known.members.copy(), known.prior.copy()));
+            let known = lineage.as_ref().map(|known| (
+                known.get().members.copy(),
+                known.get().prior.copy(),
+            ));
             (39u8, (call, (*view, known))).put(out)
         }
         Reply::Old { found } => {
@@ -167,7 +168,9 @@ pub fn take_reply(alloc: Global, from: &mut Reader<'_>, number: u8) -> Result<Re
         38 => take_fields!(from; Reply::Full { live }),
         39 => {
             let (view, known): (ViewNo, Option<(Members, Members)>) = from.take()?;
-            let lineage = known.map(|(members, prior)| Lineage { members, prior });
+            let lineage = known
+                .map(|(members, prior)| Boxed::new(alloc, Lineage { members, prior }))
+                .transpose()?;
             Reply::Moved { view, lineage }
         }
         40 => Reply::Old {

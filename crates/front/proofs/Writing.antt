@@ -10,7 +10,8 @@ use Rattle.layout.specs.Limits.{IsLayout}
 use Rattle.layout.specs.Places.{place_of, blocks_of}
 use Rattle.front.specs.declared.pieces.StripePart.{StripePart}
 use Rattle.front.specs.Pieces.{Wish, Part, is_whole, piece_of, piece_at, op_of, cut_of, part_of, parts_from, wish_of}
-use Rattle.front.specs.Blocks.{bytes_by, WritesAll}
+use Rattle.fab_base.specs.Asks.{bytes_by}
+use Rattle.front.specs.Blocks.{WritesAll}
 use Rattle.front.proofs.StripeRuns.{in_volume}
 use Rattle.front.proofs.Covering.{behind_fits, all_placed, all_whole}
 

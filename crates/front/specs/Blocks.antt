@@ -6,6 +6,7 @@ use Rattle.fab_base.specs.declared.asks.Op.{Op}
 use Rattle.fab_base.specs.declared.asks.Op.TheVariants.{ReadBlock, WriteBlock, ReadStripe, WriteStripe}
 use Rattle.fab_base.specs.declared.identities.GroupId.{GroupId}
 use Rattle.fab_base.specs.declared.identities.StripeNo.{StripeNo}
+use Rattle.fab_base.specs.Asks.{bytes_by}
 use Rattle.fab_base.specs.Layouts.{Layout, group_of}
 use Rattle.layout.specs.declared.places.Place.{Place}
 use Rattle.layout.specs.Places.{place_of, blocks_of}
@@ -43,13 +44,6 @@ AsksEach layout volume byte length content =
     halt_of layout volume byte length ≡ None
     → map Some (flat_map (blocks_in layout) (asks_of layout volume byte length content))
     ≡ places_at layout volume (byte / layout.block) (length / layout.block)
-
--- the bytes that an operation writes
-abbrev pub bytes_by : Op → List ℕ
-bytes_by (ReadBlock j) = []
-bytes_by (WriteBlock j bytes) = bytes
-bytes_by ReadStripe = []
-bytes_by (WriteStripe bytes) = bytes
 
 -- The operations of a write that nothing halts write its bytes, in their order.
 abbrev pub WritesAll : Layout → List ℕ → ℕ → List ℕ → Type 0

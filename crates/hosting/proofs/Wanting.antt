@@ -16,7 +16,7 @@ use Rattle.front.specs.declared.steps.Halt.{Halt}
 use Rattle.front.specs.declared.steps.RangeAnswer.{RangeAnswer}
 use Rattle.front.specs.declared.steps.RangeStep.{RangeStep}
 use Rattle.front.specs.declared.steps.RangeStep.TheVariants as step
-use Rattle.front.specs.Blocks.{bytes_by}
+use Rattle.fab_base.specs.Asks.{bytes_by}
 use Rattle.front.specs.Pieces.{Wish, Part, is_whole, piece_of, piece_at, ask_of, part_of, parts_from, parts_of, wish_of}
 use Rattle.front.specs.Halts.{halt_of}
 use Rattle.front.specs.Ranges.{Progress, begun_by, begun, next_by, next_of, FitsOp, FitsFirst, FitsEnd, after_by, after_end}

@@ -2,35 +2,11 @@
 use Rattle.std.specs.Prelude.{ℕ, Bool, true, false, List, [], ◌∷◌, ◌++◌, codes}
 use Rattle.std.specs.Fmt.{decimal}
 use Rattle.hex.specs.Hex.{encode_lower}
-use Rattle.fab_base.specs.declared.answers.Cause.{Cause}
-use Rattle.fab_base.specs.declared.answers.Cause.TheVariants.{Later, Gone, Full, Moved}
-use Rattle.fab_base.specs.declared.answers.Refusal.{Refusal}
-use Rattle.fab_base.specs.declared.answers.Refusal.TheVariants.{Down, NoStripe, NoBlock, Length, Busy, Spent}
-use Rattle.fab_base.specs.Stamps.{stamp_text}
+use Rattle.fab_base.specs.Texts.{newline, cause_text, refusal_text}
 use Rattle.front.specs.declared.steps.RangeAnswer.{RangeAnswer}
 use Rattle.front.specs.declared.steps.RangeAnswer.TheVariants.{Done, Stopped, Unaligned, Beyond}
 use Rattle.front.specs.declared.steps.Why.{Why}
 use Rattle.front.specs.declared.steps.Why.TheVariants as why
-
--- the end of a line
-abbrev pub newline : List ℕ
-newline = 10 ∷ []
-
--- why an operation was aborted
-abbrev pub cause_text : Cause → List ℕ
-cause_text (Later brick stamp) = codes "later " ++ (decimal brick.0 ++ (codes " " ++ (stamp_text stamp ++ newline)))
-cause_text (Gone brick) = codes "gone " ++ (decimal brick.0 ++ newline)
-cause_text (Full brick live) = codes "full " ++ (decimal brick.0 ++ (codes " " ++ (decimal live ++ newline)))
-cause_text (Moved brick view) = codes "moved " ++ (decimal brick.0 ++ (codes " " ++ (decimal view.0 ++ newline)))
-
--- why an operation is not begun
-abbrev pub refusal_text : Refusal → List ℕ
-refusal_text Down = codes "refused down" ++ newline
-refusal_text NoStripe = codes "refused nostripe" ++ newline
-refusal_text NoBlock = codes "refused noblock" ++ newline
-refusal_text Length = codes "refused length" ++ newline
-refusal_text Busy = codes "refused busy" ++ newline
-refusal_text Spent = codes "refused spent" ++ newline
 
 -- why a range was stopped
 abbrev pub why_text : Why → List ℕ

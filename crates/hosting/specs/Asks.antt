@@ -9,35 +9,14 @@ use Rattle.fab_base.specs.declared.asks.Op.TheVariants.{ReadBlock, WriteBlock, R
 use Rattle.fab_io.specs.declared.links.Datagram.{Datagram}
 use Rattle.fab_wire.specs.Spelling.{Spells, fields_of}
 use Rattle.fields.specs.Parts.{spelled}
-use Rattle.front.specs.Blocks.{bytes_by}
 use Rattle.front.specs.Pieces.{Part}
 use Rattle.front.specs.Ranges.{Progress}
 use Rattle.messages.specs.declared.clients.ClientAnswer.{ClientAnswer}
 use Rattle.messages.specs.declared.clients.ClientAnswer.TheVariants.{Ended, Refused}
-use Rattle.messages.specs.declared.clients.ClientAsk.{ClientAsk}
-use Rattle.messages.specs.declared.clients.ClientOp.{ClientOp}
-use Rattle.messages.specs.declared.clients.ClientOp.TheVariants as client
+use Rattle.messages.specs.Clients.{client_ask}
 use Rattle.messages.specs.declared.packets.Message.TheVariants.{Client, ClientReply}
 use Rattle.hosting.specs.declared.replies.Wanted.{Wanted}
 use Rattle.hosting.specs.declared.replies.Wanted.TheVariants.{Bytes, Done}
-
--- what an operation does, and to which data block; an operation on a stripe names none
-abbrev pub kind_of : Op → ClientOp
-kind_of (ReadBlock j) = client.ReadBlock
-kind_of (WriteBlock j bytes) = client.WriteBlock
-kind_of ReadStripe = client.ReadStripe
-kind_of (WriteStripe bytes) = client.WriteStripe
-
-abbrev pub block_in : Op → ℕ
-block_in (ReadBlock j) = j
-block_in (WriteBlock j bytes) = j
-block_in ReadStripe = 0
-block_in (WriteStripe bytes) = 0
-
--- the invocation of this number for an operation
-abbrev pub client_ask : ℕ → Ask → ClientAsk
-client_ask id ask =
-    record { id = id; group = ask.group; stripe = ask.stripe; op = kind_of ask.op; block = block_in ask.op; bytes = bytes_by ask.op }
 
 -- the datagram that asks the brick of a port for an operation
 abbrev pub ask_datagram : ℕ → ℕ → Ask → Datagram

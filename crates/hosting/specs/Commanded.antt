@@ -9,7 +9,7 @@ use Rattle.fab_base.specs.declared.asks.Op.TheVariants.{ReadBlock, WriteBlock, R
 use Rattle.fab_base.specs.declared.asks.Ask.{Ask}
 use Rattle.fab_base.specs.Layouts.{Layout, group_of}
 use Rattle.fab_io.specs.declared.links.Datagram.{Datagram}
-use Rattle.front.specs.Blocks.{bytes_by}
+use Rattle.fab_base.specs.Asks.{bytes_by}
 use Rattle.front.specs.Pieces.{Part}
 use Rattle.front.specs.Ranges.{Progress, begun, next_of, after_end}
 use Rattle.front.specs.declared.steps.RangeStep.{RangeStep}

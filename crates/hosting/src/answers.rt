@@ -1,49 +1,19 @@
 //! The text of the answers to commands, a line each.
 
 ghost use Rattle.std.specs.Prelude.{◌≡◌, IfOk, string_bytes};
-ghost use Rattle.hosting.specs.Answers.{cause_text, refusal_text, why_text, data_text, done_text, answer_text, bad_line_text, unanswered_text};
+ghost use Rattle.hosting.specs.Answers.{why_text, data_text, done_text, answer_text, bad_line_text, unanswered_text};
 
-use fab_base::{Bytes, Cause, NoMem, Refusal};
+use fab_base::{Bytes, NoMem};
 use front::{RangeAnswer, Why};
 use std::alloc::Global;
-
-/// Why an operation was aborted.
-fn cause_text(alloc: Global, cause: &Cause) -> Result<String, NoMem>
-    ensures { IfOk result (λ text. string_bytes text ≡ cause_text cause.now) }
-{
-    Ok(match cause {
-        Cause::Later { brick, stamp } => format!(in alloc; "later {brick} {stamp}\n")?,
-        Cause::Gone { brick } => format!(in alloc; "gone {brick}\n")?,
-        Cause::Full { brick, live } => format!(in alloc; "full {brick} {live}\n")?,
-        Cause::Moved { brick, view } => {
-            let view = view.0;
-            format!(in alloc; "moved {brick} {view}\n")?
-        }
-    })
-}
-
-/// Why an operation is not begun.
-fn refusal_text(alloc: Global, refusal: Refusal) -> Result<String, NoMem>
-    ensures { IfOk result (λ text. string_bytes text ≡ refusal_text refusal) }
-{
-    let text = match refusal {
-        Refusal::Down => "refused down\n",
-        Refusal::NoStripe => "refused nostripe\n",
-        Refusal::NoBlock => "refused noblock\n",
-        Refusal::Length => "refused length\n",
-        Refusal::Busy => "refused busy\n",
-        Refusal::Spent => "refused spent\n",
-    };
-    Ok(String::from_str(alloc, text)?)
-}
 
 /// Why a range was stopped.
 fn why_text(alloc: Global, why: &Why) -> Result<String, NoMem>
     ensures { IfOk result (λ text. string_bytes text ≡ why_text why.now) }
 {
     match why {
-        Why::Cause(cause) => cause_text(alloc, cause),
-        Why::Refused(refusal) => refusal_text(alloc, *refusal),
+        Why::Cause(cause) => cause.text(alloc),
+        Why::Refused(refusal) => refusal.text(alloc),
     }
 }
 

@@ -4,10 +4,10 @@ ghost use Rattle.std.specs.Prelude.{◌≡◌, ◌+◌, ◌≤◌, ◌<◌, ◌^
 ghost use Rattle.fab_io.specs.Datagrams.{Stays, Grows};
 ghost use Rattle.fab_io.specs.Ends.{Kept};
 ghost use Rattle.fab_base.specs.Layouts.{group_of};
-ghost use Rattle.front.specs.Blocks.{bytes_by};
+ghost use Rattle.fab_base.specs.Asks.{bytes_by};
 ghost use Rattle.front.specs.Ranges.{next_of};
 ghost use Rattle.layout.specs.Places.{blocks_of};
-ghost use Rattle.hosting.specs.Asks.{kind_of, block_in, client_ask, ask_datagram, wanted_of};
+ghost use Rattle.hosting.specs.Asks.{ask_datagram, wanted_of};
 ghost use Rattle.hosting.specs.Commanded.{is_ascii, name_of, range_of, refused_by, opened, bytes_asked, IsRangeOf, Stands, sent_by, asks_by};
 ghost use Rattle.hosting.specs.Faults.{AtClientLink};
 
@@ -20,7 +20,7 @@ use fab_io::{IoFault, Link};
 use fab_wire::encode;
 use front::{Range, RangeAnswer, RangeStep};
 use layout::Layout;
-use messages::{ClientAsk, ClientOp, Message};
+use messages::{ClientAsk, Message};
 use std::alloc::Global;
 
 /// A client's end: its link, room for a datagram, and how many datagrams it sent.
@@ -103,53 +103,6 @@ pub(crate) fn open<'l>(
     }
 }
 
-/// What an operation does.
-fn kind_of(op: &Op) -> ClientOp
-    ensures { result ≡ kind_of op.now }
-{
-    match op {
-        Op::ReadBlock(_) => ClientOp::ReadBlock,
-        Op::WriteBlock(_, _) => ClientOp::WriteBlock,
-        Op::ReadStripe => ClientOp::ReadStripe,
-        Op::WriteStripe(_) => ClientOp::WriteStripe,
-    }
-}
-
-/// The data block that an operation names, 0 for one on a stripe.
-fn block_in(op: &Op) -> u8
-    ensures { result ≡ block_in op.now }
-{
-    match op {
-        Op::ReadBlock(block) | Op::WriteBlock(block, _) => *block,
-        Op::ReadStripe | Op::WriteStripe(_) => 0,
-    }
-}
-
-/// The bytes that an operation writes.
-fn bytes_by(alloc: Global, op: Op) -> Bytes
-    ensures { result ≡ bytes_by op }
-{
-    match op {
-        Op::WriteBlock(_, bytes) | Op::WriteStripe(bytes) => bytes,
-        Op::ReadBlock(_) | Op::ReadStripe => Bytes::empty(alloc),
-    }
-}
-
-/// The invocation of this number for an operation.
-fn client_ask(alloc: Global, id: u64, ask: Ask) -> ClientAsk
-    ensures { result ≡ client_ask id ask }
-{
-    let Ask { group, stripe, op } = ask;
-    ClientAsk {
-        id,
-        group,
-        stripe,
-        op: kind_of(&op),
-        block: block_in(&op),
-        bytes: bytes_by(alloc, op),
-    }
-}
-
 /// Asks the brick of a port for an operation.
 fn send<L: Link>(alloc: Global, link: &mut L, port: u16, id: u64, ask: Ask) -> Result<(), HostFault>
     requires { length (bytes_by ask.op) ≤ 32768 }
@@ -158,7 +111,7 @@ fn send<L: Link>(alloc: Global, link: &mut L, port: u16, id: u64, ask: Ask) -> R
     ensures only { IfErr result AtClientLink }
     ensures kept { Kept (L.faults link.old) (L.faults link.new) (L.sound link.old) (L.sound link.new) (result ≡ Err HostFault.ClientLink) }
 {
-    let message = Message::Client(client_ask(alloc, id, ask));
+    let message = Message::Client(ClientAsk::new(alloc, id, ask));
     let bytes = encode(alloc, &message)?;
     match link.send(port, bytes.as_slice()) {
         Ok(()) => Ok(()),

@@ -1,12 +1,13 @@
 -- What the checks accept is within the limits.
 use Rattle.std.proofs.Common.{◌≡◌, ℕ, ℤ, pos, negsuc, zero, suc, ◌*◌, ◌<◌, ◌≤◌, nat_eq, nat_lt, nat_le, Bool, true, false, not, ◌&&◌, cond, List, [], ◌∷◌, length, map, Option, Some, None, option_and_then, slice_get, Ok, Err, refl, ap, subst, sym, arith}
-use Rattle.std.specs.List.{IsDistinct, AllByRecursion}
+use Rattle.std.specs.List.{IsDistinct, AllByRecursion, list_all}
 use Rattle.std.specs.Option.{ok_or}
 use Rattle.std.proofs.lemmas.Bool.{and_parts, not-true}
 use Rattle.std.proofs.lemmas.Bool.Decides.{nat_tests}
 use Rattle.fab_base.specs.declared.identities.BrickId.{BrickId}
 use Rattle.fab_base.specs.Layouts.{Group, Layout}
 use Rattle.toml.specs.Data.{Data, Members, as_integer, get_member}
+use Rattle.quorum.specs.Memberships.{stands_in, are_distinct, is_membership}
 use Rattle.layout.specs.Names.{key_text}
 use Rattle.layout.specs.declared.faults.Key.TheVariants as keys
 use Rattle.layout.specs.declared.faults.Reader.{Reader}
@@ -15,7 +16,7 @@ use Rattle.layout.specs.declared.faults.LayoutFault.TheVariants.{Toml, Limit}
 use Rattle.layout.specs.declared.faults.FieldName.TheVariants.{OtherOfGroup}
 use Rattle.layout.specs.Limits.{IsGroup, IsLayout}
 use Rattle.layout.specs.Texts.{document_of, layout_or, layout_of}
-use Rattle.layout.specs.Checks.{no_field, integer_at, array_at, integers_in, tables_in, no_other, group_keys, port_in, number_at, blocks_in, blocks_at, brick_in, bricks_in, stands_in, are_distinct, seats_in, members_at, group_in, few_tables, tables_at, groups_in, layout_in}
+use Rattle.layout.specs.Checks.{no_field, integer_at, array_at, integers_in, tables_in, no_other, group_keys, port_in, number_at, blocks_in, blocks_at, brick_in, bricks_in, seats_in, members_at, group_in, few_tables, tables_at, groups_in, layout_in}
 use Rattle.layout.proofs.Parts.{parts_of}
 use Rattle.layout.proofs.Passing.{passed, there, within_range, or_both, taken}
 use Rattle.layout.proofs.AcceptedVolumes.{few_volume_tables, volumes_are}
@@ -80,24 +81,29 @@ record AreMembers (m bricks : ℕ) (members : List BrickId) : Type 0 where
   once : are_distinct members ≡ true
   below : AllByRecursion (λ (member : BrickId). member.0 < bricks) members
 
+-- a list that may keep a group meets it
+membership_are : (m bricks : ℕ) (members : List BrickId) → AllByRecursion (λ (member : BrickId). member.0 < bricks) members
+    → is_membership m bricks members ≡ true → AreMembers m bricks members
+unfolding is_membership
+membership_are m bricks members below is =
+    let parts = and_parts (nat_le m (length members) && nat_le (length members) 32) (are_distinct members && list_all (λ brick. nat_lt brick.0 bricks) members) is in
+    let sizes = and_parts (nat_le m (length members)) (nat_le (length members) 32) parts.0 in
+    let once = and_parts (are_distinct members) (list_all (λ brick. nat_lt brick.0 bricks) members) parts.1 in
+    record { enough = grind (arith, nat_tests, sizes); few = grind (arith, nat_tests, sizes); once = once.0; below = below }
+
 seats_are : (m bricks : ℕ) (members seats : List BrickId) → AllByRecursion (λ (member : BrickId). member.0 < bricks) members
-    → seats_in m members ≡ Some seats → AreMembers m bricks seats
-seats_are m bricks members seats below is = chosen ((nat_le m (length members) && nat_le (length members) 32) && are_distinct members) refl is
+    → seats_in m bricks members ≡ Some seats → AreMembers m bricks seats
+seats_are m bricks members seats below is = chosen (is_membership m bricks members) refl is
   where
-    chosen : (b : Bool) → ((nat_le m (length members) && nat_le (length members) 32) && are_distinct members) ≡ b
-        → cond b (Some members) None ≡ Some seats → AreMembers m bricks seats
+    chosen : (b : Bool) → is_membership m bricks members ≡ b → cond b (Some members) None ≡ Some seats → AreMembers m bricks seats
     chosen true all same =
         let e : Some members ≡ Some seats = same in
         let seats_are_all : members ≡ seats = cc in
-        let parts = and_parts (nat_le m (length members) && nat_le (length members) 32) (are_distinct members) all in
-        let sizes = and_parts (nat_le m (length members)) (nat_le (length members) 32) parts.0 in
-        let low : m ≤ length members = grind (arith, nat_tests, sizes) in
-        let high : length members ≤ 32 = grind (arith, nat_tests, sizes) in
-        subst (AreMembers m bricks) seats_are_all (record { enough = low; few = high; once = parts.1; below = below })
+        subst (AreMembers m bricks) seats_are_all (membership_are m bricks members below all)
     chosen false some same = let never : None ≡ Some seats = same in cc
 
 seated : (m bricks : ℕ) (numbers : List ℤ) (found : Option (List BrickId)) (members : List BrickId) → bricks_in bricks numbers ≡ found
-    → option_and_then (seats_in m) found ≡ Some members → AreMembers m bricks members
+    → option_and_then (seats_in m bricks) found ≡ Some members → AreMembers m bricks members
 seated m bricks numbers None members found_is is = let never : None ≡ Some members = is in cc
 seated m bricks numbers (Some all) members found_is is = seats_are m bricks all members (bricks_below bricks numbers all found_is) is
 
@@ -105,8 +111,8 @@ members_are : (m bricks : ℕ) (table : Members) (members : List BrickId) → me
 members_are m bricks table members is =
     let (numbers, read, rest) =
     passed (ok_or (option_and_then integers_in (array_at table keys.GroupMembers)) (no_field keys.GroupMembers))
-    (λ (numbers : List ℤ). ok_or (option_and_then (seats_in m) (bricks_in bricks numbers)) (Limit keys.GroupMembers)) members is in
-    seated m bricks numbers (bricks_in bricks numbers) members refl (there (option_and_then (seats_in m) (bricks_in bricks numbers))
+    (λ (numbers : List ℤ). ok_or (option_and_then (seats_in m bricks) (bricks_in bricks numbers)) (Limit keys.GroupMembers)) members is in
+    seated m bricks numbers (bricks_in bricks numbers) members refl (there (option_and_then (seats_in m bricks) (bricks_in bricks numbers))
     (Limit keys.GroupMembers) members rest)
 
 -- the number of data blocks is within its limits, and a stripe's data too

@@ -3,6 +3,7 @@ use Rattle.std.proofs.Common.{◌≡◌, ℕ, Bool, true, false, cond, codes, po
 use Rattle.std.specs.Str.{IsUtf8, is_utf8, chars}
 use lib.Utf8.{encode}
 use Rattle.std.proofs.lemmas.Str.{IsUtf8-from_is_utf8, is_utf8-from_IsUtf8}
+use Rattle.quorum.specs.Memberships.{is_membership}
 use Rattle.toml.specs.Data.{Members, no_members, member, no_items, item, integer, array, table}
 use Rattle.toml.specs.Parse.{parse_document}
 use Rattle.toml.proofs.OnLiterals.{toml_on_literals}
@@ -41,7 +42,7 @@ unfolding toml_on_literals three_copies-table
 three_copies-document = refl
 
 three_copies-checks : layout_in Program three_copies-table ≡ Ok three_copies
-unfolding three_copies-table
+unfolding three_copies-table is_membership
 three_copies-checks = refl
 
 -- what the text of three copies says

@@ -54,7 +54,7 @@ members_checks : (m bricks : ℕ) (table : Members) → ChecksTable (members_at 
 members_checks m bricks table =
     then_checks (ok_or (option_and_then integers_in (array_at table keys.GroupMembers)) (no_field keys.GroupMembers)) _
     (or_checks (option_and_then integers_in (array_at table keys.GroupMembers)) (no_field keys.GroupMembers) tt)
-    (λ (numbers : List ℤ). or_checks (option_and_then (seats_in m) (bricks_in bricks numbers)) (Limit keys.GroupMembers) tt)
+    (λ (numbers : List ℤ). or_checks (option_and_then (seats_in m bricks) (bricks_in bricks numbers)) (Limit keys.GroupMembers) tt)
 
 blocks_checks : (block : ℕ) (table : Members) → ChecksTable (blocks_at block table)
 blocks_checks block table =

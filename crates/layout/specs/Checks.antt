@@ -1,6 +1,6 @@
 -- The checks of a layout text over the table that it is as a TOML document, in their order: the first that fails gives the fault, and
 -- where none fails, the table says a layout.
-use Rattle.std.specs.Prelude.{ℕ, ℤ, pos, negsuc, ◌+◌, ◌*◌, nat_eq, nat_lt, nat_le, Bool, true, not, ◌&&◌, if◌then◌else◌, List, [], ◌∷◌, ◌++◌, length, slice_get, Option, Some, None, option_map, option_and_then, Result, Ok, Err}
+use Rattle.std.specs.Prelude.{ℕ, ℤ, pos, negsuc, ◌+◌, ◌*◌, nat_eq, nat_lt, nat_le, Bool, not, ◌&&◌, if◌then◌else◌, List, [], ◌∷◌, ◌++◌, length, slice_get, Option, Some, None, option_map, option_and_then, Result, Ok, Err}
 use Rattle.std.specs.List.{list_any}
 use Rattle.std.specs.Option.{ok_or}
 use Rattle.std.specs.Ordering.{nat_cmp, is_lt}
@@ -9,6 +9,7 @@ use Rattle.std.specs.Str.{bytes_eq}
 use Rattle.fab_base.specs.declared.identities.BrickId.{BrickId}
 use Rattle.fab_base.specs.declared.segments.Segment.{Segment}
 use Rattle.fab_base.specs.Layouts.{Group, Volume, Layout}
+use Rattle.quorum.specs.Memberships.{are_distinct, is_membership}
 use Rattle.toml.specs.Data.{Data, Items, no_items, item, Members, no_members, member, get_member, as_str, as_integer, as_array, as_table}
 use Rattle.layout.specs.declared.faults.Key.{Key}
 use Rattle.layout.specs.declared.faults.Key.TheVariants as keys
@@ -111,25 +112,15 @@ bricks_in bricks [] = Some []
 bricks_in bricks (z ∷ numbers) =
     option_and_then (λ brick. option_map (λ more. brick ∷ more) (bricks_in bricks numbers)) (brick_in bricks z)
 
--- the brick is one of these
-abbrev pub stands_in : List BrickId → BrickId → Bool
-stands_in members brick = list_any (λ member. nat_eq brick.0 member.0) members
-
--- no brick stands twice
-abbrev pub are_distinct : List BrickId → Bool
-are_distinct [] = true
-are_distinct (brick ∷ more) = not (stands_in more brick) && are_distinct more
-
--- the members, if there are m to 32 of them and none stands twice
-abbrev pub seats_in : ℕ → List BrickId → Option (List BrickId)
-seats_in m members =
-    if (nat_le m (length members) && nat_le (length members) 32) && are_distinct members then Some members else None
+-- the members, if they may keep a group of m data blocks
+abbrev pub seats_in : ℕ → ℕ → List BrickId → Option (List BrickId)
+seats_in m bricks members = if is_membership m bricks members then Some members else None
 
 -- a list of whole numbers, and then m to 32 distinct bricks of the disk
 abbrev pub members_at : ℕ → ℕ → Members → Result (List BrickId) LayoutFault
 members_at m bricks table = do
   numbers ← ok_or (option_and_then integers_in (array_at table keys.GroupMembers)) (no_field keys.GroupMembers)
-  ok_or (option_and_then (seats_in m) (bricks_in bricks numbers)) (Limit keys.GroupMembers)
+  ok_or (option_and_then (seats_in m bricks) (bricks_in bricks numbers)) (Limit keys.GroupMembers)
 
 -- ---- the form of stores, and spares
 

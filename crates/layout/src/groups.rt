@@ -1,10 +1,10 @@
 //! Groups.
 
 ghost use Rattle.std.specs.Prelude.{◌≡◌, ◌↔◌, ◌<◌, IsSome, IfSome, length};
-ghost use Rattle.fab_base.specs.Layouts.{seat_in};
+ghost use Rattle.fab_base.specs.Layouts.{seat_in, first_view};
 ghost use Rattle.quorum.specs.Quorums.{IsWithinLimits, quorum_of};
 
-use fab_base::{BrickId, Members};
+use fab_base::{BrickId, Members, View};
 use quorum::Policy;
 use std::marker::Model;
 
@@ -83,6 +83,16 @@ impl Group {
         // The call tells the proof the policy's limits, which `policy` promises.
         let _ = self.policy.m();
         self.policy
+    }
+
+    /// View 1, with the group's members.
+    pub fn first_view(&self) -> View
+        ensures view { result ≡ first_view self.now.members }
+        ensures limits { IsWithinLimits self.now.m (length self.now.members) }
+    {
+        // The call tells the proof the policy's limits.
+        let _ = self.policy.m();
+        View::first(self.members.copy())
     }
 
     /// How many data blocks a stripe has.

@@ -4,11 +4,12 @@ ghost use Rattle.std.specs.Prelude.{◌≡◌, ◌≢◌, ◌≤◌, Some, None,
 ghost use Rattle.toml.specs.Data.{get_member};
 ghost use Rattle.toml.specs.View.{view, array_view, table_view};
 ghost use Rattle.layout.specs.Names.{key_text};
-ghost use Rattle.layout.specs.Checks.{integer_at, array_at, brick_in, natural, within, number_at, port_at, least_other, keys_of, no_other, top_keys, group_keys, integers_in, bricks_in, stands_in, are_distinct, members_at, store_at, spares_in, spares_at, blocks_at, group_in, tables_in, tables_at, groups_in, is_known};
+ghost use Rattle.layout.specs.Checks.{integer_at, array_at, brick_in, natural, within, number_at, port_at, least_other, keys_of, no_other, top_keys, group_keys, integers_in, bricks_in, members_at, store_at, spares_in, spares_at, blocks_at, group_in, tables_in, tables_at, groups_in, is_known};
 
 use crate::faults::{FieldName, Key, KeyText, LayoutFault, Reader};
 use crate::groups::Group;
 use fab_base::{BrickId, Members, NoMem};
+use quorum::{are_distinct, is_membership};
 use std::alloc::Global;
 use toml::value::Array;
 use toml::{Table, Value};
@@ -154,26 +155,8 @@ fn bricks_in(alloc: Global, bricks: u16, numbers: &[i64]) -> Result<Option<Vec<B
     Ok(Some(members))
 }
 
-// Whether a brick is one of these.
-fn stands_in(members: &[BrickId], brick: BrickId) -> bool
-    ensures { result ≡ stands_in members.now brick }
-{
-    members.iter().any(|member| brick.0 == member.0)
-}
-
-// Whether no brick stands twice.
-fn are_distinct(members: &[BrickId]) -> bool
-    ensures { result ≡ are_distinct members.now }
-{
-    for (seat, member) in members.iter().enumerate() {
-        if stands_in(&members[seat + 1..], *member) {
-            return false;
-        }
-    }
-    true
-}
-
 // The members of a group: a list of whole numbers, and then m to 32 distinct bricks of the disk.
+#[tactic(auto, using(quorum::proofs::MembershipSizes::membership_is_short, quorum::proofs::MembershipSizes::membership_is_long))]
 fn members_at(alloc: Global, table: &Table, m: u8, bricks: u16) -> Result<Members, LayoutFault>
     ensures ok { IfOk result (λ members. members_at m bricks (table_view table.now) ≡ Ok members) }
     ensures err { IfErr result (λ fault. fault ≢ LayoutFault.NoMemory
@@ -190,7 +173,7 @@ fn members_at(alloc: Global, table: &Table, m: u8, bricks: u16) -> Result<Member
         return Err(limit(Key::GroupMembers));
     };
     let members = members.as_slice();
-    if members.len() < usize::from(m) || members.len() > 32 || !are_distinct(members) {
+    if !is_membership(m, bricks, members) {
         return Err(limit(Key::GroupMembers));
     }
     Members::new(members).ok_or(limit(Key::GroupMembers))

@@ -16,4 +16,4 @@ pub use clients::{ClientAnswer, ClientAsk, ClientOp};
 pub use packets::{Message, Packet};
 pub use replies::{Choice, Lineage, Reply};
 pub use requests::{Look, Request, Version, Want};
-pub use turns::{Messages, Next, Turn, copy_messages};
+pub use turns::{Messages, Next, Turn};

@@ -3,7 +3,7 @@
 ghost use Rattle.std.specs.Prelude.{◌≡◌, IfOk};
 
 use crate::requests::Version;
-use fab_base::{Ballot, Members, NoMem, Stamp, ViewNo};
+use fab_base::{Ballot, Boxed, Members, NoMem, Stamp, ViewNo};
 use std::alloc::Global;
 
 /// The members of a view, and those of the view before.
@@ -71,7 +71,7 @@ pub enum Reply {
     /// This later view was accepted here, or learnt with its members.
     Moved {
         view: ViewNo,
-        lineage: Option<Lineage>,
+        lineage: Option<Boxed<Lineage>>,
     },
     /// To an OldRead: the version that was found.
     Old {
@@ -113,7 +113,10 @@ impl Reply {
             Reply::Full { live } => Reply::Full { live: *live },
             Reply::Moved { view, lineage } => Reply::Moved {
                 view: *view,
-                lineage: lineage.as_ref().map(Lineage::copy),
+                lineage: lineage
+                    .as_ref()
+                    .map(|known| Boxed::new(alloc, known.get().copy()))
+                    .transpose()?,
             },
             Reply::Old { found } => Reply::Old {
                 found: found.as_ref().map(|held| held.copy(alloc)).transpose()?,

@@ -1,7 +1,6 @@
 -- The open operations of a brick, as the machine sees them.
 use Rattle.std.specs.Prelude.{◌≡◌}
-use Rattle.fab_base.specs.declared.member_lists.View.{View}
-use Rattle.fab_base.specs.Layouts.{Layout, Group}
+use Rattle.fab_base.specs.Layouts.{Layout}
 use Rattle.protocol.specs.Coordinators.{Coordinator}
 use Rattle.coord_phase.specs.Operations as phased
 use Rattle.node.specs.declared.operations.Operation.{Operation}
@@ -16,10 +15,6 @@ shown_of (Recovery op) = op
 -- the machine's coordinator of an operation
 abbrev pub coordinator_of : Operation → Coordinator
 coordinator_of op = (shown_of op).state
-
--- the first view of a group: the members that its layout names
-abbrev pub first_view : Group → View
-first_view group = record { number = record { 0 = 1 }; members = group.members; prior = group.members }
 
 -- the blocks of an operation are those of the layout
 abbrev pub IsOperationOf : Layout → Operation → Type 0

@@ -27,7 +27,6 @@ ghost use Rattle.node.specs.Running.{shape_at, state_of, IsKept, ImageShows, Kee
 
 use crate::faults::NodeFault;
 use crate::open_calls::OpenCalls;
-use crate::operations::first_view;
 use crate::outs::{Begun, Outs};
 use crate::sending::answer_messages;
 use brick_store::{BrickStore, OpenFault, State};
@@ -148,7 +147,7 @@ impl<D: Disk> Node<D> {
             Ok(group) => group,
             Err(refusal) => return Err(NodeFault::Refused(refusal)),
         };
-        let view = first_view(group);
+        let view = group.first_view();
         Ok(self.calls.begin(self.alloc, &self.layout, view, now, ask)?)
     }
 

@@ -1,9 +1,7 @@
 //! The open operations of a brick.
 
-ghost use Rattle.std.specs.Prelude.{◌≡◌, length};
-ghost use Rattle.quorum.specs.Quorums.{IsWithinLimits};
+ghost use Rattle.std.specs.Prelude.{◌≡◌};
 ghost use Rattle.coord_phase.specs.Operations.{with_state, without_last};
-ghost use Rattle.node.specs.Operations.{first_view};
 ghost use Rattle.node.specs.Decisions.{messages_in};
 
 use crate::outs::Outs;
@@ -12,26 +10,12 @@ use coord_block::BlockOp;
 use coord_phase::{News, Stage};
 use coord_recover::Recovery;
 use coord_stripe::StripeOp;
-use fab_base::{Answer, Ask, BrickId, CallId, NoMem, Op, Stamp, View, ViewNo};
+use fab_base::{Answer, Ask, BrickId, CallId, NoMem, Op, Stamp, View};
 use layout::{Group, Layout};
 use messages::{Call, Message, Messages, Next};
 use protocol::{Answered, Told};
 use stamp_store::StampSource;
 use std::alloc::Global;
-
-/// The first view of a group: the members that its layout names.
-pub(crate) fn first_view(group: &Group) -> View
-    ensures view { result ≡ first_view group.now }
-    ensures limits { IsWithinLimits group.now.m (length group.now.members) }
-{
-    // The policy tells that the members are as many as a quorum allows.
-    let _ = group.policy();
-    View {
-        number: ViewNo(1),
-        members: group.members().copy(),
-        prior: group.members().copy(),
-    }
-}
 
 /// The messages that are sent; none where nothing is.
 fn messages_in(alloc: Global, next: Next) -> Messages

@@ -9,7 +9,7 @@ use Rattle.std.proofs.lemmas.List.{take_at}
 use Rattle.lines.specs.Lines.{raw_lines, content}
 use Rattle.lines.specs.Reading.{IsWhole}
 use Rattle.lines.proofs.WholeLines.{whole_has, whole_first}
-use Rattle.world.specs.Texts.{newline}
+use Rattle.fab_base.specs.Texts.{newline}
 use Rattle.printed.proofs.Tokens.{is_clear, all_then, found_at}
 
 -- the text of lines, each with its line feed

@@ -30,7 +30,8 @@ use Rattle.transcript.specs.Forms.{begins, ends, read_of, write_of, read_all_of,
 use Rattle.transcript.specs.Marks.{op_of, mark_of}
 use Rattle.transcript.specs.Tokens.{behind}
 use Rattle.transcript.specs.Words.{or_else, stamp_of, later_of, gone_of, full_of, moved_of, cause_of, is_word}
-use Rattle.world.specs.Texts.{newline, place_text, op_text, cause_text, answer_text, mark_text}
+use Rattle.fab_base.specs.Texts.{newline, cause_text}
+use Rattle.world.specs.Texts.{place_text, op_text, answer_text, mark_text}
 use Rattle.printed.proofs.Tokens.{is_clear, bind_some, or_some, or_none, IsPiece, piece_both, piece_most, digits_piece, BeginsDigit, begins_digit, plain_back, before_back, behind_front, behind_other, hex_piece, hex_back}
 
 -- the mark as it is claimed

@@ -4,7 +4,7 @@ use Rattle.std.specs.Prelude.{⊤}
 use Rattle.std.specs.List.{list_all, slice_split}
 use Rattle.std.specs.Fmt.{decimal}
 use Rattle.fab_base.specs.declared.answers.Refusal.{Refusal}
-use Rattle.fab_base.specs.declared.answers.Refusal.TheVariants.{Down, NoStripe, NoBlock, Length, Busy, Spent}
+use Rattle.fab_base.specs.declared.answers.Refusal.TheVariants.{Down, NoStripe, NoQuorum, NoBlock, Length, Busy, Spent}
 use Rattle.reg_model.specs.declared.marks.Happening.{Happening}
 use Rattle.transcript.specs.declared.claims.Counts.{Counts}
 use Rattle.transcript.specs.declared.claims.Entry.{Entry}
@@ -12,7 +12,7 @@ use Rattle.transcript.specs.declared.claims.Entry.TheVariants.{Other, Happened, 
 use Rattle.transcript.specs.Forms.{happening_of, happenings_of_tokens, happenings_of, happened_of, count_behind, counts_of, mark_of_line, form, entry_of, most_line_bytes}
 use Rattle.transcript.specs.Tokens.{behind}
 use Rattle.transcript.specs.Words.{or_else, is_refusal, is_word}
-use Rattle.world.specs.Texts.{newline, refusal_text}
+use Rattle.fab_base.specs.Texts.{newline, refusal_text}
 use Rattle.printed.specs.Outputs.{happening_text, happenings_text, happened_text}
 use Rattle.printed.proofs.Tokens.{bind_some, or_some, or_none, IsPiece, piece_both, piece_most, all_both, digits_piece, digits_few, digits_no_space, plain_back, before_back, behind_front, split_first, split_alone}
 use Rattle.printed.proofs.MarkLines.{IsSmall, literal, entry_short}
@@ -21,6 +21,7 @@ use Rattle.printed.proofs.MarkLines.{IsSmall, literal, entry_short}
 abbrev pub refusal_line : Refusal → List ℕ
 refusal_line Down = codes "refused down"
 refusal_line NoStripe = codes "refused nostripe"
+refusal_line NoQuorum = codes "refused noquorum"
 refusal_line NoBlock = codes "refused noblock"
 refusal_line Length = codes "refused length"
 refusal_line Busy = codes "refused busy"
@@ -30,6 +31,7 @@ refusal_line Spent = codes "refused spent"
 pub refusal_ends : (refusal : Refusal) → refusal_text refusal ≡ refusal_line refusal ++ newline
 refusal_ends Down = refl
 refusal_ends NoStripe = refl
+refusal_ends NoQuorum = refl
 refusal_ends NoBlock = refl
 refusal_ends Length = refl
 refusal_ends Busy = refl
@@ -39,6 +41,7 @@ refusal_ends Spent = refl
 pub refusal_piece : (refusal : Refusal) → IsPiece 100 (refusal_line refusal)
 refusal_piece Down = literal 100 _ refl (omega arith)
 refusal_piece NoStripe = literal 100 _ refl (omega arith)
+refusal_piece NoQuorum = literal 100 _ refl (omega arith)
 refusal_piece NoBlock = literal 100 _ refl (omega arith)
 refusal_piece Length = literal 100 _ refl (omega arith)
 refusal_piece Busy = literal 100 _ refl (omega arith)
@@ -49,6 +52,7 @@ refusal_form : (refusal : Refusal) → form (refusal_line refusal) ≡ Some Othe
 unfolding form is_word is_refusal behind
 refusal_form Down = refl
 refusal_form NoStripe = refl
+refusal_form NoQuorum = refl
 refusal_form NoBlock = refl
 refusal_form Length = refl
 refusal_form Busy = refl

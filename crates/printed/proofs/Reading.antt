@@ -17,7 +17,7 @@ use Rattle.transcript.specs.Said.{Transcribed}
 use Rattle.transcript.specs.Forms.{entry_of}
 use Rattle.transcript.specs.Transcripts.{position_said, stripe_before, is_behind, after_entry, after_line, text_at_line, text_behind, most_lines}
 use Rattle.printed.specs.Printed.{Printed, OfMark, OfRefusal, OfNothing, printed_text, printed_texts, printed_marks}
-use Rattle.world.specs.Texts.{newline}
+use Rattle.fab_base.specs.Texts.{newline}
 use Rattle.printed.proofs.LineTexts.{text_of_lines, AreClear}
 use Rattle.printed.proofs.MarkLines.{IsSmall, claim_of, mark_line, mark_ends, mark_piece, mark_back, MarkReads}
 use Rattle.printed.proofs.OtherLines.{refusal_line, refusal_ends, refusal_piece, refusal_back, idle_back, AllRead, happened_line, happened_piece, happened_back, counts_line, counts_back, CountsRead}

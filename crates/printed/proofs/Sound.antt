@@ -31,7 +31,7 @@ use Rattle.audit.specs.declared.findings.Finding.TheVariants.{Sound}
 use Rattle.audit.specs.declared.examining.AuditResult.TheVariants.{Judged}
 use Rattle.audit.specs.Examining.{Examines}
 use Rattle.world.specs.Runs.{Step, all_events}
-use Rattle.world.specs.Texts.{newline}
+use Rattle.fab_base.specs.Texts.{newline}
 use Rattle.printed.specs.Outputs as out
 use Rattle.printed.specs.Outputs.{happened_text, stripes_text, stripes_of, groups_text, count_text, closing_text, left_by, steps_text}
 use Rattle.printed.specs.Printed.{printed_marks}

@@ -10,7 +10,8 @@ use Rattle.protocol.specs.Happenings.{happenings_of}
 use Rattle.stripe_code.specs.Codes.{coding}
 use Rattle.transcript.specs.Kinds.{is_begin, is_answered, is_aborted, is_crash}
 use Rattle.world.specs.Runs.{Step, all_events}
-use Rattle.world.specs.Texts.{step_text, newline}
+use Rattle.fab_base.specs.Texts.{newline}
+use Rattle.world.specs.Texts.{step_text}
 
 -- the most lines of a schedule
 abbrev pub most_lines : ℕ

@@ -6,7 +6,8 @@ use Rattle.reg_model.specs.declared.marks.Mark.{Mark}
 use Rattle.protocol.specs.Worlds.{first_world}
 use Rattle.stripe_code.specs.Codes.{coding}
 use Rattle.world.specs.Runs.{Step}
-use Rattle.world.specs.Texts.{mark_text, refusal_text, idle_text}
+use Rattle.fab_base.specs.Texts.{refusal_text}
+use Rattle.world.specs.Texts.{mark_text, idle_text}
 use Rattle.printed.specs.Outputs.{left_by, steps_text}
 
 -- a printed line: a mark, or why an operation was not begun, or that a line of the schedule found nothing to do

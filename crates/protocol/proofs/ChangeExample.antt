@@ -24,8 +24,8 @@ old_members = brick 0 ∷ (brick 1 ∷ (brick 2 ∷ []))
 abbrev new_members : List BrickId
 new_members = brick 1 ∷ (brick 2 ∷ (brick 3 ∷ []))
 
-abbrev first_view : View
-first_view = record { number = record { 0 = 1 }; members = old_members; prior = [] }
+abbrev view_one : View
+view_one = record { number = record { 0 = 1 }; members = old_members; prior = [] }
 
 abbrev next_view : View
 next_view = record { number = record { 0 = 2 }; members = new_members; prior = old_members }
@@ -36,7 +36,7 @@ ballot_of i = record { round = 1; brick = brick i; boot = 1 }
 
 -- brick 3 proposes
 abbrev begun : Proposal
-begun = begun_proposal 1 (record { 0 = 0 }) first_view (record { boot = 1; seq = 1 }) (ballot_of 3) new_members
+begun = begun_proposal 1 (record { 0 = 0 }) view_one (record { boot = 1; seq = 1 }) (ballot_of 3) new_members
 
 -- the promises of bricks 0 and 1 are a quorum, so it asks for its list; their acceptances decide it
 abbrev promised : Proposal
@@ -62,7 +62,7 @@ two_acceptances = refl
 
 -- what a member that knows a synced view answers: a promise, and to a lesser ballot after that the greater one
 abbrev known : Learnt
-known = record { view = first_view; synced = true }
+known = record { view = view_one; synced = true }
 
 promises : (voting 1 known None (ballot_of 3) None).reply ≡ Promise None
 unfolding voting

@@ -15,7 +15,7 @@ use Rattle.protocol.specs.Views.{Learnt}
 
 -- What a member says of a ballot, and what it keeps of ballots from then on: the greatest that it has promised to, and the list that it accepted last, with
 -- the ballot of that.
-pub record Vote : Type 0 where
+pub record Voted : Type 0 where
   pub reply : Reply
   pub kept : Kept (List BrickId)
 
@@ -46,15 +46,15 @@ ballot_refusal view learnt kept ballot =
 
 -- A member that does not refuse the ballot promises to it, and tells the list that it accepted last; or, if it is asked to accept a list, it promises and
 -- accepts that.
-abbrev pub granting : Kept (List BrickId) → Ballot → Option (List BrickId) → Vote
+abbrev pub granting : Kept (List BrickId) → Ballot → Option (List BrickId) → Voted
 granting kept ballot None = record { reply = Promise (option_map choice_of (last_of kept)); kept = Some (ballot, last_of kept) }
 granting kept ballot (Some members) = record { reply = Accepted; kept = Some (ballot, Some (ballot, members)) }
 
 -- a member that refuses keeps what it kept
-abbrev pub unless_barred : Option Reply → Kept (List BrickId) → Vote → Vote
+abbrev pub unless_barred : Option Reply → Kept (List BrickId) → Voted → Voted
 unless_barred None kept granted = granted
 unless_barred (Some refused) kept granted = record { reply = refused; kept = kept }
 
 -- A member's vote on a ballot for the successor of a view, by the number of that: on a Prepare, which names no list, or on an Accept of a list.
-unfoldable pub voting : ℕ → Learnt → Kept (List BrickId) → Ballot → Option (List BrickId) → Vote
+unfoldable pub voting : ℕ → Learnt → Kept (List BrickId) → Ballot → Option (List BrickId) → Voted
 voting view learnt kept ballot asks = unless_barred (ballot_refusal view learnt kept ballot) kept (granting kept ballot asks)

@@ -6,7 +6,7 @@ use Rattle.std.specs.Option.{option_map, unwrap_or}
 use Rattle.fab_base.specs.declared.identities.BrickId.{BrickId}
 use Rattle.fab_base.specs.declared.member_lists.View.{View}
 use Rattle.fab_base.specs.declared.stamps.Stamp.{Stamp}
-use Rattle.fab_base.specs.Layouts.{Layout, Group, group_of}
+use Rattle.fab_base.specs.Layouts.{Layout, Group, group_of, first_view}
 use Rattle.fab_base.specs.Stamps.{first_stamp}
 use Rattle.quorum.specs.Memberships.{is_membership}
 
@@ -38,7 +38,7 @@ pub record Learnt : Type 0 where
 -- what a brick has learnt of a group at first: view 1, with the layout's members and none before them
 abbrev pub first_learnt : Layout → ℕ → Learnt
 first_learnt layout group =
-    record { view = record { number = record { 0 = 1 }; members = members_of (group_of layout group); prior = [] }; synced = true }
+    record { view = first_view (members_of (group_of layout group)); synced = true }
 
 -- the view's members, and those before them, may keep a group of m data blocks on a disk of so many bricks
 abbrev pub is_view : ℕ → ℕ → View → Bool

@@ -5,11 +5,13 @@
 //! DSN 2004).
 #![tactic(auto)]
 
+pub mod memberships;
 pub mod policies;
 mod seat_lists;
 pub mod seats;
 pub mod tallies;
 
+pub use memberships::{are_distinct, is_membership, memberships_have_quorums};
 pub use policies::{Policy, quorums_meet};
 pub use seats::Seat;
 pub use tallies::Tally;

@@ -14,7 +14,7 @@ use Rattle.audit.specs.declared.findings.Finding.TheVariants.{Sound, BadMarks, B
 use Rattle.audit.specs.declared.examining.AuditResult.{AuditResult}
 use Rattle.audit.specs.declared.examining.AuditResult.TheVariants.{Judged, BadForm, TooMany}
 use Rattle.audit.specs.Examining.{EndsJudged}
-use Rattle.world.specs.Texts.{newline}
+use Rattle.fab_base.specs.Texts.{newline}
 use Rattle.replay.specs.declared.endings.RunResult.{RunResult}
 use Rattle.replay.specs.declared.endings.RunResult.TheVariants.{Whole, BadLayout, BadLine, TooManyLines, Refuted}
 use Rattle.replay.specs.declared.endings.Halt.{Halt}

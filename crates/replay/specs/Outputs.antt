@@ -13,7 +13,7 @@ use Rattle.layout.specs.Texts.{layout_of}
 use Rattle.world.specs.Runs.{Step}
 use Rattle.replay.specs.declared.endings.RunResult.{RunResult}
 use Rattle.replay.specs.declared.endings.RunResult.TheVariants.{Whole, BadLayout, BadLine, TooManyLines}
-use Rattle.world.specs.Texts.{newline}
+use Rattle.fab_base.specs.Texts.{newline}
 use Rattle.printed.specs.Outputs.{most_lines, closing_text, left_by, steps_text}
 use Rattle.replay.specs.Inputs.{Input, Parted, TooLong, Endless}
 

@@ -1,30 +1,15 @@
 -- What a datagram is to a brick.
 use Rattle.std.specs.Prelude.{◌≡◌, ◌⊎◌, ◌<◌, ◌^◌, ℕ, List, Option, Some, None}
-use Rattle.fab_base.specs.declared.asks.Ask.{Ask}
-use Rattle.fab_base.specs.declared.asks.Op.{Op}
-use Rattle.fab_base.specs.declared.asks.Op.TheVariants as op
 use Rattle.fab_base.specs.declared.identities.BrickId.{BrickId}
 use Rattle.fab_io.specs.declared.links.Datagram.{Datagram}
 use Rattle.fab_wire.specs.Spelling.{Spells}
-use Rattle.messages.specs.declared.clients.ClientAsk.{ClientAsk}
-use Rattle.messages.specs.declared.clients.ClientOp.{ClientOp}
-use Rattle.messages.specs.declared.clients.ClientOp.TheVariants as client
+use Rattle.messages.specs.Clients.{ask_of_client}
 use Rattle.messages.specs.declared.packets.Message.{Message}
 use Rattle.messages.specs.declared.packets.Message.TheVariants as message
 use Rattle.serving.specs.declared.incomings.Incoming.{Incoming}
 use Rattle.serving.specs.declared.incomings.Incoming.TheVariants.{Nothing, Malformed, Dropped, Handed, Asked}
 use Rattle.serving.specs.declared.ports.Ports.{Ports}
 use Rattle.serving.specs.Ports.{brick_at}
-
--- what a client asks for: a read has no use for bytes, and an operation on a stripe none for a block's number
-abbrev pub op_of : ClientOp → ℕ → List ℕ → Op
-op_of client.ReadBlock block bytes = op.ReadBlock block
-op_of client.WriteBlock block bytes = op.WriteBlock block bytes
-op_of client.ReadStripe block bytes = op.ReadStripe
-op_of client.WriteStripe block bytes = op.WriteStripe bytes
-
-abbrev pub ask_of : ClientAsk → Ask
-ask_of asked = record { group = asked.group; stripe = asked.stripe; op = op_of asked.op asked.block asked.bytes }
 
 -- a message of a brick for this one; of a port that is no brick's it is dropped
 abbrev pub handed : BrickId → Message → Option BrickId → Incoming
@@ -34,7 +19,7 @@ handed me message (Some from) = Handed (record { from = from; to = me; message =
 -- What a message that came from a port is to a brick: an invocation, from any port; or a message of the brick whose port it is. A client's
 -- answer is dropped.
 abbrev pub incoming_of : Ports → BrickId → ℕ → Message → Incoming
-incoming_of ports me port (message.Client asked) = Asked (record { id = asked.id; port = port }) (ask_of asked)
+incoming_of ports me port (message.Client asked) = Asked (record { id = asked.id; port = port }) (ask_of_client asked)
 incoming_of ports me port (message.ClientReply id answer) = Dropped
 incoming_of ports me port other = handed me other (brick_at ports port)
 

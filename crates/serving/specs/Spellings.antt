@@ -1,7 +1,7 @@
 -- Which messages have a spelling.
 use Rattle.std.specs.Prelude.{ℕ, Bool, true, false, not, nat_le, ◌==◌, ◌&&◌, List, length, Option, Some, None}
 use Rattle.fab_base.specs.declared.answers.Answer.TheVariants.{Data}
-use Rattle.fab_base.specs.declared.answers.Refusal.TheVariants.{Down}
+use Rattle.fab_base.specs.declared.answers.Refusal.TheVariants.{Down, NoQuorum}
 use Rattle.messages.specs.declared.clients.ClientAnswer.{ClientAnswer}
 use Rattle.messages.specs.declared.clients.ClientAnswer.TheVariants.{Ended, Refused}
 use Rattle.messages.specs.declared.packets.Message.{Message}
@@ -59,10 +59,11 @@ reply_fits reply = true
 abbrev pub answer_fits : ClientAnswer → Bool
 answer_fits (Ended (Data bytes)) = is_within 32768 bytes
 answer_fits (Refused Down) = false
+answer_fits (Refused NoQuorum) = false
 answer_fits answer = true
 
 -- A message has a spelling: a list of members has at least one, a block has at most 4,096 bytes, a client's bytes are at most
--- 32,768, a seat is below 32, a data block below 16, and a brick that is down says nothing.
+-- 32,768, a seat is below 32, a data block below 16, a brick that is down says nothing, and no client names bricks.
 unfoldable pub has_spelling : Message → Bool
 has_spelling (message.Request call request) = request_fits request
 has_spelling (message.Reply call reply) = reply_fits reply

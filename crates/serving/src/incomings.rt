@@ -2,13 +2,13 @@
 
 ghost use Rattle.std.specs.Prelude.{◌≡◌, ◌≤◌, Some, IfOk};
 ghost use Rattle.serving.specs.Turns.{malformed_count};
-ghost use Rattle.serving.specs.Incomings.{op_of, ask_of, handed, incoming_of, IsIncoming};
+ghost use Rattle.serving.specs.Incomings.{handed, incoming_of, IsIncoming};
 
 use crate::clients::Client;
 use crate::ports::Ports;
-use fab_base::{Ask, BrickId, Bytes, NoMem, Op};
+use fab_base::{Ask, BrickId, NoMem};
 use fab_wire::{WireFault, decode};
-use messages::{ClientAsk, ClientOp, Message, Packet};
+use messages::{Message, Packet};
 use std::alloc::Global;
 
 /// What came to a brick in a turn.
@@ -24,36 +24,6 @@ pub enum Incoming {
     Handed(Packet),
     /// A client's invocation.
     Asked(Client, Ask),
-}
-
-/// What a client asks for.
-fn op_of(op: ClientOp, block: u8, bytes: Bytes) -> Op
-    ensures { result ≡ op_of op block bytes }
-{
-    match op {
-        ClientOp::ReadBlock => Op::ReadBlock(block),
-        ClientOp::WriteBlock => Op::WriteBlock(block, bytes),
-        ClientOp::ReadStripe => Op::ReadStripe,
-        ClientOp::WriteStripe => Op::WriteStripe(bytes),
-    }
-}
-
-fn ask_of(asked: ClientAsk) -> Ask
-    ensures { result ≡ ask_of asked }
-{
-    let ClientAsk {
-        id: _,
-        group,
-        stripe,
-        op,
-        block,
-        bytes,
-    } = asked;
-    Ask {
-        group,
-        stripe,
-        op: op_of(op, block, bytes),
-    }
 }
 
 /// A message of the brick whose port it came from, for this one.
@@ -77,7 +47,7 @@ fn incoming_of(ports: Ports, me: BrickId, port: u16, message: Message) -> Incomi
     match message {
         Message::Client(asked) => {
             let client = Client { id: asked.id, port };
-            Incoming::Asked(client, ask_of(asked))
+            Incoming::Asked(client, asked.into_ask())
         }
         Message::ClientReply { .. } => Incoming::Dropped,
         other => handed(me, other, ports.brick_at(port)),

@@ -4,7 +4,7 @@ ghost use Rattle.std.specs.Prelude.{◌≡◌, true, false};
 ghost use Rattle.fab_wire.specs.Spelling.{HasSpelling};
 ghost use Rattle.serving.specs.Spellings.{has_some, is_seat, has_short_block, has_whole_lineage, has_whole_choice, request_fits, reply_fits, answer_fits, has_spelling};
 
-use fab_base::{Answer, Members, Refusal};
+use fab_base::{Answer, Boxed, Members, Refusal};
 use messages::{Choice, ClientAnswer, Lineage, Message, Reply, Request, Version, Want};
 
 /// The most bytes of a block.
@@ -14,7 +14,7 @@ const MOST_BLOCK: usize = 4096;
 const MOST_CONTENT: usize = 32768;
 
 /// Whether a message has a spelling: a list of members has at least one, a block at most 4,096 bytes, a client's bytes are at most
-/// 32,768, a seat is below 32, a data block below 16, and `Refusal::Down` is not sent.
+/// 32,768, a seat is below 32, a data block below 16, and neither `Refusal::Down` nor `Refusal::NoQuorum` is sent.
 #[tactic(auto, unfolding(crate::specs::Spellings::has_spelling))]
 pub fn has_spelling(message: &Message) -> bool
     ensures value { result ≡ has_spelling message.now }
@@ -24,7 +24,9 @@ pub fn has_spelling(message: &Message) -> bool
     match message {
         Message::Request(_, request) => request_fits(request),
         Message::Reply(_, reply) => reply_fits(reply),
-        Message::Learn { group: _, view } => has_some(&view.members) && has_some(&view.prior),
+        Message::Learn { group: _, view } => {
+            has_some(&view.get().members) && has_some(&view.get().prior)
+        }
         Message::Synced { group: _, view: _ } => true,
         Message::Client(ask) => ask.bytes.len() <= MOST_CONTENT,
         Message::ClientReply { id: _, answer } => answer_fits(answer),
@@ -55,12 +57,12 @@ fn has_short_block(found: &Option<Version>) -> bool
     }
 }
 
-fn has_whole_lineage(lineage: &Option<Lineage>) -> bool
+fn has_whole_lineage(lineage: &Option<Boxed<Lineage>>) -> bool
     ensures { result ≡ has_whole_lineage lineage.now }
 {
     match lineage {
         None => true,
-        Some(lineage) => has_some(&lineage.members) && has_some(&lineage.prior),
+        Some(lineage) => has_some(&lineage.get().members) && has_some(&lineage.get().prior),
     }
 }
 
@@ -123,7 +125,7 @@ fn answer_fits(answer: &ClientAnswer) -> bool
 {
     match answer {
         ClientAnswer::Ended(Answer::Data(bytes)) => bytes.len() <= MOST_CONTENT,
-        ClientAnswer::Refused(Refusal::Down) => false,
+        ClientAnswer::Refused(Refusal::Down | Refusal::NoQuorum) => false,
         ClientAnswer::Ended(_) | ClientAnswer::Refused(_) => true,
     }
 }

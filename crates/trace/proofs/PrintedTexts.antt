@@ -14,7 +14,7 @@ use Rattle.fab_base.specs.declared.answers.Answer.TheVariants.{Data, Done, Abort
 use Rattle.fab_base.specs.declared.answers.Cause.{Cause}
 use Rattle.fab_base.specs.declared.answers.Cause.TheVariants.{Later, Gone, Full, Moved}
 use Rattle.fab_base.specs.declared.answers.Refusal.{Refusal}
-use Rattle.fab_base.specs.declared.answers.Refusal.TheVariants.{Down, NoStripe, NoBlock, Length, Busy, Spent}
+use Rattle.fab_base.specs.declared.answers.Refusal.TheVariants.{Down, NoStripe, NoQuorum, NoBlock, Length, Busy, Spent}
 use Rattle.fab_base.specs.Stamps.{stamp_text}
 use Rattle.reg_model.specs.declared.marks.Mark.{Mark}
 use Rattle.reg_model.specs.declared.marks.Mark.TheVariants.{Begin, End, Crash}
@@ -22,7 +22,8 @@ use Rattle.lines.specs.declared.forms.Line.{Line}
 use Rattle.lines.specs.declared.forms.Line.TheVariants as line
 use Rattle.protocol.specs.Settings.{Setting}
 use Rattle.protocol.specs.Worlds.{World, Event, happens}
-use Rattle.world.specs.Texts.{newline, place_text, op_text, cause_text, answer_text, mark_text, marks_text, refusal_text, idle_text, outcome_of, new_marks, outcome_text, event_text, text_of, empty_text, line_text}
+use Rattle.fab_base.specs.Texts.{newline, cause_text, refusal_text}
+use Rattle.world.specs.Texts.{place_text, op_text, answer_text, mark_text, marks_text, idle_text, outcome_of, new_marks, outcome_text, event_text, text_of, empty_text, line_text}
 use Rattle.world.specs.declared.simulations.Outcome.{Outcome}
 use Rattle.world.specs.declared.simulations.Outcome.TheVariants.{Marks, Refused, Idle}
 use Rattle.trace.specs.Told.{told_in, IsTold, IsStepText, indented, is_inside}
@@ -209,6 +210,7 @@ speaks-marks (mark ∷ marks) = speaks-both (mark_text mark) (marks_text marks) 
 speaks-refusal : (refusal : Refusal) → Speaks (refusal_text refusal)
 speaks-refusal Down = speaks-first 114 (codes "efused down") (lit< tt) refl
 speaks-refusal NoStripe = speaks-first 114 (codes "efused nostripe") (lit< tt) refl
+speaks-refusal NoQuorum = speaks-first 114 (codes "efused noquorum") (lit< tt) refl
 speaks-refusal NoBlock = speaks-first 114 (codes "efused noblock") (lit< tt) refl
 speaks-refusal Length = speaks-first 114 (codes "efused length") (lit< tt) refl
 speaks-refusal Busy = speaks-first 114 (codes "efused busy") (lit< tt) refl

@@ -5,7 +5,8 @@ use Rattle.lines.specs.Lines.{is_line_feed, raw_lines}
 use Rattle.protocol.specs.Settings.{Setting}
 use Rattle.protocol.specs.Worlds.{World}
 use Rattle.world.specs.Runs.{Step}
-use Rattle.world.specs.Texts.{step_text, newline}
+use Rattle.fab_base.specs.Texts.{newline}
+use Rattle.world.specs.Texts.{step_text}
 
 -- whether exactly two spaces stand before a line
 abbrev pub is_told : List ℕ → Bool

@@ -1,6 +1,5 @@
 pub mod Promises
 pub mod Sending
-pub mod ShortLists
 pub mod Replies
 pub mod TheChoices
 pub mod Deciding

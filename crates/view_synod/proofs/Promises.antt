@@ -1,5 +1,5 @@
 -- What an acceptor keeps is true of the Synod's history, before and after it promises and accepts.
-use Rattle.std.proofs.Common.{◌≡◌, false, cond, List, Option, Some, None, refl, sym, ap, ◌∙◌, subst}
+use Rattle.std.proofs.Common.{◌≡◌, false, cond, List, Option, Some, None, refl, sym, subst}
 use Rattle.std.specs.Prelude.{nat_lt}
 use Rattle.std.specs.Option.{option_map}
 use Rattle.std.proofs.lemmas.Bool.{cond_both, false≢true}
@@ -9,11 +9,9 @@ use Rattle.fab_base.specs.Stamps.{ballot_below}
 use Rattle.synod_laws.specs.Synods.{Kept, last_of, is_promised_above}
 use Rattle.synod_laws.proofs.Ballots.{ballot_below_at_most}
 use Rattle.synod_laws.proofs.Acceptors.{promising, accepting}
-use Rattle.messages.specs.declared.replies.Choice.{Choice}
 use Rattle.messages.specs.declared.replies.Reply.{Reply}
 use Rattle.messages.specs.declared.replies.Reply.TheVariants as reply
-use Rattle.protocol.specs.Ballots.{moved_to, choice_of, outbidding, ballot_refusal}
-use Rattle.protocol.specs.Proposals.{told_choice}
+use Rattle.protocol.specs.Ballots.{moved_to, outbidding, ballot_refusal}
 use Rattle.view_synod.specs.Acceptors.{Acceptor, NeverFalls, IsPromise, IsVote}
 
 -- where no greater ballot was promised to, none is in the way
@@ -53,19 +51,12 @@ pub promise_is_true : (kept : Kept (List BrickId)) (ballot : Ballot) → is_prom
 promise_is_true kept ballot free n q seat synod agrees keeps =
     let step = promising n q synod seat kept ballot free agrees keeps in (step.here, step.says)
 
--- a promise tells the list that it was made of
-told_again : (last : Option (Ballot × List BrickId)) → told_choice (reply.Promise (option_map choice_of last)) ≡ last
-told_again None = refl
-told_again (Some accepted) = refl
-
 -- the same, where the list accepted last is told, and kept as it was told
-pub promise_told : (kept : Kept (List BrickId)) (ballot : Ballot) (told stored : Option (Ballot × List BrickId)) (choice : Option Choice)
-    → is_promised_above kept ballot ≡ false → told ≡ last_of kept → stored ≡ told → choice ≡ option_map choice_of told
-    → IsPromise kept ballot (told_choice (reply.Promise choice)) (Some (ballot, stored))
-promise_told kept ballot told stored choice free told_is stored_is choice_is =
-    subst (λ (x : Option (Ballot × List BrickId)). IsPromise kept ballot (told_choice (reply.Promise choice)) (Some (ballot, x))) (sym (stored_is ∙ told_is))
-    (subst (λ (x : Option (Ballot × List BrickId)). IsPromise kept ballot x (Some (ballot, last_of kept)))
-    (sym (ap (λ (z : Option Choice). told_choice (reply.Promise z)) choice_is ∙ told_again told ∙ told_is)) (promise_is_true kept ballot free))
+pub promise_told : (kept : Kept (List BrickId)) (ballot : Ballot) (told stored : Option (Ballot × List BrickId)) → is_promised_above kept ballot ≡ false
+    → told ≡ last_of kept → stored ≡ told → IsPromise kept ballot told (Some (ballot, stored))
+promise_told kept ballot told stored free told_is stored_is =
+    subst (λ (x : Option (Ballot × List BrickId)). IsPromise kept ballot told (Some (ballot, x))) (sym stored_is)
+    (subst (λ (x : Option (Ballot × List BrickId)). IsPromise kept ballot x (Some (ballot, x))) (sym told_is) (promise_is_true kept ballot free))
 
 -- an acceptance is a vote of the Synod's
 pub vote_is_true : (kept : Kept (List BrickId)) (ballot : Ballot) (members : List BrickId) → is_promised_above kept ballot ≡ false

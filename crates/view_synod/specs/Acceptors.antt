@@ -5,9 +5,9 @@ use Rattle.fab_base.specs.declared.identities.BrickId.{BrickId}
 use Rattle.fab_base.specs.declared.stamps.Ballot.{Ballot}
 use Rattle.messages.specs.declared.replies.Reply.{Reply}
 use Rattle.messages.specs.declared.replies.Reply.TheVariants as reply
+use Rattle.view_synod.specs.declared.votes.Vote.{Vote}
 use Rattle.protocol.specs.Views.{Learnt}
-use Rattle.protocol.specs.Ballots.{Vote, voting}
-use Rattle.protocol.specs.Proposals.{told_choice}
+use Rattle.protocol.specs.Ballots.{Voted, choice_of, moved_to, voting}
 use Rattle.synod_laws.specs.Synods.{Kept, is_promised_above, Synod, Agrees, Keeps, SaysPromise, with_promise, with_acceptance}
 
 -- An acceptor that is asked for the successor of a view, by the view's number: the view that it has learnt of the group, and whether all its stripes are known
@@ -28,8 +28,16 @@ kept_of None None = None
 abbrev pub promised_of : Kept (List BrickId) → Option Ballot
 promised_of kept = option_map (λ held. held.0) kept
 
+-- a vote as a member replies it
+abbrev pub reply_of : Vote → Reply
+reply_of (Vote.Promise told) = reply.Promise (option_map choice_of told)
+reply_of Vote.Accepted = reply.Accepted
+reply_of (Vote.Outbid ballot) = reply.Outbid ballot
+reply_of (Vote.Moved view) = moved_to view
+reply_of Vote.NotSynced = reply.NotSynced
+
 -- an acceptor's vote on a ballot, which names a list if it is asked to accept that
-abbrev pub vote_of : Acceptor → Ballot → Option (List BrickId) → Vote
+abbrev pub vote_of : Acceptor → Ballot → Option (List BrickId) → Voted
 vote_of acceptor ballot asks = voting acceptor.of acceptor.learnt acceptor.kept ballot asks
 
 -- the acceptor once it has voted so
@@ -57,12 +65,11 @@ IsVote before ballot members after =
     → Keeps (with_acceptance synod seat ballot members) seat after × Agrees n q (with_acceptance synod seat ballot members)
 
 -- a vote that promises is a promise of the Synod, to a ballot that is not below the one promised to
-abbrev pub PromisesTruly : Reply → Kept (List BrickId) → Ballot → Kept (List BrickId) → Type 0
-PromisesTruly (reply.Promise accepted) before ballot after =
-    (is_promised_above before ballot ≡ false) × IsPromise before ballot (told_choice (reply.Promise accepted)) after
+abbrev pub PromisesTruly : Vote → Kept (List BrickId) → Ballot → Kept (List BrickId) → Type 0
+PromisesTruly (Vote.Promise told) before ballot after = (is_promised_above before ballot ≡ false) × IsPromise before ballot told after
 PromisesTruly vote before ballot after = Unit {0}
 
 -- a vote that accepts is a vote of the Synod, under a ballot that is not below the one promised to
-abbrev pub AcceptsTruly : Reply → Kept (List BrickId) → Ballot → List BrickId → Kept (List BrickId) → Type 0
-AcceptsTruly reply.Accepted before ballot members after = (is_promised_above before ballot ≡ false) × IsVote before ballot members after
+abbrev pub AcceptsTruly : Vote → Kept (List BrickId) → Ballot → List BrickId → Kept (List BrickId) → Type 0
+AcceptsTruly Vote.Accepted before ballot members after = (is_promised_above before ballot ≡ false) × IsVote before ballot members after
 AcceptsTruly vote before ballot members after = Unit {0}

@@ -1,4 +1,3 @@
-pub mod Lists
 pub mod Acceptors
 pub mod Proposers
 pub mod Evidence

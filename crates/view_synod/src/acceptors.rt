@@ -1,11 +1,9 @@
 //! The acceptor of a view's successor.
 
 ghost use Rattle.std.specs.Prelude.{◌≡◌};
-ghost use Rattle.std.specs.Option.{option_map};
-ghost use Rattle.protocol.specs.Ballots.{choice_of};
 
+use crate::votes::Vote;
 use fab_base::{Ballot, Members, View, ViewNo};
-use messages::{Choice, Lineage, Reply};
 use std::marker::Model;
 
 /// A ballot, and the list that was accepted under it.
@@ -44,24 +42,12 @@ fn copy_accepted(accepted: &Option<Accepted>) -> Option<Accepted>
     }
 }
 
-/// A list that was accepted, with its ballot, as a promise tells it.
-fn choice_of(accepted: &Option<Accepted>) -> Option<Choice>
-    ensures { result ≡ option_map choice_of accepted.now }
-{
-    match accepted {
-        Some((ballot, members)) => Some(Choice {
-            ballot: *ballot,
-            members: members.copy(),
-        }),
-        None => None,
-    }
-}
-
 impl Acceptor {
     ghost use Rattle.std.specs.Prelude.{◌≡◌, None, Some};
+    ghost use Rattle.std.specs.Option.{option_map};
     ghost use Rattle.synod_laws.specs.Synods.{last_of};
-    ghost use Rattle.protocol.specs.Ballots.{moved_to, outbidding, ballot_refusal};
-    ghost use Rattle.view_synod.specs.Acceptors.{kept_of, promised_of, vote_of, after_vote, NeverFalls, PromisesTruly, AcceptsTruly};
+    ghost use Rattle.protocol.specs.Ballots.{outbidding, ballot_refusal};
+    ghost use Rattle.view_synod.specs.Acceptors.{kept_of, promised_of, reply_of, vote_of, after_vote, NeverFalls, PromisesTruly, AcceptsTruly};
 
     /// A brick that is asked for the successor of the view `of`: it has learnt this view of the group, whose stripes are all known to be in it or not; and for
     /// the successor of that it has promised to this ballot and accepted this list last, if any.
@@ -119,31 +105,18 @@ impl Acceptor {
         }
     }
 
-    /// The later view that it has learnt, as it tells it.
-    fn moved(&self) -> Reply
-        ensures { result ≡ moved_to self.now.learnt.view }
-    {
-        Reply::Moved {
-            view: self.learnt.number,
-            lineage: Some(Lineage {
-                members: self.learnt.members.copy(),
-                prior: self.learnt.prior.copy(),
-            }),
-        }
-    }
-
     /// Why it refuses a ballot, if it does.
-    fn refusal(&self, ballot: Ballot) -> Option<Reply>
-        ensures { result ≡ ballot_refusal self.now.of self.now.learnt self.now.kept ballot }
+    fn refusal(&self, ballot: Ballot) -> Option<Vote>
+        ensures { option_map reply_of result ≡ ballot_refusal self.now.of self.now.learnt self.now.kept ballot }
     {
         if self.of.0 < self.learnt.number.0 {
-            return Some(self.moved());
+            return Some(Vote::Moved(self.learnt.copy()));
         }
         if !self.synced {
-            return Some(Reply::NotSynced);
+            return Some(Vote::NotSynced);
         }
         match self.outbidding(ballot) {
-            Some(greater) => Some(Reply::Outbid { ballot: greater }),
+            Some(greater) => Some(Vote::Outbid(greater)),
             None => None,
         }
     }
@@ -152,8 +125,8 @@ impl Acceptor {
     ///
     /// It refuses if it has learnt a later view, if its view is not synced, or if it has promised to a greater ballot, in this order. Nothing changes then.
     #[tactic(auto, unfolding(protocol::specs::Ballots::voting))]
-    pub fn prepare(&mut self, ballot: Ballot) -> Reply
-        ensures vote { result ≡ (vote_of self.old ballot None).reply }
+    pub fn prepare(&mut self, ballot: Ballot) -> Vote
+        ensures vote { reply_of result ≡ (vote_of self.old ballot None).reply }
         ensures kept { self.new ≡ after_vote self.old ballot None }
         ensures never_falls { NeverFalls self.old.kept self.new.kept }
         ensures truly { PromisesTruly result self.old.kept ballot self.new.kept }
@@ -163,9 +136,7 @@ impl Acceptor {
             None => {
                 let accepted = self.accepted();
                 self.kept = Some((ballot, copy_accepted(&accepted)));
-                Reply::Promise {
-                    accepted: choice_of(&accepted),
-                }
+                Vote::Promise(accepted)
             }
         }
     }
@@ -174,8 +145,8 @@ impl Acceptor {
     ///
     /// It refuses as a promise does. Nothing changes then.
     #[tactic(auto, unfolding(protocol::specs::Ballots::voting))]
-    pub fn accept(&mut self, ballot: Ballot, members: Members) -> Reply
-        ensures vote { result ≡ (vote_of self.old ballot (Some members)).reply }
+    pub fn accept(&mut self, ballot: Ballot, members: Members) -> Vote
+        ensures vote { reply_of result ≡ (vote_of self.old ballot (Some members)).reply }
         ensures kept { self.new ≡ after_vote self.old ballot (Some members) }
         ensures never_falls { NeverFalls self.old.kept self.new.kept }
         ensures truly { AcceptsTruly result self.old.kept ballot members self.new.kept }
@@ -184,7 +155,7 @@ impl Acceptor {
             Some(refused) => refused,
             None => {
                 self.kept = Some((ballot, Some((ballot, members))));
-                Reply::Accepted
+                Vote::Accepted
             }
         }
     }

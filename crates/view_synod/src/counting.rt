@@ -5,9 +5,9 @@ ghost use Rattle.protocol.specs.Coordinators.{call_same};
 
 use crate::answers::{ViewAnswer, ViewNext};
 use crate::choices::{greatest_choice, refused_by};
-use crate::lists::is_membership;
+use quorum::is_membership;
 use crate::proposals::{Proposal, has_seat};
-use fab_base::{BrickId, Members, NoMem, ViewNo};
+use fab_base::{Boxed, BrickId, Members, NoMem, ViewNo};
 use messages::{Call, Choice, Lineage, Message, Messages, Reply};
 use protocol::Counted;
 use std::alloc::Global;
@@ -58,12 +58,15 @@ impl Proposal {
     }
 
     /// Whether the members of a later view, and of the one before it, may keep the group, if they are told.
-    fn may_be_lineage(&self, lineage: &Option<Lineage>) -> bool
+    fn may_be_lineage(&self, lineage: &Option<Boxed<Lineage>>) -> bool
         ensures { result ≡ may_be_lineage self.now.state.m self.now.bricks lineage.now }
     {
         match lineage {
             None => true,
-            Some(lineage) => self.may_keep(&lineage.members) && self.may_keep(&lineage.prior),
+            Some(lineage) => {
+                let lineage = lineage.get();
+                self.may_keep(&lineage.members) && self.may_keep(&lineage.prior)
+            }
         }
     }
 

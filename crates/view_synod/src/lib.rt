@@ -9,14 +9,14 @@ pub mod acceptors;
 pub mod answers;
 mod choices;
 mod counting;
-pub mod lists;
 pub mod proposals;
 pub mod proposers;
 pub mod rounds;
+pub mod votes;
 
 pub use acceptors::Acceptor;
 pub use answers::{ViewAnswer, ViewNext};
-pub use lists::{is_membership, lists_have_quorums};
 pub use proposals::Proposal;
 pub use proposers::Proposer;
 pub use rounds::Rounds;
+pub use votes::Vote;

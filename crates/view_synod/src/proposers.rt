@@ -4,7 +4,7 @@ ghost use Rattle.std.specs.Prelude.{◌≡◌, if◌then◌else◌, Some, None, 
 ghost use Rattle.quorum.specs.Memberships.{is_membership};
 
 use crate::answers::{ViewAnswer, ViewNext};
-use crate::lists::is_membership;
+use quorum::is_membership;
 use crate::proposals::Proposal;
 use fab_base::{Ballot, BrickId, CallId, GroupId, Members, NoMem, View};
 use messages::Message;
@@ -30,7 +30,7 @@ impl Model for Proposer {
 }
 
 /// These members, where they may keep a group of `m` data blocks on a disk of `bricks` bricks.
-#[tactic(auto, using(crate::proofs::ShortLists::list_is_short))]
+#[tactic(auto, using(quorum::proofs::MembershipSizes::membership_is_short))]
 fn list_of(m: u8, bricks: u16, members: &[BrickId]) -> Option<Members>
     ensures value { result ≡ (if is_membership m bricks members.now then Some members.now else None) }
     ensures may_keep { IfSome result (λ list. is_membership m bricks list ≡ true) }

@@ -1,7 +1,7 @@
 //! The rounds of a brick's ballots.
 
 use crate::answers::ViewNext;
-use crate::lists::is_membership;
+use quorum::is_membership;
 use crate::proposers::Proposer;
 use fab_base::{Ballot, BrickId, CallId, GroupId, NoMem, View};
 use messages::{Message, Reply};

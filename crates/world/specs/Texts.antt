@@ -7,11 +7,8 @@ use Rattle.fab_base.specs.declared.asks.Op.{Op}
 use Rattle.fab_base.specs.declared.asks.Op.TheVariants.{ReadBlock, WriteBlock, ReadStripe, WriteStripe}
 use Rattle.fab_base.specs.declared.answers.Answer.{Answer}
 use Rattle.fab_base.specs.declared.answers.Answer.TheVariants.{Data, Done, Aborted}
-use Rattle.fab_base.specs.declared.answers.Cause.{Cause}
-use Rattle.fab_base.specs.declared.answers.Cause.TheVariants.{Later, Gone, Full, Moved}
 use Rattle.fab_base.specs.declared.answers.Refusal.{Refusal}
-use Rattle.fab_base.specs.declared.answers.Refusal.TheVariants.{Down, NoStripe, NoBlock, Length, Busy, Spent}
-use Rattle.fab_base.specs.Stamps.{stamp_text}
+use Rattle.fab_base.specs.Texts.{newline, cause_text, refusal_text}
 use Rattle.reg_model.specs.declared.marks.Mark.{Mark}
 use Rattle.reg_model.specs.declared.marks.Mark.TheVariants.{Begin, End}
 use Rattle.messages.specs.declared.packets.Packet.{Packet}
@@ -22,10 +19,6 @@ use Rattle.lines.specs.declared.forms.Line.TheVariants.{Calm}
 use Rattle.world.specs.Runs.{Step, refusal_at}
 use Rattle.world.specs.declared.simulations.Outcome.{Outcome}
 use Rattle.world.specs.declared.simulations.Outcome.TheVariants.{Marks, Refused, Idle}
-
--- the end of a line
-abbrev pub newline : List ℕ
-newline = 10 ∷ []
 
 -- the stripe of a group that is asked, before the rest of a line
 abbrev pub place_text : Ask → List ℕ → List ℕ
@@ -42,13 +35,6 @@ op_text ask (WriteStripe bytes) = codes "writeall " ++ place_text ask (codes " "
 -- what is asked
 abbrev pub ask_text : Ask → List ℕ
 ask_text ask = op_text ask ask.op
-
--- why an operation was aborted
-abbrev pub cause_text : Cause → List ℕ
-cause_text (Later brick stamp) = codes "later " ++ (decimal brick.0 ++ (codes " " ++ (stamp_text stamp ++ newline)))
-cause_text (Gone brick) = codes "gone " ++ (decimal brick.0 ++ newline)
-cause_text (Full brick live) = codes "full " ++ (decimal brick.0 ++ (codes " " ++ (decimal live ++ newline)))
-cause_text (Moved brick view) = codes "moved " ++ (decimal brick.0 ++ (codes " " ++ (decimal view.0 ++ newline)))
 
 -- an answer
 abbrev pub answer_text : Answer → List ℕ
@@ -67,15 +53,6 @@ mark_text (Mark.Crash p brick) = decimal p ++ (codes " crash " ++ (decimal brick
 abbrev pub marks_text : List Mark → List ℕ
 marks_text [] = []
 marks_text (mark ∷ marks) = mark_text mark ++ marks_text marks
-
--- why an operation is not begun
-abbrev pub refusal_text : Refusal → List ℕ
-refusal_text Down = codes "refused down" ++ newline
-refusal_text NoStripe = codes "refused nostripe" ++ newline
-refusal_text NoBlock = codes "refused noblock" ++ newline
-refusal_text Length = codes "refused length" ++ newline
-refusal_text Busy = codes "refused busy" ++ newline
-refusal_text Spent = codes "refused spent" ++ newline
 
 -- a line that finds nothing to do
 abbrev pub idle_text : List ℕ

@@ -1,26 +1,11 @@
-//! The text of marks and refusals, a line each.
+//! The text of marks, a line each.
 
 ghost use Rattle.std.specs.Prelude.{◌≡◌, IfOk, string_bytes};
-ghost use Rattle.world.specs.Texts.{mark_text, marks_text, answer_text, ask_text, cause_text, refusal_text, idle_text};
+ghost use Rattle.world.specs.Texts.{mark_text, marks_text, answer_text, ask_text, idle_text};
 
-use fab_base::{Answer, Ask, Bytes, Cause, NoMem, Op, Refusal};
+use fab_base::{Answer, Ask, NoMem, Op};
 use reg_model::Mark;
 use std::alloc::Global;
-
-/// Why an operation was aborted.
-fn cause_text(alloc: Global, cause: &Cause) -> Result<String, NoMem>
-    ensures { IfOk result (λ text. string_bytes text ≡ cause_text cause.now) }
-{
-    Ok(match cause {
-        Cause::Later { brick, stamp } => format!(in alloc; "later {brick} {stamp}\n")?,
-        Cause::Gone { brick } => format!(in alloc; "gone {brick}\n")?,
-        Cause::Full { brick, live } => format!(in alloc; "full {brick} {live}\n")?,
-        Cause::Moved { brick, view } => {
-            let view = view.0;
-            format!(in alloc; "moved {brick} {view}\n")?
-        }
-    })
-}
 
 /// An answer.
 fn answer_text(alloc: Global, answer: &Answer) -> Result<String, NoMem>
@@ -33,7 +18,7 @@ fn answer_text(alloc: Global, answer: &Answer) -> Result<String, NoMem>
         }
         Answer::Done => Ok(format!(in alloc; "done\n")?),
         Answer::Aborted(cause) => {
-            let cause = cause_text(alloc, cause)?;
+            let cause = cause.text(alloc)?;
             Ok(format!(in alloc; "aborted {cause}")?)
         }
     }
@@ -95,21 +80,6 @@ pub fn marks_text(alloc: Global, marks: &[Mark]) -> Result<String, NoMem>
         text.push_str(line.as_str())?;
     }
     Ok(text)
-}
-
-/// Why an operation is not begun.
-pub fn refusal_text(alloc: Global, refusal: Refusal) -> Result<String, NoMem>
-    ensures { IfOk result (λ text. string_bytes text ≡ refusal_text refusal) }
-{
-    let text = match refusal {
-        Refusal::Down => "refused down\n",
-        Refusal::NoStripe => "refused nostripe\n",
-        Refusal::NoBlock => "refused noblock\n",
-        Refusal::Length => "refused length\n",
-        Refusal::Busy => "refused busy\n",
-        Refusal::Spent => "refused spent\n",
-    };
-    Ok(String::from_str(alloc, text)?)
 }
 
 /// A line that found nothing to do.

@@ -6,7 +6,7 @@ ghost use Rattle.world.specs.Texts.{outcome_text};
 use crate::bricks::Power;
 use crate::simulations::{Outcome, Simulation};
 use crate::stripe_entries::StripeEntries;
-use crate::texts::{idle_text, marks_text, refusal_text};
+use crate::texts::{idle_text, marks_text};
 use crate::trails::{Shelf, Trail};
 use crate::walks;
 use fab_base::{BrickId, Bytes, GroupId, NoMem, StripeNo};
@@ -82,9 +82,7 @@ fn print(alloc: Global, outcome: Outcome, marks: &[Mark]) -> Result<Bytes, NoMem
 {
     match outcome {
         Outcome::Marks => Ok(Bytes::from_vec(marks_text(alloc, marks)?.into_bytes())),
-        Outcome::Refused(refusal) => Ok(Bytes::from_vec(refusal_text(
-            alloc, refusal,
-        )?.into_bytes())),
+        Outcome::Refused(refusal) => Ok(Bytes::from_vec(refusal.text(alloc)?.into_bytes())),
         Outcome::Idle => Ok(Bytes::from_vec(idle_text(alloc)?.into_bytes())),
     }
 }

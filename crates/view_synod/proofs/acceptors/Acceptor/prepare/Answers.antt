@@ -10,4 +10,4 @@ returns-in-None-clause-never_falls c =
 pub returns-in-None-clause-truly : goal.returns-in-None-clause-truly
 returns-in-None-clause-truly c =
     let free = not_refused c.args.self.now c.args.ballot (sym c.in-None.ensures) in
-    (free, promise_told c.args.self.now.kept c.args.ballot _ _ _ free c.accepted-accepted.ensures c.copy_accepted.ensures c.choice_of.ensures)
+    (free, promise_told c.args.self.now.kept c.args.ballot _ _ free c.accepted-accepted.ensures c.copy_accepted.ensures)

@@ -2,24 +2,23 @@
 
 ghost use Rattle.std.specs.Prelude.{◌≡◌, nat_lt};
 ghost use Rattle.std.specs.List.{list_all};
-ghost use Rattle.quorum.specs.Memberships.{stands_in, are_distinct, is_membership};
-ghost use Rattle.view_synod.specs.Lists.{ListsHaveQuorums};
+ghost use Rattle.quorum.specs.Memberships.{stands_in, are_distinct, is_membership, MembershipsHaveQuorums};
 
 use fab_base::BrickId;
 
 /// Whether a brick is one of these.
-fn stands_in(members: &[BrickId], brick: BrickId) -> bool
-    ensures { result ≡ stands_in members.now brick }
+fn stands_in(bricks: &[BrickId], brick: BrickId) -> bool
+    ensures { result ≡ stands_in bricks.now brick }
 {
-    members.iter().any(|member| brick.0 == member.0)
+    bricks.iter().any(|other| brick.0 == other.0)
 }
 
 /// Whether no brick stands twice.
-fn are_distinct(members: &[BrickId]) -> bool
-    ensures { result ≡ are_distinct members.now }
+pub fn are_distinct(bricks: &[BrickId]) -> bool
+    ensures { result ≡ are_distinct bricks.now }
 {
-    for (seat, member) in members.iter().enumerate() {
-        if stands_in(&members[seat + 1..], *member) {
+    for (place, brick) in bricks.iter().enumerate() {
+        if stands_in(&bricks[place + 1..], *brick) {
             return false;
         }
     }
@@ -34,7 +33,7 @@ fn are_of_disk(bricks: u16, members: &[BrickId]) -> bool
 }
 
 /// Whether these members may keep a group of `m` data blocks on a disk of `bricks` bricks: `m` to 32 distinct bricks, each of them the disk's.
-#[tactic(auto, unfolding(quorum::specs::Memberships::is_membership))]
+#[tactic(auto, unfolding(crate::specs::Memberships::is_membership))]
 pub fn is_membership(m: u8, bricks: u16, members: &[BrickId]) -> bool
     ensures { result ≡ is_membership m bricks members.now }
 {
@@ -45,6 +44,6 @@ pub fn is_membership(m: u8, bricks: u16, members: &[BrickId]) -> bool
 }
 
 /// A list that may keep a group is within the limits of a quorum. The call does nothing: its contract is the law.
-pub fn lists_have_quorums()
-    ensures { ListsHaveQuorums }
+pub fn memberships_have_quorums()
+    ensures { MembershipsHaveQuorums }
 {}
