@@ -5,11 +5,11 @@ ghost use Rattle.protocol.specs.Coordinators.{call_same};
 
 use crate::answers::{ViewAnswer, ViewNext};
 use crate::choices::{greatest_choice, refused_by};
-use quorum::is_membership;
 use crate::proposals::{Proposal, has_seat};
 use fab_base::{Boxed, BrickId, Members, NoMem, ViewNo};
 use messages::{Call, Choice, Lineage, Message, Messages, Reply};
 use protocol::Counted;
+use quorum::is_membership;
 use std::alloc::Global;
 
 /// Whether two calls are the same, phase and all.

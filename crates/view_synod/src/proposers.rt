@@ -4,10 +4,10 @@ ghost use Rattle.std.specs.Prelude.{◌≡◌, if◌then◌else◌, Some, None, 
 ghost use Rattle.quorum.specs.Memberships.{is_membership};
 
 use crate::answers::{ViewAnswer, ViewNext};
-use quorum::is_membership;
 use crate::proposals::Proposal;
 use fab_base::{Ballot, BrickId, CallId, GroupId, Members, NoMem, View};
 use messages::Message;
+use quorum::is_membership;
 use std::alloc::Global;
 use std::marker::Model;
 

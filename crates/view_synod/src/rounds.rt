@@ -1,10 +1,10 @@
 //! The rounds of a brick's ballots.
 
 use crate::answers::ViewNext;
-use quorum::is_membership;
 use crate::proposers::Proposer;
 use fab_base::{Ballot, BrickId, CallId, GroupId, NoMem, View};
 use messages::{Message, Reply};
+use quorum::is_membership;
 use std::alloc::Global;
 use std::marker::Model;
 
