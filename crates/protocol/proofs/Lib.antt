@@ -1,4 +1,5 @@
 pub mod Blocks
+pub mod ChangeExample
 pub mod CountsAt
 pub mod Events
 pub mod Packets

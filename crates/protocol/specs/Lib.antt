@@ -2,6 +2,9 @@ pub mod Settings
 pub mod Views
 pub mod Replicas
 pub mod Coordinators
+pub mod Requests
+pub mod Ballots
+pub mod Proposals
 pub mod Nodes
 pub mod Worlds
 pub mod Happenings

@@ -15,6 +15,7 @@ use Rattle.messages.specs.declared.replies.Reply.{Reply}
 pub use Rattle.protocol.specs.declared.tellings.Told.{Told}
 pub use Rattle.protocol.specs.declared.tellings.Told.TheVariants.{Made, Seen}
 pub use Rattle.protocol.specs.declared.tellings.Answered.{Answered}
+pub use Rattle.protocol.specs.Requests.{to_members, resent_to}
 use Rattle.fab_base.specs.Layouts.{Layout, Group, group_of, seat_in}
 use Rattle.protocol.specs.Settings.{Setting, are_bytes}
 use Rattle.protocol.specs.Views.{Learnt, first_learnt, group_kept, floor_of}
@@ -83,12 +84,6 @@ sending node packets = record { node = node; packets = packets; told = []; answe
 
 abbrev pub no_step : Node → NodeStep
 no_step node = sending node []
-
--- one request to each member, in the order of seats, the first of them at this seat
-abbrev pub to_members : BrickId → Call → (ℕ → Request) → ℕ → List BrickId → List Packet
-to_members me call request seat [] = []
-to_members me call request seat (member ∷ members) =
-    record { from = me; to = member; message = Message.Request call (request seat) } ∷ to_members me call request (seat + 1) members
 
 -- what the coordinator's phase sends
 abbrev pub phase_packets : Setting → BrickId → Coordinator → List Packet
@@ -344,14 +339,6 @@ absorbed setting me node packet = absorbed_as packet.message
     absorbed_as : Message → Node
     absorbed_as (Message.Request call request) = (requested setting me packet.from node call request).node
     absorbed_as message = node
-
--- a phase's requests again, in the order of seats, the first of these members at this seat, to each that has
--- no reply that counts
-abbrev pub resent_to : BrickId → Call → (ℕ → Request) → List Counted → ℕ → List BrickId → List Packet
-resent_to me call request counted seat [] = []
-resent_to me call request counted seat (member ∷ members) =
-    if has_seat seat counted then resent_to me call request counted (seat + 1) members
-    else record { from = me; to = member; message = Message.Request call (request seat) } ∷ resent_to me call request counted (seat + 1) members
 
 -- the present phase of an open operation again
 abbrev pub resent : Setting → BrickId → Option Coordinator → List Packet

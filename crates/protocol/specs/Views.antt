@@ -1,13 +1,14 @@
 -- Views: the lists of members that keep a group, one after another, by number from 1 (Saito 2004, section 5).
 use Rattle.messages.specs.declared.packets.Packet.{Packet}
 use Rattle.messages.specs.declared.packets.Message.{Message}
-use Rattle.std.specs.Prelude.{ℕ, true, Bool, nat_lt, if◌then◌else◌, List, [], Option, Some, None, max, ◌∷◌, nat_eq, ◌&&◌}
+use Rattle.std.specs.Prelude.{ℕ, true, false, Bool, not, nat_lt, if◌then◌else◌, List, [], Option, Some, None, max, ◌-◌, ◌∷◌, nat_eq, ◌&&◌}
 use Rattle.std.specs.Option.{option_map, unwrap_or}
 use Rattle.fab_base.specs.declared.identities.BrickId.{BrickId}
 use Rattle.fab_base.specs.declared.member_lists.View.{View}
 use Rattle.fab_base.specs.declared.stamps.Stamp.{Stamp}
 use Rattle.fab_base.specs.Layouts.{Layout, Group, group_of, first_view}
 use Rattle.fab_base.specs.Stamps.{first_stamp}
+use Rattle.quorum.specs.Memberships.{is_membership}
 
 -- the members, by seat, of each view of each group: by group and view
 abbrev pub Views : Type 0
@@ -38,6 +39,30 @@ pub record Learnt : Type 0 where
 abbrev pub first_learnt : Layout → ℕ → Learnt
 first_learnt layout group =
     record { view = first_view (members_of (group_of layout group)); synced = true }
+
+-- the view's members, and those before them, may keep a group of m data blocks on a disk of so many bricks
+abbrev pub is_view : ℕ → ℕ → View → Bool
+is_view m bricks view = is_membership m bricks view.members && is_membership m bricks view.prior
+
+-- a view is later than the one that was learnt
+abbrev pub is_later : Learnt → View → Bool
+is_later learnt view = nat_lt learnt.view.number.0 view.number.0
+
+-- what a brick has learnt of a group once it is taught a view: a later one takes the place of the learnt one, and its stripes are not known to be kept in it
+unfoldable pub learns : Learnt → View → Learnt
+learns learnt view = if is_later learnt view then record { view = view; synced = false } else learnt
+
+-- the learnt view has this number, and its stripes are not known yet to be kept in it
+abbrev pub is_unsynced : Learnt → ℕ → Bool
+is_unsynced learnt number = nat_eq number learnt.view.number.0 && not learnt.synced
+
+-- what it has learnt once it hears that all stripes are kept in the view of a number
+unfoldable pub notes_synced : Learnt → ℕ → Learnt
+notes_synced learnt number = if is_unsynced learnt number then record learnt { synced = true } else learnt
+
+-- the first view of a group whose versions a brick keeps: the learnt one, or the one before it while not all stripes are known to be kept in the learnt one
+abbrev pub first_kept : Learnt → ℕ
+first_kept learnt = if learnt.synced then learnt.view.number.0 else learnt.view.number.0 - 1
 
 -- a group that these members keep
 abbrev pub kept_by : List BrickId → Group → Group

@@ -6,4 +6,4 @@ pub mod phases;
 pub mod tellings;
 
 pub use phases::{Counted, FullMember, Phase, Refuser};
-pub use tellings::{Answered, Told};
+pub use tellings::{Answered, Report, SyncAnswer, Told, ViewAnswer};

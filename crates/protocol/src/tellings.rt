@@ -1,6 +1,7 @@
-//! What a brick's step tells of its operations.
+//! What a brick's step tells: of its operations, and of how its proposal and its synchronisation end.
 
-use fab_base::{Answer, Stamp};
+use fab_base::{Answer, Ballot, BrickId, Cause, GroupId, Members, Stamp, StripeNo, ViewNo};
+use messages::Call;
 
 /// What a step tells of the version of an operation of its brick.
 #[derive(Clone, Copy, PartialEq, Eq)]
@@ -30,4 +31,76 @@ pub struct Answered {
     pub seq: u64,
     /// The answer.
     pub answer: Answer,
+}
+
+/// The end of a proposal of a view's successor.
+#[derive(Drop)]
+pub enum ViewAnswer {
+    /// These are the members of the view of this number.
+    Decided {
+        /// The view's number, one above that of the view whose successor it is.
+        view: ViewNo,
+        /// Its members, by seat.
+        members: Members,
+    },
+    /// A member has promised to a greater ballot, the greatest that was told.
+    Outbid {
+        /// The greater ballot.
+        ballot: Ballot,
+    },
+    /// At this member the stripes are not all known to be in the view yet.
+    NotSynced {
+        /// The member.
+        brick: BrickId,
+    },
+    /// A member has learnt this later view.
+    Moved {
+        /// The later view.
+        view: ViewNo,
+    },
+    /// The list that was proposed may not keep the group. Nothing was sent.
+    BadMembers,
+}
+
+/// The end of the synchronisation of a view, in which each stripe of its group is read.
+#[derive(Clone, Copy, PartialEq, Eq)]
+pub enum SyncAnswer {
+    /// All stripes are kept in the view of this number.
+    Synced {
+        /// The view's number.
+        view: ViewNo,
+    },
+    /// The reads of this stripe were aborted as often as is allowed.
+    Stopped {
+        /// The stripe.
+        stripe: StripeNo,
+        /// Why the last of them was.
+        cause: Cause,
+    },
+    /// The brick had no later time or call number left for a read of this stripe.
+    Spent {
+        /// The stripe.
+        stripe: StripeNo,
+    },
+}
+
+/// What a brick reports of its proposal or its synchronisation once that ends.
+#[derive(Drop)]
+pub enum Report {
+    /// A proposal ended.
+    View {
+        /// The group.
+        group: GroupId,
+        /// The call of the phase in which it ended; none where nothing was sent.
+        call: Option<Call>,
+        /// How it ended.
+        answer: ViewAnswer,
+    },
+    /// A synchronisation ended.
+    Sync {
+        /// The group.
+        group: GroupId,
+        /// How it ended.
+        answer: SyncAnswer,
+    },
 }

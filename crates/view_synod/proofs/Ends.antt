@@ -21,11 +21,12 @@ use Rattle.protocol.specs.Coordinators.{has_seat}
 use Rattle.synod_laws.specs.Synods.{seats_of, value_or}
 use Rattle.synod_laws.proofs.Agreement.{quorums_are_majorities}
 use Rattle.synod_laws.proofs.Greatest.{safe_replies}
-use Rattle.view_synod.specs.declared.answers.ViewAnswer.{ViewAnswer}
-use Rattle.view_synod.specs.declared.answers.ViewAnswer.TheVariants as answer
+use Rattle.protocol.specs.declared.tellings.ViewAnswer.{ViewAnswer}
+use Rattle.protocol.specs.declared.tellings.ViewAnswer.TheVariants as answer
 use Rattle.view_synod.specs.declared.answers.ViewNext.{ViewNext}
 use Rattle.view_synod.specs.declared.answers.ViewNext.TheVariants as next
-use Rattle.view_synod.specs.Proposals.{Proposal, Voting, Ignored, Waited, Asks, Ended, answers_ballot, asking, ballot_messages, ballot_quorum, decided, first_answer, goes_on, greater_ballot, greatest_choice, greatest_outbid, lower_seat, lowest, may_be_choice, moved_view, outbid_ballot, promises, refused_by, seat_voting, told_choice, unless_refused, unsynced_brick, voted_at, with_vote}
+use Rattle.protocol.specs.Proposals.{Proposal, Voting, Ignored, Waited, Asks, Ended, answers_ballot, asking, ballot_quorum, ballot_decided, first_answer, goes_on, greater_ballot, greatest_choice, greatest_outbid, lower_seat, lowest, may_be_choice, moved_view, outbid_ballot, promises, refused_by, seat_voting, told_choice, unless_voted_down, unsynced_brick, voted_at, with_voice}
+use Rattle.view_synod.specs.Proposers.{ballot_messages}
 use Rattle.view_synod.specs.Proposers.{Proposing, IsUnderWay, are_apart, voting_on, GoesOn, SendsPhase}
 use Rattle.view_synod.specs.Evidence.{grants, IsSafeToAsk, IsPromised, IsTold, ShowsEnd, EndsBy, HasEvidence}
 use Rattle.view_synod.proofs.Replies.{one_more}
@@ -172,7 +173,7 @@ asked_shown bricks p is full free (Some members) asked call ended e =
 
 -- what a quorum decides, if it ends the proposal, the replies show
 decided_shown : (bricks : ℕ) (p : Proposal) → IsUnderWay bricks p → nat_lt (length p.counted) (ballot_quorum p) ≡ false
-    → (o : Option ViewAnswer) → refused_by p.counted ≡ o → (call : Call) (ended : ViewAnswer) → unless_refused p o ≡ Ended call ended → ShowsEnd p ended
+    → (o : Option ViewAnswer) → refused_by p.counted ≡ o → (call : Call) (ended : ViewAnswer) → unless_voted_down p o ≡ Ended call ended → ShowsEnd p ended
 unfolding answer_of
 decided_shown bricks p is full None free call ended e = asked_shown bricks p is full free p.asks refl call ended e
 decided_shown bricks p is full (Some refused) told call ended e =
@@ -183,8 +184,8 @@ decided_shown bricks p is full (Some refused) told call ended e =
 
 -- the same, of what was decided
 voting_shown : (x : Proposing) (p : Proposal) → IsUnderWay x.bricks p → nat_lt (length p.counted) (ballot_quorum p) ≡ false
-    → (v : Voting) → decided p ≡ v → (ended : ViewAnswer) (after : Option Proposing) → GoesOn (Some x) v (next.End ended) after → ShowsEnd p ended
-unfolding decided
+    → (v : Voting) → ballot_decided p ≡ v → (ended : ViewAnswer) (after : Option Proposing) → GoesOn (Some x) v (next.End ended) after → ShowsEnd p ended
+unfolding ballot_decided
 voting_shown x p is full Ignored e ended after goes = let no : next.End ended ≡ next.Wait = goes.0 in cc
 voting_shown x p is full (Waited q) e ended after goes = let no : next.End ended ≡ next.Wait = goes.0 in cc
 voting_shown x p is full (Asks q) e ended after goes = absurd goes.0
@@ -197,16 +198,16 @@ voting_shown x p is full (Ended call other) e ended after goes =
 seat_shown : (x : Proposing) → IsUnderWay x.bricks x.state → (from : BrickId) (call : Call) (reply : Reply) (o : Option ℕ)
     → seat_voting x.bricks x.state from.0 call reply ≡ o → (ended : ViewAnswer) (after : Option Proposing)
     → GoesOn (Some x) (voted_at x.state from reply o) (next.End ended) after
-    → (seat : ℕ) × (seat_voting x.bricks x.state from.0 call reply ≡ Some seat) × ShowsEnd (with_vote x.state seat from reply) ended
+    → (seat : ℕ) × (seat_voting x.bricks x.state from.0 call reply ≡ Some seat) × ShowsEnd (with_voice x.state seat from reply) ended
 seat_shown x is from call reply None counts ended after goes = let no : next.End ended ≡ next.Wait = goes.0 in cc
 seat_shown x is from call reply (Some seat) counts ended after goes =
-    let p = with_vote x.state seat from reply in (
+    let p = with_voice x.state seat from reply in (
       seat,
       counts,
-      cond_both (nat_lt (length p.counted) (ballot_quorum p)) (Waited p) (decided p)
+      cond_both (nat_lt (length p.counted) (ballot_quorum p)) (Waited p) (ballot_decided p)
           (λ (v : Voting). GoesOn (Some x) v (next.End ended) after → ShowsEnd p ended)
           (λ few waits. let no : next.End ended ≡ next.Wait = waits.0 in cc)
-          (λ full goes_on. voting_shown x p (one_more x.bricks x.state from call reply seat is counts) full (decided p) refl ended after goes_on)
+          (λ full goes_on. voting_shown x p (one_more x.bricks x.state from call reply seat is counts) full (ballot_decided p) refl ended after goes_on)
           goes,
     )
 
@@ -275,7 +276,7 @@ prepared_shown bricks p q is full free None asked e =
 
 -- the same, of what a quorum decides
 deciding_asks : (bricks : ℕ) (p q : Proposal) → IsUnderWay bricks p → nat_lt (length p.counted) (ballot_quorum p) ≡ false
-    → (o : Option ViewAnswer) → refused_by p.counted ≡ o → unless_refused p o ≡ Asks q
+    → (o : Option ViewAnswer) → refused_by p.counted ≡ o → unless_voted_down p o ≡ Asks q
     → (members : List BrickId) × (q ≡ asking p members) × IsPromised p members
 deciding_asks bricks p q is full None free e = prepared_shown bricks p q is full free p.asks refl e
 deciding_asks bricks p q is full (Some refused) told e = cc
@@ -290,7 +291,7 @@ ShowsAsk p (next.End ended) = Unit {0}
 abbrev AsksIn : Proposing → BrickId → Call → Reply → ViewNext → Type 0
 AsksIn x from call reply (next.Send sent) =
     (seat : ℕ) × (members : List BrickId) × (seat_voting x.bricks x.state from.0 call reply ≡ Some seat)
-    × (sent.items ≡ ballot_messages (asking (with_vote x.state seat from reply) members)) × IsPromised (with_vote x.state seat from reply) members
+    × (sent.items ≡ ballot_messages (asking (with_voice x.state seat from reply) members)) × IsPromised (with_voice x.state seat from reply) members
 AsksIn x from call reply next.Wait = Unit {0}
 AsksIn x from call reply (next.End ended) = Unit {0}
 
@@ -304,8 +305,8 @@ sends_ask p q asks (next.End ended) sends = tt
 
 -- the same, of what was decided
 voting_asks : (x : Proposing) (p : Proposal) → IsUnderWay x.bricks p → nat_lt (length p.counted) (ballot_quorum p) ≡ false
-    → (v : Voting) → decided p ≡ v → (does : ViewNext) (after : Option Proposing) → GoesOn (Some x) v does after → ShowsAsk p does
-unfolding decided
+    → (v : Voting) → ballot_decided p ≡ v → (does : ViewNext) (after : Option Proposing) → GoesOn (Some x) v does after → ShowsAsk p does
+unfolding ballot_decided
 voting_asks x p is full Ignored e does after goes = subst (λ (z : ViewNext). ShowsAsk p z) (sym goes.0) tt
 voting_asks x p is full (Waited q) e does after goes = subst (λ (z : ViewNext). ShowsAsk p z) (sym goes.0) tt
 voting_asks x p is full (Asks q) e does after goes =
@@ -314,7 +315,7 @@ voting_asks x p is full (Ended call ended) e does after goes = subst (λ (z : Vi
 
 -- the same, with the seat
 with_seat_shown : (x : Proposing) (from : BrickId) (call : Call) (reply : Reply) (seat : ℕ) → seat_voting x.bricks x.state from.0 call reply ≡ Some seat
-    → (does : ViewNext) → ShowsAsk (with_vote x.state seat from reply) does → AsksIn x from call reply does
+    → (does : ViewNext) → ShowsAsk (with_voice x.state seat from reply) does → AsksIn x from call reply does
 with_seat_shown x from call reply seat counts (next.Send sent) shown = (seat, shown.0, counts, shown.1, shown.2)
 with_seat_shown x from call reply seat counts next.Wait shown = tt
 with_seat_shown x from call reply seat counts (next.End ended) shown = tt
@@ -325,12 +326,12 @@ seat_asks : (x : Proposing) → IsUnderWay x.bricks x.state → (from : BrickId)
     → GoesOn (Some x) (voted_at x.state from reply o) does after → AsksIn x from call reply does
 seat_asks x is from call reply None counts does after goes = subst (λ (z : ViewNext). AsksIn x from call reply z) (sym goes.0) tt
 seat_asks x is from call reply (Some seat) counts does after goes =
-    let p = with_vote x.state seat from reply in
-    cond_both (nat_lt (length p.counted) (ballot_quorum p)) (Waited p) (decided p)
+    let p = with_voice x.state seat from reply in
+    cond_both (nat_lt (length p.counted) (ballot_quorum p)) (Waited p) (ballot_decided p)
     (λ (v : Voting). GoesOn (Some x) v does after → AsksIn x from call reply does)
     (λ few waits. subst (λ (z : ViewNext). AsksIn x from call reply z) (sym waits.0) tt)
     (λ full onward. with_seat_shown x from call reply seat counts does
-    (voting_asks x p (one_more x.bricks x.state from call reply seat is counts) full (decided p) refl does after onward))
+    (voting_asks x p (one_more x.bricks x.state from call reply seat is counts) full (ballot_decided p) refl does after onward))
     goes
 
 -- what a proposal does with a message has its evidence

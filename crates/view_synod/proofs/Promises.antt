@@ -9,30 +9,33 @@ use Rattle.fab_base.specs.Stamps.{ballot_below}
 use Rattle.synod_laws.specs.Synods.{Kept, last_of, is_promised_above}
 use Rattle.synod_laws.proofs.Ballots.{ballot_below_at_most}
 use Rattle.synod_laws.proofs.Acceptors.{promising, accepting}
-use Rattle.view_synod.specs.declared.votes.Vote.{Vote}
-use Rattle.view_synod.specs.Acceptors.{Acceptor, outbidding, refusal, NeverFalls, IsPromise, IsVote}
+use Rattle.messages.specs.declared.replies.Reply.{Reply}
+use Rattle.messages.specs.declared.replies.Reply.TheVariants as reply
+use Rattle.protocol.specs.Ballots.{moved_to, outbidding, ballot_refusal}
+use Rattle.view_synod.specs.Acceptors.{Acceptor, NeverFalls, IsPromise, IsVote}
 
 -- where no greater ballot was promised to, none is in the way
-not_outbid : (kept : Kept (List BrickId)) (ballot : Ballot) → option_map (λ greater. Vote.Outbid greater) (outbidding kept ballot) ≡ None
+not_outbid : (kept : Kept (List BrickId)) (ballot : Ballot) → option_map (λ greater. reply.Outbid greater) (outbidding kept ballot) ≡ None
     → is_promised_above kept ballot ≡ false
 not_outbid None ballot none = refl
 not_outbid (Some (promised, accepted)) ballot none =
     cond_both (ballot_below ballot promised) (Some promised) None
-    (λ (o : Option Ballot). option_map (λ greater. Vote.Outbid greater) o ≡ None → ballot_below ballot promised ≡ false)
+    (λ (o : Option Ballot). option_map (λ greater. reply.Outbid greater) o ≡ None → ballot_below ballot promised ≡ false)
     (λ above e. cc)
     (λ isnt e. isnt)
     none
 
 -- who refuses no ballot has promised to no greater one
-pub not_refused : (acceptor : Acceptor) (ballot : Ballot) → refusal acceptor ballot ≡ None → is_promised_above acceptor.kept ballot ≡ false
+pub not_refused : (acceptor : Acceptor) (ballot : Ballot) → ballot_refusal acceptor.of acceptor.learnt acceptor.kept ballot ≡ None
+    → is_promised_above acceptor.kept ballot ≡ false
 not_refused acceptor ballot =
-    cond_both (nat_lt acceptor.of acceptor.learnt.view.number.0) (Some (Vote.Moved acceptor.learnt.view))
-    (cond acceptor.learnt.synced (option_map (λ greater. Vote.Outbid greater) (outbidding acceptor.kept ballot)) (Some Vote.NotSynced))
-    (λ (o : Option Vote). o ≡ None → is_promised_above acceptor.kept ballot ≡ false)
+    cond_both (nat_lt acceptor.of acceptor.learnt.view.number.0) (Some (moved_to acceptor.learnt.view))
+    (cond acceptor.learnt.synced (option_map (λ greater. reply.Outbid greater) (outbidding acceptor.kept ballot)) (Some reply.NotSynced))
+    (λ (o : Option Reply). o ≡ None → is_promised_above acceptor.kept ballot ≡ false)
     (λ later e. cc)
     (λ isnt.
-    cond_both acceptor.learnt.synced (option_map (λ greater. Vote.Outbid greater) (outbidding acceptor.kept ballot)) (Some Vote.NotSynced)
-    (λ (o : Option Vote). o ≡ None → is_promised_above acceptor.kept ballot ≡ false)
+    cond_both acceptor.learnt.synced (option_map (λ greater. reply.Outbid greater) (outbidding acceptor.kept ballot)) (Some reply.NotSynced)
+    (λ (o : Option Reply). o ≡ None → is_promised_above acceptor.kept ballot ≡ false)
     (λ synced e. not_outbid acceptor.kept ballot e)
     (λ unsynced e. cc))
 

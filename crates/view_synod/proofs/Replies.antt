@@ -10,7 +10,7 @@ use Rattle.messages.specs.declared.calls.Call.{Call}
 use Rattle.messages.specs.declared.replies.Reply.{Reply}
 use Rattle.protocol.specs.declared.phases.Counted.{Counted}
 use Rattle.protocol.specs.Coordinators.{call_same, has_seat, new_seat}
-use Rattle.view_synod.specs.Proposals.{Proposal, answers_ballot, voting_seat, seat_voting, with_vote}
+use Rattle.protocol.specs.Proposals.{Proposal, answers_ballot, voting_seat, seat_voting, with_voice}
 use Rattle.view_synod.specs.Proposers.{are_apart, IsUnderWay}
 
 -- a reply that counts at a seat
@@ -79,7 +79,7 @@ apart_more (c ∷ counted) x apart none =
 
 -- a proposal stays under way with one more reply that counts
 pub one_more : (bricks : ℕ) (p : Proposal) (from : BrickId) (call : Call) (reply : Reply) (seat : ℕ) → IsUnderWay bricks p
-    → seat_voting bricks p from.0 call reply ≡ Some seat → IsUnderWay bricks (with_vote p seat from reply)
+    → seat_voting bricks p from.0 call reply ≡ Some seat → IsUnderWay bricks (with_voice p seat from reply)
 one_more bricks p from call reply seat is counts =
     let facts = votes_at bricks p from.0 call reply seat counts in
     let x : Counted = record { seat = seat; brick = from; reply = reply } in

@@ -7,7 +7,7 @@ use Rattle.messages.specs.declared.packets.Message.TheVariants as messages
 use Rattle.messages.specs.declared.packets.Packet.{Packet}
 use Rattle.protocol.specs.Coordinators.{has_seat}
 use Rattle.protocol.specs.Nodes.{resent_to}
-use Rattle.view_synod.specs.Proposals.{Proposal, ballot_request}
+use Rattle.protocol.specs.Proposals.{Proposal, ballot_request}
 
 -- the packets from this seat on
 abbrev silent : Proposal → ℕ → List BrickId → List Packet

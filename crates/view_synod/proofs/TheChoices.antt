@@ -13,7 +13,7 @@ use Rattle.messages.specs.declared.replies.Reply.TheVariants as reply
 use Rattle.protocol.specs.declared.phases.Counted.{Counted}
 use Rattle.synod_laws.specs.Synods.{greater_told, value_or}
 use Rattle.quorum.specs.Memberships.{is_membership}
-use Rattle.view_synod.specs.Proposals.{Proposal, answers_ballot, may_be_choice, told_choice, greatest_choice}
+use Rattle.protocol.specs.Proposals.{Proposal, answers_ballot, may_be_choice, told_choice, greatest_choice}
 use Rattle.view_synod.specs.Proposers.{IsUnderWay}
 
 -- the list of what was told, or else the proposer's own, may keep the group

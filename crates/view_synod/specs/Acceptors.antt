@@ -1,13 +1,14 @@
--- The acceptor's side of the choice of a view's successor: single-decree Paxos (Lamport, "Paxos Made Simple", ACM SIGACT News 2001), one instance for each view.
--- A member of the view promises to ballots, and accepts lists of members under them.
-use Rattle.std.specs.Prelude.{◌≡◌, ℕ, true, false, is_some, nat_lt, if◌then◌else◌, List, Option, Some, None, unwrap_or}
+-- The acceptor's side of the choice of a view's successor, and what it is to the Synod (Lamport, "Paxos Made Simple", ACM SIGACT News 2001).
+use Rattle.std.specs.Prelude.{◌≡◌, ℕ, true, false, List, Option, Some, None}
 use Rattle.std.specs.Option.{option_map}
 use Rattle.fab_base.specs.declared.identities.BrickId.{BrickId}
 use Rattle.fab_base.specs.declared.stamps.Ballot.{Ballot}
-use Rattle.fab_base.specs.Stamps.{ballot_below}
-use Rattle.protocol.specs.Views.{Learnt}
-use Rattle.synod_laws.specs.Synods.{Kept, last_of, is_promised_above, Synod, Agrees, Keeps, SaysPromise, with_promise, with_acceptance}
+use Rattle.messages.specs.declared.replies.Reply.{Reply}
+use Rattle.messages.specs.declared.replies.Reply.TheVariants as reply
 use Rattle.view_synod.specs.declared.votes.Vote.{Vote}
+use Rattle.protocol.specs.Views.{Learnt}
+use Rattle.protocol.specs.Ballots.{Voted, choice_of, moved_to, voting}
+use Rattle.synod_laws.specs.Synods.{Kept, is_promised_above, Synod, Agrees, Keeps, SaysPromise, with_promise, with_acceptance}
 
 -- An acceptor that is asked for the successor of a view, by the view's number: the view that it has learnt of the group, and whether all its stripes are known
 -- to be in it; and what it keeps for the learnt view's successor, which is the greatest ballot that it has promised to, and the list that it accepted last, with
@@ -27,38 +28,21 @@ kept_of None None = None
 abbrev pub promised_of : Kept (List BrickId) → Option Ballot
 promised_of kept = option_map (λ held. held.0) kept
 
--- the ballot that was promised to, if it is greater than this one
-abbrev pub outbidding : Kept (List BrickId) → Ballot → Option Ballot
-outbidding None ballot = None
-outbidding (Some (promised, accepted)) ballot = if ballot_below ballot promised then Some promised else None
+-- a vote as a member replies it
+abbrev pub reply_of : Vote → Reply
+reply_of (Vote.Promise told) = reply.Promise (option_map choice_of told)
+reply_of Vote.Accepted = reply.Accepted
+reply_of (Vote.Outbid ballot) = reply.Outbid ballot
+reply_of (Vote.Moved view) = moved_to view
+reply_of Vote.NotSynced = reply.NotSynced
 
--- Why an acceptor refuses a ballot, if it does: it has learnt a later view, which it tells; or its view is not synced yet; or it has promised to a greater
--- ballot, which it tells.
-abbrev pub refusal : Acceptor → Ballot → Option Vote
-refusal acceptor ballot =
-    if nat_lt acceptor.of acceptor.learnt.view.number.0 then Some (Vote.Moved acceptor.learnt.view)
-    else if acceptor.learnt.synced then option_map (λ greater. Vote.Outbid greater) (outbidding acceptor.kept ballot)
-    else Some Vote.NotSynced
+-- an acceptor's vote on a ballot, which names a list if it is asked to accept that
+abbrev pub vote_of : Acceptor → Ballot → Option (List BrickId) → Voted
+vote_of acceptor ballot asks = voting acceptor.of acceptor.learnt acceptor.kept ballot asks
 
--- the acceptor, unless it refuses the ballot, keeps this from then on
-abbrev pub keeping : Acceptor → Ballot → Kept (List BrickId) → Acceptor
-keeping acceptor ballot kept = if is_some (refusal acceptor ballot) then acceptor else record acceptor { kept = kept }
-
--- a Prepare is refused, or promised to: the promise tells the list accepted last
-abbrev pub prepare_vote : Acceptor → Ballot → Vote
-prepare_vote acceptor ballot = unwrap_or (refusal acceptor ballot) (Vote.Promise (last_of acceptor.kept))
-
--- what the acceptor is after a Prepare
-abbrev pub after_prepare : Acceptor → Ballot → Acceptor
-after_prepare acceptor ballot = keeping acceptor ballot (Some (ballot, last_of acceptor.kept))
-
--- an Accept is refused, or the list accepted
-abbrev pub accept_vote : Acceptor → Ballot → Vote
-accept_vote acceptor ballot = unwrap_or (refusal acceptor ballot) Vote.Accepted
-
--- what the acceptor is after an Accept
-abbrev pub after_accept : Acceptor → Ballot → List BrickId → Acceptor
-after_accept acceptor ballot members = keeping acceptor ballot (Some (ballot, Some (ballot, members)))
+-- the acceptor once it has voted so
+abbrev pub after_vote : Acceptor → Ballot → Option (List BrickId) → Acceptor
+after_vote acceptor ballot asks = record acceptor { kept = (vote_of acceptor ballot asks).kept }
 
 -- ---- laws
 

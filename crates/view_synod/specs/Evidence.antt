@@ -7,12 +7,13 @@ use Rattle.messages.specs.declared.packets.Message.TheVariants as message
 use Rattle.messages.specs.declared.replies.Reply.{Reply}
 use Rattle.messages.specs.declared.replies.Reply.TheVariants.{Promise, Accepted}
 use Rattle.protocol.specs.declared.phases.Counted.{Counted}
-use Rattle.view_synod.specs.declared.answers.ViewAnswer.{ViewAnswer}
-use Rattle.view_synod.specs.declared.answers.ViewAnswer.TheVariants as answer
+use Rattle.protocol.specs.declared.tellings.ViewAnswer.{ViewAnswer}
+use Rattle.protocol.specs.declared.tellings.ViewAnswer.TheVariants as answer
 use Rattle.view_synod.specs.declared.answers.ViewNext.{ViewNext}
 use Rattle.view_synod.specs.declared.answers.ViewNext.TheVariants as next
 use Rattle.synod_laws.specs.Synods.{Synod, Agrees, IsSafe, SaysPromise, value_or}
-use Rattle.view_synod.specs.Proposals.{Proposal, asking, ballot_messages, ballot_quorum, greatest_choice, moved_view, outbid_ballot, promises, seat_voting, unsynced_brick, with_vote}
+use Rattle.protocol.specs.Proposals.{Proposal, asking, ballot_quorum, greatest_choice, moved_view, outbid_ballot, promises, seat_voting, unsynced_brick, with_voice}
+use Rattle.view_synod.specs.Proposers.{ballot_messages}
 use Rattle.view_synod.specs.Proposers.{Proposing, are_apart}
 
 -- the reply grants what the phase asks for: a promise while it prepares, an acceptance once it asks for a list
@@ -64,14 +65,14 @@ ShowsEnd p answer.BadMembers = ⊥
 -- the reply that brought an end counts, and the replies with this one show it
 abbrev pub EndsBy : Option Proposing → BrickId → Message → ViewAnswer → Type 0
 EndsBy (Some x) from (message.Reply call reply) answer =
-    (seat : ℕ) × (seat_voting x.bricks x.state from.0 call reply ≡ Some seat) × ShowsEnd (with_vote x.state seat from reply) answer
+    (seat : ℕ) × (seat_voting x.bricks x.state from.0 call reply ≡ Some seat) × ShowsEnd (with_voice x.state seat from reply) answer
 EndsBy x from message answer = ⊥
 
 -- the reply that brought a request to accept a list counts, and the replies with this one show that the list may be proposed
 abbrev pub AsksBy : Option Proposing → BrickId → Message → List (BrickId × Message) → Type 0
 AsksBy (Some x) from (message.Reply call reply) sent =
     (seat : ℕ) × (members : List BrickId) × (seat_voting x.bricks x.state from.0 call reply ≡ Some seat)
-    × (sent ≡ ballot_messages (asking (with_vote x.state seat from reply) members)) × IsPromised (with_vote x.state seat from reply) members
+    × (sent ≡ ballot_messages (asking (with_voice x.state seat from reply) members)) × IsPromised (with_voice x.state seat from reply) members
 AsksBy x from message sent = ⊥
 
 -- What a proposal does with a message has its evidence: that it asks for a list, and that it ends.

@@ -1,5 +1,3 @@
 pub mod Acceptors
-pub mod Proposals
 pub mod Proposers
 pub mod Evidence
-pub mod Rounds

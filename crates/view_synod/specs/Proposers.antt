@@ -1,5 +1,5 @@
 -- A proposal as its brick keeps it.
-use Rattle.std.specs.Prelude.{◌≡◌, ℕ, ◌-◌, ◌<◌, ◌^◌, Bool, true, false, not, ◌&&◌, nat_lt, if◌then◌else◌, List, [], ◌∷◌, length, Option, Some, None, is_some}
+use Rattle.std.specs.Prelude.{◌≡◌, ℕ, ◌-◌, ◌<◌, ◌^◌, Bool, true, false, not, ◌&&◌, nat_lt, if◌then◌else◌, List, [], ◌∷◌, length, map, Option, Some, None, is_some}
 use Rattle.std.specs.List.{list_all}
 use Rattle.fab_base.specs.declared.identities.BrickId.{BrickId}
 use Rattle.fab_base.specs.declared.identities.CallId.{CallId}
@@ -8,14 +8,15 @@ use Rattle.fab_base.specs.declared.member_lists.View.{View}
 use Rattle.fab_base.specs.declared.stamps.Ballot.{Ballot}
 use Rattle.messages.specs.declared.packets.Message.{Message}
 use Rattle.messages.specs.declared.packets.Message.TheVariants as message
+use Rattle.messages.specs.declared.packets.Packet.{Packet}
 use Rattle.quorum.specs.Quorums.{IsWithinLimits}
 use Rattle.protocol.specs.declared.phases.Counted.{Counted}
 use Rattle.protocol.specs.Coordinators.{has_seat}
 use Rattle.view_synod.specs.declared.answers.ViewNext.{ViewNext}
 use Rattle.view_synod.specs.declared.answers.ViewNext.TheVariants as next
-use Rattle.view_synod.specs.declared.answers.ViewAnswer.TheVariants as answer
+use Rattle.protocol.specs.declared.tellings.ViewAnswer.TheVariants as answer
 use Rattle.quorum.specs.Memberships.{is_membership}
-use Rattle.view_synod.specs.Proposals.{Proposal, begun_proposal, Voting, Ignored, Waited, Asks, Ended, ballot_messages, answers_ballot, seat_voting, voted}
+use Rattle.protocol.specs.Proposals.{Proposal, ballot_packets, begun_proposal, Voting, Ignored, Waited, Asks, Ended, answers_ballot, seat_voting, voted}
 
 -- a proposal, on a disk of so many bricks
 pub record Proposing : Type 0 where
@@ -63,6 +64,10 @@ voting_on x from message = Ignored
 abbrev pub voting_in : Option Proposing → BrickId → Message → Voting
 voting_in None from message = Ignored
 voting_in (Some x) from message = voting_on x from message
+
+-- the messages of the phase, whichever brick sends them: as it begins they go to all members, and later to those without a counted reply
+abbrev pub ballot_messages : Proposal → List (BrickId × Message)
+ballot_messages p = map (λ (packet : Packet). (packet.to, packet.message)) (ballot_packets (record { 0 = 0 }) p)
 
 -- it sends the messages of its phase
 abbrev pub SendsPhase : Proposal → ViewNext → Type 0

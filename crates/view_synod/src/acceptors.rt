@@ -43,9 +43,11 @@ fn copy_accepted(accepted: &Option<Accepted>) -> Option<Accepted>
 }
 
 impl Acceptor {
-    ghost use Rattle.std.specs.Prelude.{◌≡◌};
+    ghost use Rattle.std.specs.Prelude.{◌≡◌, None, Some};
+    ghost use Rattle.std.specs.Option.{option_map};
     ghost use Rattle.synod_laws.specs.Synods.{last_of};
-    ghost use Rattle.view_synod.specs.Acceptors.{kept_of, promised_of, outbidding, refusal, prepare_vote, after_prepare, accept_vote, after_accept, NeverFalls, PromisesTruly, AcceptsTruly};
+    ghost use Rattle.protocol.specs.Ballots.{outbidding, ballot_refusal};
+    ghost use Rattle.view_synod.specs.Acceptors.{kept_of, promised_of, reply_of, vote_of, after_vote, NeverFalls, PromisesTruly, AcceptsTruly};
 
     /// A brick that is asked for the successor of the view `of`: it has learnt this view of the group, whose stripes are all known to be in it or not; and for
     /// the successor of that it has promised to this ballot and accepted this list last, if any.
@@ -105,7 +107,7 @@ impl Acceptor {
 
     /// Why it refuses a ballot, if it does.
     fn refusal(&self, ballot: Ballot) -> Option<Vote>
-        ensures { result ≡ refusal self.now ballot }
+        ensures { option_map reply_of result ≡ ballot_refusal self.now.of self.now.learnt self.now.kept ballot }
     {
         if self.of.0 < self.learnt.number.0 {
             return Some(Vote::Moved(self.learnt.copy()));
@@ -122,9 +124,10 @@ impl Acceptor {
     /// Promises to a ballot: it accepts nothing under a lesser one from then on. It tells the list that it accepted last.
     ///
     /// It refuses if it has learnt a later view, if its view is not synced, or if it has promised to a greater ballot, in this order. Nothing changes then.
+    #[tactic(auto, unfolding(protocol::specs::Ballots::voting))]
     pub fn prepare(&mut self, ballot: Ballot) -> Vote
-        ensures vote { result ≡ prepare_vote self.old ballot }
-        ensures kept { self.new ≡ after_prepare self.old ballot }
+        ensures vote { reply_of result ≡ (vote_of self.old ballot None).reply }
+        ensures kept { self.new ≡ after_vote self.old ballot None }
         ensures never_falls { NeverFalls self.old.kept self.new.kept }
         ensures truly { PromisesTruly result self.old.kept ballot self.new.kept }
     {
@@ -141,9 +144,10 @@ impl Acceptor {
     /// Accepts a list of members under a ballot, to which it promises too.
     ///
     /// It refuses as a promise does. Nothing changes then.
+    #[tactic(auto, unfolding(protocol::specs::Ballots::voting))]
     pub fn accept(&mut self, ballot: Ballot, members: Members) -> Vote
-        ensures vote { result ≡ accept_vote self.old ballot }
-        ensures kept { self.new ≡ after_accept self.old ballot members }
+        ensures vote { reply_of result ≡ (vote_of self.old ballot (Some members)).reply }
+        ensures kept { self.new ≡ after_vote self.old ballot (Some members) }
         ensures never_falls { NeverFalls self.old.kept self.new.kept }
         ensures truly { AcceptsTruly result self.old.kept ballot members self.new.kept }
     {

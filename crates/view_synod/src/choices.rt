@@ -4,7 +4,7 @@ ghost use Rattle.std.specs.Prelude.{◌≡◌, Option};
 ghost use Rattle.std.specs.Option.{option_map};
 ghost use Rattle.protocol.specs.declared.phases.Counted.{Counted};
 ghost use Rattle.synod_laws.specs.Synods.{greater_told};
-ghost use Rattle.view_synod.specs.Proposals.{lower_seat, lowest, moved_view, unsynced_brick, outbid_ballot, greater_ballot, greatest_outbid, refused_by, told_choice, greatest_choice};
+ghost use Rattle.protocol.specs.Proposals.{lower_seat, lowest, moved_view, unsynced_brick, outbid_ballot, greater_ballot, greatest_outbid, refused_by, told_choice, greatest_choice};
 
 use crate::answers::ViewAnswer;
 use fab_base::{Ballot, BrickId, Members, ViewNo};

@@ -25,7 +25,7 @@ impl Proposal {
     ghost use Rattle.synod_laws.specs.Synods.{value_or};
     ghost use Rattle.quorum.specs.Memberships.{is_membership};
     ghost use Rattle.view_synod.specs.Evidence.{HasEvidence};
-    ghost use Rattle.view_synod.specs.Proposals.{ballot_quorum, may_be_choice, may_be_lineage, answers_ballot, seat_voting, with_vote, asking, greatest_choice, decided};
+    ghost use Rattle.protocol.specs.Proposals.{ballot_quorum, may_be_choice, may_be_lineage, answers_ballot, seat_voting, with_voice, asking, greatest_choice, ballot_decided};
     ghost use Rattle.view_synod.specs.Proposers.{IsUnderWay, with_state, voting_on, left, GoesOn, Decides};
 
     /// The seat of a brick among the members of the view, the first if there are several. None where it is no member.
@@ -84,7 +84,7 @@ impl Proposal {
     }
 
     /// The seat at which a brick's reply counts: it is to this very phase, answers it, and is its seat's first.
-    #[tactic(auto, unfolding(crate::specs::Proposals::seat_voting))]
+    #[tactic(auto, unfolding(protocol::specs::Proposals::seat_voting))]
     pub(crate) fn seat_to_count(&self, from: BrickId, call: Call, reply: &Reply) -> Option<u8>
         ensures { result ≡ seat_voting self.now.bricks self.now.state from.0 call reply.now }
     {
@@ -100,8 +100,8 @@ impl Proposal {
 
     /// Counts a reply at a seat, where it counts. Where memory runs out nothing has changed.
     fn count(&mut self, alloc: Global, seat: u8, from: BrickId, reply: &Reply) -> Result<(), NoMem>
-        requires { IsUnderWay self.old.bricks (with_vote self.old.state seat from reply.now) }
-        ensures counted { OnOk result (self.new ≡ with_state self.old (with_vote self.old.state seat from reply.now)) }
+        requires { IsUnderWay self.old.bricks (with_voice self.old.state seat from reply.now) }
+        ensures counted { OnOk result (self.new ≡ with_state self.old (with_voice self.old.state seat from reply.now)) }
         ensures err { OnErr result (self.new ≡ self.old) }
     {
         self.counted.push(Counted {
@@ -142,11 +142,11 @@ impl Proposal {
     }
 
     /// What a quorum of replies decides. There is room for the messages of a phase.
-    #[tactic(auto, unfolding(crate::specs::Proposals::decided))]
+    #[tactic(auto, unfolding(protocol::specs::Proposals::ballot_decided))]
     fn decide(&mut self, room: Messages) -> ViewNext
         requires empty { room.items ≡ [] }
         requires room { length self.old.state.view.members ≤ vec_capacity room }
-        ensures { Decides self.old (decided self.old.state) result (left result self.new) }
+        ensures { Decides self.old (ballot_decided self.old.state) result (left result self.new) }
     {
         if let Some(answer) = refused_by(self.counted.as_slice()) {
             return ViewNext::End(answer);

@@ -3,7 +3,7 @@
 ghost use Rattle.std.specs.Prelude.{◌≡◌, IfOk, length};
 ghost use Rattle.quorum.specs.Quorums.{IsWithinLimits};
 ghost use Rattle.protocol.specs.Coordinators.{has_seat};
-ghost use Rattle.view_synod.specs.Proposals.{ballot_call};
+ghost use Rattle.protocol.specs.Proposals.{ballot_call};
 
 use fab_base::{Ballot, CallId, GroupId, Members, NoMem, StripeNo, View, ViewNo};
 use messages::{Call, Message, Messages, Request};
@@ -111,7 +111,8 @@ impl Proposal {
     ghost use Rattle.std.specs.Prelude.{◌≡◌, ◌-◌, ◌<◌, ◌≤◌, ◌^◌, [], true, IfOk, length, vec_capacity};
     ghost use Rattle.quorum.specs.Quorums.{IsWithinLimits};
     ghost use Rattle.quorum.specs.Memberships.{is_membership};
-    ghost use Rattle.view_synod.specs.Proposals.{begun_proposal, ballot_request, ballot_messages};
+    ghost use Rattle.protocol.specs.Proposals.{begun_proposal, ballot_request};
+    ghost use Rattle.view_synod.specs.Proposers.{ballot_messages};
 
     /// A proposal of these members under a ballot, as it begins: they may keep the group, the members of the view are within the limits of a quorum of
     /// `m` data blocks, and the view has a successor.

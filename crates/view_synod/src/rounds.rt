@@ -27,7 +27,7 @@ impl Rounds {
     ghost use Rattle.quorum.specs.Quorums.{IsWithinLimits};
     ghost use Rattle.quorum.specs.Memberships.{is_membership};
     ghost use Rattle.view_synod.specs.Proposers.{started, StartsAs};
-    ghost use Rattle.view_synod.specs.Rounds.{round_heard, next_ballot, round_used};
+    ghost use Rattle.protocol.specs.Proposals.{round_heard, next_ballot, round_used};
 
     /// The rounds of a brick that was just started: it has used and heard of none.
     pub fn new() -> Rounds

@@ -4,7 +4,7 @@ use Rattle.std.proofs.lemmas.Grind.{common_steps}
 use Rattle.fab_base.specs.declared.identities.BrickId.{BrickId}
 use Rattle.synod_laws.specs.Synods.{value_or}
 use Rattle.quorum.specs.Memberships.{is_membership}
-use Rattle.view_synod.specs.Proposals.{greatest_choice}
+use Rattle.protocol.specs.Proposals.{greatest_choice}
 use Rattle.view_synod.specs.Proposers.{Proposing, IsUnderWay}
 use Rattle.view_synod.proofs.TheChoices.{chosen_may_keep}
 use Rattle.view_synod.proofs.proposals.Proposal.chosen.Goals as goal

@@ -1,7 +1,7 @@
 -- A member with a counted reply is passed.
 use Rattle.std.proofs.Common.{◌<◌, ◌≡◌, true, length, rules, arith}
 use Rattle.protocol.specs.Coordinators.{has_seat}
-use Rattle.view_synod.specs.Proposals.{ballot_messages}
+use Rattle.view_synod.specs.Proposers.{ballot_messages}
 use Rattle.view_synod.proofs.Sending.{silent_passed}
 use Rattle.view_synod.proofs.proposals.Proposal.put_messages.Goals as goal
 

@@ -1,6 +1,6 @@
 -- The messages so far, and those to the members that are left, are all; and there is room for those that are left.
 use Rattle.std.proofs.Common.{◌≡◌, ◌≤◌, ◌++◌, drop, length, vec_len, vec_capacity}
-use Rattle.view_synod.specs.Proposals.{ballot_messages}
+use Rattle.view_synod.specs.Proposers.{ballot_messages}
 use Rattle.view_synod.proofs.Sending.{to_silent}
 use Rattle.view_synod.proofs.proposals.Proposal.put_messages.Given as goal
 

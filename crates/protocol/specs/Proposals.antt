@@ -1,6 +1,6 @@
 -- The proposer's side of the choice of a view's successor: single-decree Paxos (Lamport, "Paxos Made Simple", ACM SIGACT News 2001). A proposal has two phases:
 -- it prepares, and then asks for acceptance. Each phase ends once replies of a quorum of the view's members count.
-use Rattle.std.specs.Prelude.{ℕ, ◌+◌, Bool, true, false, not, nat_lt, ◌&&◌, if◌then◌else◌, List, [], ◌∷◌, ◌++◌, length, map, Option, Some, None, is_some}
+use Rattle.std.specs.Prelude.{ℕ, ◌+◌, Bool, true, false, not, nat_lt, ◌&&◌, if◌then◌else◌, List, [], ◌∷◌, ◌++◌, length, map, max, Option, Some, None, is_some}
 use Rattle.std.specs.Option.{option_map}
 use Rattle.fab_base.specs.declared.identities.BrickId.{BrickId}
 use Rattle.fab_base.specs.declared.identities.CallId.{CallId}
@@ -12,6 +12,7 @@ use Rattle.fab_base.specs.Stamps.{ballot_below}
 use Rattle.fab_base.specs.Layouts.{seat_in}
 use Rattle.messages.specs.declared.calls.Call.{Call}
 use Rattle.messages.specs.declared.packets.Message.{Message}
+use Rattle.messages.specs.declared.packets.Message.TheVariants as message
 use Rattle.messages.specs.declared.packets.Packet.{Packet}
 use Rattle.messages.specs.declared.requests.Request.{Request}
 use Rattle.messages.specs.declared.requests.Request.TheVariants as request
@@ -19,14 +20,14 @@ use Rattle.messages.specs.declared.replies.Choice.{Choice}
 use Rattle.messages.specs.declared.replies.Lineage.{Lineage}
 use Rattle.messages.specs.declared.replies.Reply.{Reply}
 use Rattle.messages.specs.declared.replies.Reply.TheVariants.{Moved, Promise, Accepted, Outbid, NotSynced}
-use Rattle.quorum.specs.Quorums.{q_of}
-use Rattle.protocol.specs.declared.phases.Counted.{Counted}
-use Rattle.protocol.specs.Coordinators.{call_same, new_seat, next_phase}
-use Rattle.protocol.specs.Nodes.{resent_to}
-use Rattle.synod_laws.specs.Synods.{greatest_told, value_or}
-use Rattle.view_synod.specs.declared.answers.ViewAnswer.{ViewAnswer}
-use Rattle.view_synod.specs.declared.answers.ViewAnswer.TheVariants as answer
 use Rattle.quorum.specs.Memberships.{is_membership}
+use Rattle.quorum.specs.Quorums.{q_of}
+use Rattle.synod_laws.specs.Synods.{greatest_told, value_or}
+use Rattle.protocol.specs.declared.phases.Counted.{Counted}
+pub use Rattle.protocol.specs.declared.tellings.ViewAnswer.{ViewAnswer}
+use Rattle.protocol.specs.declared.tellings.ViewAnswer.TheVariants as answer
+use Rattle.protocol.specs.Coordinators.{call_same, new_seat, next_phase}
+use Rattle.protocol.specs.Requests.{resent_to}
 
 -- A proposal: how many data blocks a stripe of the group has; the view whose successor it is about; its ballot; the list that its brick proposes; the list that it
 -- asks the members to accept, or none while it prepares; the call of its phase; and the replies that count in that.
@@ -63,11 +64,9 @@ ballot_request p = request_in p.asks
     request_in None = request.Prepare p.ballot
     request_in (Some members) = request.Accept p.ballot members
 
--- the messages of the phase, whichever brick sends them: as it begins they go to all members, and later to those without a counted reply
-abbrev pub ballot_messages : Proposal → List (BrickId × Message)
-ballot_messages p =
-    map (λ (packet : Packet). (packet.to, packet.message))
-    (resent_to (record { 0 = 0 }) p.call (λ seat. ballot_request p) p.counted 0 p.view.members)
+-- what the phase sends: as it begins it goes to all members, and later to those without a counted reply
+abbrev pub ballot_packets : BrickId → Proposal → List Packet
+ballot_packets me p = resent_to me p.call (λ seat. ballot_request p) p.counted 0 p.view.members
 
 -- ---- which replies count
 
@@ -102,8 +101,8 @@ seat_voting bricks p from call reply =
     if call_same call p.call then new_seat p.counted (voting_seat bricks p reply (seat_in p.view.members from)) else None
 
 -- the proposal with one more reply
-abbrev pub with_vote : Proposal → ℕ → BrickId → Reply → Proposal
-with_vote p seat brick reply = record p { counted = p.counted ++ (record { seat = seat; brick = brick; reply = reply } ∷ []) }
+abbrev pub with_voice : Proposal → ℕ → BrickId → Reply → Proposal
+with_voice p seat brick reply = record p { counted = p.counted ++ (record { seat = seat; brick = brick; reply = reply } ∷ []) }
 
 -- ---- what counted replies say
 
@@ -199,23 +198,43 @@ goes_on p None = Asks (asking p (value_or p.own (greatest_choice p.counted)))
 goes_on p (Some members) = Ended p.call (answer.Decided (record { 0 = p.view.number.0 + 1 }) members)
 
 -- a refusal ends it; else it goes on
-abbrev pub unless_refused : Proposal → Option ViewAnswer → Voting
-unless_refused p None = goes_on p p.asks
-unless_refused p (Some refused) = Ended p.call refused
+abbrev pub unless_voted_down : Proposal → Option ViewAnswer → Voting
+unless_voted_down p None = goes_on p p.asks
+unless_voted_down p (Some refused) = Ended p.call refused
 
 -- what a quorum of replies decides
-unfoldable pub decided : Proposal → Voting
-decided p = unless_refused p (refused_by p.counted)
+unfoldable pub ballot_decided : Proposal → Voting
+ballot_decided p = unless_voted_down p (refused_by p.counted)
 
 -- with a quorum of replies the phase is decided
 abbrev pub once_voted : Proposal → Voting
-once_voted p = if nat_lt (length p.counted) (ballot_quorum p) then Waited p else decided p
+once_voted p = if nat_lt (length p.counted) (ballot_quorum p) then Waited p else ballot_decided p
 
 -- what a proposal does with a brick's reply, by the seat at which that counts
 abbrev pub voted_at : Proposal → BrickId → Reply → Option ℕ → Voting
 voted_at p from reply None = Ignored
-voted_at p from reply (Some seat) = once_voted (with_vote p seat from reply)
+voted_at p from reply (Some seat) = once_voted (with_voice p seat from reply)
 
 -- what a proposal does with a brick's reply, on a disk of so many bricks
 abbrev pub voted : ℕ → Proposal → BrickId → Call → Reply → Voting
 voted bricks p from call reply = voted_at p from reply (seat_voting bricks p from.0 call reply)
+
+-- ---- ballots' rounds
+
+-- the greatest round that a brick used or heard of, once it heard this reply: an Outbid tells one, also where it does not count
+abbrev pub round_after : ℕ → Reply → ℕ
+round_after round (Outbid ballot) = max round ballot.round
+round_after round reply = round
+
+-- the same, once it heard this message
+abbrev pub round_heard : ℕ → Message → ℕ
+round_heard round (message.Reply call reply) = round_after round reply
+round_heard round message = round
+
+-- the ballot of a brick's next proposal: its round is above all that the brick used or heard of
+abbrev pub next_ballot : ℕ → BrickId → CallId → Ballot
+next_ballot round me call = record { round = round + 1; brick = me; boot = call.boot }
+
+-- the greatest round that a brick used or heard of, once it proposed a list: one that may not keep the group uses up no round
+abbrev pub round_used : ℕ → Bool → ℕ
+round_used round may_keep = if may_keep then round + 1 else round
