@@ -1,10 +1,10 @@
 -- What the machine sees of a brick, and what its store shows of it.
-use Rattle.std.proofs.Common.{◌≡◌, ℕ, suc, Bool, cond, List, [], ◌∷◌, Some, refl, sym, ◌∙◌, ap, subst}
+use Rattle.std.proofs.Common.{◌≡◌, ℕ, suc, Bool, cond, List, [], ◌∷◌, Option, Some, None, is_some, refl, sym, ◌∙◌, ap, subst}
 use Rattle.std.specs.Prelude.{length, map}
 use Rattle.std.specs.Option.{option_map}
 use Rattle.std.specs.Ordering.{nat_cmp}
 use Rattle.std.specs.Map.{lookup}
-use Rattle.std.specs.BTreeMap.{is_at}
+use Rattle.std.specs.BTreeMap.{get, is_at}
 use Rattle.fab_base.specs.declared.identities.BrickId.{BrickId}
 use Rattle.frame_store.specs.declared.shapes.Shape.{Shape}
 use Rattle.version_log.specs.Versions.{Version}
@@ -16,9 +16,10 @@ use Rattle.protocol.specs.Nodes.{Node, view_at}
 use Rattle.protocol.specs.Views.{Learnt, first_learnt}
 use Rattle.replica.specs.Parts.{IsFirstView, part_in, learnt_or}
 use Rattle.node.specs.declared.open_calls.OpenCalls.{OpenCalls}
+use Rattle.node.specs.declared.operations.Operation.{Operation}
 use Rattle.node.specs.Operations.{coordinator_of}
 use Rattle.node.specs.States.{state_with, parts_in}
-use Rattle.node.specs.Running.{running, state_of, shape_at, IsKept, IsBrickOf, ImageShows}
+use Rattle.node.specs.Running.{coordinators, running, state_of, shape_at, IsKept, IsBrickOf, ImageShows}
 use Rattle.node.proofs.States.{same_states}
 use Rattle.node.proofs.Tables.{map_cond}
 
@@ -33,6 +34,14 @@ map_lookup : {X Y : Type 0} (f : X → Y) (test : ℕ → Bool) (es : List (ℕ 
 map_lookup f test [] = refl
 map_lookup f test (e ∷ es) =
     ap (λ o. cond (test e.0) (Some (f e.1)) o) (map_lookup f test es) ∙ sym (map_cond f (test e.0) (Some e.1) (lookup test es))
+
+-- a call has a coordinator where its operation is open
+pub open_seen : (calls : OpenCalls) (k : ℕ) → is_some (lookup (is_at (nat_cmp k)) (coordinators calls.operations)) ≡ is_some (get nat_cmp calls.operations k)
+open_seen calls k = ap is_some (map_lookup coordinator_of (is_at (nat_cmp k)) calls.operations.entries) ∙ as_is (get nat_cmp calls.operations k)
+  where
+    as_is : (found : Option Operation) → is_some (option_map coordinator_of found) ≡ is_some found
+    as_is None = refl
+    as_is (Some operation) = refl
 
 module _ {D : Type 0} (layout : Layout) (calls : OpenCalls) (store : Brick D) where
   -- the machine sees the store's parts, and the open calls

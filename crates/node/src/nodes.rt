@@ -1,6 +1,6 @@
 //! A brick's steps.
 
-ghost use Rattle.std.specs.Prelude.{◌≡◌, ◌≢◌, ◌⊎◌, ◌+◌, ◌-◌, ◌^◌, ◌<◌, ◌≤◌, ℕ, List, true, false, Some, None, Ok, Err, IsOk, IfOk, IfErr, OnOk, OnErr, length, vec_len};
+ghost use Rattle.std.specs.Prelude.{◌≡◌, ◌≢◌, ◌⊎◌, ◌+◌, ◌-◌, ◌^◌, ◌<◌, ◌≤◌, ℕ, List, true, false, Some, None, is_some, Ok, Err, IsOk, IfOk, IfErr, OnOk, OnErr, length, vec_len};
 ghost use Rattle.std.specs.Option.{SomeIff};
 ghost use Rattle.fab_disk.specs.Disk.{IsUntouched, KeepsRoom};
 ghost use Rattle.fab_disk.specs.Changing.{Stands};
@@ -323,6 +323,14 @@ impl<D: Disk> Node<D> {
         ensures { SomeIff result ((state_of self.now).seq + 1 < 2 ^ 64) ((state_of self.now).seq + 1) }
     {
         self.calls.next_seq()
+    }
+
+    /// Whether the operation of the call of a number is open: it began since the brick started, and was not answered.
+    #[tactic(auto, unfolding(crate::specs::Running::state_of))]
+    pub fn is_open(&self, seq: u64) -> bool
+        ensures { result ≡ is_some ((state_of self.now).calls seq) }
+    {
+        self.calls.is_open(seq)
     }
 
     /// How often the brick's store was opened.

@@ -50,8 +50,9 @@ fn fresh_stamp(mut stamps: StampSource, now: u64, view: ViewNo, me: BrickId) -> 
 }
 
 impl OpenCalls {
-    ghost use Rattle.std.specs.Prelude.{◌≡◌, ◌+◌, ◌-◌, ◌^◌, ◌<◌, ◌≤◌, ℕ, true, None, Some, IfOk, OnOk, OnErr, length, vec_len};
-    ghost use Rattle.std.specs.BTreeMap.{btree_map_len};
+    ghost use Rattle.std.specs.Prelude.{◌≡◌, ◌+◌, ◌-◌, ◌^◌, ◌<◌, ◌≤◌, ℕ, true, None, Some, is_some, IfOk, OnOk, OnErr, length, vec_len};
+    ghost use Rattle.std.specs.BTreeMap.{get, btree_map_len};
+    ghost use Rattle.std.specs.Ordering.{nat_cmp};
     ghost use Rattle.std.specs.Option.{SomeIff};
     ghost use Rattle.std.specs.Result.{result_err};
     ghost use Rattle.fab_base.specs.Layouts as layouts;
@@ -146,6 +147,13 @@ impl OpenCalls {
             Some(refusal) => Err(refusal),
             None => Ok(group),
         }
+    }
+
+    /// Whether the operation of the call of a number is open.
+    pub(crate) fn is_open(&self, seq: u64) -> bool
+        ensures { result ≡ is_some (get nat_cmp self.now.operations seq) }
+    {
+        self.operations.contains_key(&seq)
     }
 
     /// The number of the brick's next call. None where no number is left.
