@@ -1,5 +1,5 @@
 -- Each line is its events.
-use Rattle.std.proofs.Common.{None, refl, sym, ap, ◌∙◌, subst, tt}
+use Rattle.std.proofs.Common.{None, refl, sym, ap, ◌∙◌, subst}
 use Rattle.std.specs.Prelude.{IfOk, OnErr}
 use Rattle.std.proofs.lemmas.Result.{on_err_weaker}
 use Rattle.lines.specs.declared.forms.Line.{Line}
