@@ -13,8 +13,10 @@ use Rattle.protocol.specs.Settings.{Setting}
 use Rattle.protocol.specs.declared.tellings.Answered.{Answered}
 use Rattle.protocol.specs.declared.tellings.Told.{Told}
 use Rattle.protocol.specs.declared.tellings.Told.TheVariants.{Made, Seen}
+use Rattle.protocol.specs.Coordinators.{Coordinator}
 use Rattle.protocol.specs.Nodes.{NodeStep, put, invoked}
 use Rattle.protocol.specs.Worlds.{World, Operation, Event, Delivers, first_world, is_brick, is_up, number_of, with_made, with_seen, with_answer, world_began, world_told, world_tells, world_answered, world_answers, world_stepped, happens, run}
+use Rattle.protocol_laws.proofs.Books.{Books}
 use Rattle.world.proofs.Places.{value_here, value_elsewhere}
 use Rattle.protocol.proofs.Events.{EventCases, step_on, world_counting, world_handled, handled_or_not, stepped_each, started_each, always}
 
@@ -251,3 +253,19 @@ bricks_cases setting w are = record {
 pub of_bricks : (layout : Layout) (events : List Event) → AreOfBricks layout (run (coding layout) events (first_world layout))
 of_bricks layout =
     always (AreOfBricks layout) (coding layout) (λ n o is. absurd (let never : None ≡ Some o = is in cc)) (bricks_cases (coding layout))
+
+-- what books say of operations and open calls: the number of an operation is that of its call
+pub record KnowsCalls (w : World) : Type 0 where
+  pub numbered : (n : ℕ) (o : Operation) → w.operations n ≡ Some o → w.numbers o.brick.0 o.boot o.seq ≡ n
+  pub called : (n : ℕ) (o : Operation) → w.operations n ≡ Some o → o.boot ≡ (w.nodes o.brick.0).boot → o.seq ≤ (w.nodes o.brick.0).seq
+  pub opened : (i k : ℕ) (c : Coordinator) → (w.nodes i).calls k ≡ Some c
+      → (o : Operation) × (w.operations (number_of w i k) ≡ Some o) × (o.brick.0 ≡ i) × (o.boot ≡ (w.nodes i).boot) × (o.seq ≡ k)
+  pub up : (i k : ℕ) (c : Coordinator) → (w.nodes i).calls k ≡ Some c → w.up i ≡ true
+
+pub knows_calls : (setting : Setting) (w : World) → Books setting w → KnowsCalls w
+knows_calls setting w books = record {
+  numbered = λ n o is. (books.operations n o is).number;
+  called = λ n o is at. (books.operations n o is).called.1 at;
+  opened = λ i k c is. (let call = books.calls i k c is in (call.operation, call.operation_is, call.brick, call.boot, call.seq));
+  up = λ i k c is. (books.calls i k c is).up;
+}

@@ -15,7 +15,6 @@ use Rattle.stripe_code.proofs.Soundness.{coding_is_sound}
 use Rattle.calm_laws.specs.Laws.{IsOver, LeavesItsOwn}
 use Rattle.calm_laws.proofs.Discharge.{calm_ends}
 use Rattle.calm_laws.proofs.Leaving.{collects_leave}
-use Rattle.world.specs.Ledgers.{Notes}
 use Rattle.world.specs.Runs.{brick_of}
 use Rattle.world.specs.Shown.{Shows, Comes, Refused, HasRun, HasBegun, IsReachedBy, disks_of, is_empty}
 use Rattle.world.specs.Texts.{marks_text, new_marks, outcome_text, text_of, line_text}
@@ -77,20 +76,21 @@ run_comes layout is w n numbers disks state some reached calm has =
             (subst (λ (v : World). text_of (coding layout) w has.events ≡ marks_text (new_marks w v)) after has.prints);
         kept = has.kept;
       },
-      subst (λ (v : World). Notes state.ledger v) after has.notes,
     )
 
 -- no memory was left for an operation to run alone to its end
 pub begun_refused : (layout : Layout) (w : World) (old new : Simulation) (n : ℕ) (numbers : List ℕ) → IsCalm (coding layout) w n (map brick_of numbers)
     → HasBegun layout w n (map brick_of numbers) (disks_of old.bricks.items) new → Refused layout w old new (Calm n numbers)
 begun_refused layout w old new n numbers calm has =
-    let after : has.last ≡ run (coding layout) has.events w = begins_run (coding layout) n (map brick_of numbers) w has.last has.events has.begins in
-    inr (
-      has.events,
-      record {
-        are = record { calm = calm; last = has.last; begins = has.begins };
-        shows = subst (λ (v : World). Shows layout new v) after has.shows;
-        kept = has.kept;
-      },
-      λ _. subst (λ (v : World). Notes new.ledger v) after has.notes,
+    let after : has.last ≡ run (coding layout) has.events w = begins_run (coding layout) n (map brick_of numbers) w has.last has.events has.begins in (
+      record { line = Calm n numbers; events = has.events } ∷ [],
+      inr (
+        has.events,
+        record {
+          are = record { calm = calm; last = has.last; begins = has.begins };
+          shows = subst (λ (v : World). Shows layout new v) after has.shows;
+          kept = has.kept;
+        },
+        refl,
+      ),
     )

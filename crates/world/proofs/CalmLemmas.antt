@@ -1,13 +1,14 @@
--- When an operation may run alone: as the bricks and the ledger tell.
+-- When an operation may run alone: as the bricks and the history tell.
 use Rattle.protocol_laws.proofs.FirstWorlds.{AreInFirst}
-use Rattle.std.proofs.Common.{◌≡◌, ◌≢◌, ℕ, zero, suc, ◌+◌, ◌<◌, ◌≤◌, Bool, true, false, not, cond, nat_eq, nat_lt, nat_le, ◌&&◌, ◌||◌, ◌-◌, ◌⊎◌, ⊎_elim, List, [], ◌∷◌, length, map, take, drop, take_all, get_or, Option, Some, None, is_some, refl, sym, ap, ◌∙◌, subst, arith}
+use Rattle.std.proofs.Common.{◌≡◌, ◌≢◌, ℕ, zero, suc, ◌+◌, ◌<◌, ◌≤◌, Bool, true, false, not, cond, nat_eq, nat_lt, nat_le, ◌&&◌, ◌||◌, ◌-◌, List, [], ◌∷◌, length, map, take, drop, take_all, get_or, Option, Some, None, is_some, refl, sym, ap, ◌∙◌, subst, arith}
 use Rattle.std.specs.Prelude.{slice_get, slice_index_or, filter}
 use Rattle.std.specs.Bool.{Decides}
 use Rattle.std.specs.List.{IsDistinct, AllByRecursion, list_any}
-use Rattle.std.proofs.lemmas.Bool.{and_parts, eqb-true, eq-eqb}
+use Rattle.std.proofs.lemmas.Bool.{and_parts, eqb-true, eq-eqb, ne_eqb}
 use Rattle.std.proofs.lemmas.Bool.Decides.{nat_tests}
 use Rattle.std.proofs.lemmas.Option.{same_Some, slice_get-map}
 use Rattle.fab_base.specs.declared.identities.BrickId.{BrickId}
+use Rattle.fab_base.specs.declared.identities.GroupId.{GroupId}
 use Rattle.fab_base.specs.declared.asks.Ask.{Ask}
 use Rattle.fab_base.specs.Layouts.{Layout, group_of, seat_in}
 use Rattle.fab_disk.specs.declared.mem_disk.MemDisk.{MemDisk}
@@ -23,12 +24,11 @@ use Rattle.protocol.specs.Settings.{Setting}
 use Rattle.protocol.specs.Worlds.{World, Operation, is_brick, is_up, number_of}
 use Rattle.protocol_laws.proofs.Books.{Books}
 use Rattle.protocol_laws.proofs.FirstViews.{view_first}
-use Rattle.world.specs.Ledgers.{Notes, NotesOrigin, origin_at}
-use Rattle.world.specs.declared.ledgers.Ledger.{Ledger}
-use Rattle.world.specs.declared.ledgers.Origin.{Origin}
-use Rattle.world.proofs.LedgerLemmas.{slice_get_not_none}
+use Rattle.world.specs.declared.histories.History.{History}
+use Rattle.world.specs.declared.histories.OperationRecord.{OperationRecord}
+use Rattle.world.proofs.Places.{slice_get_not_none}
 use Rattle.world.specs.Runs.{brick_of}
-use Rattle.world.specs.Shown.{ShowsBricks, IsRunning, IsAble, IsInTime}
+use Rattle.world.specs.Shown.{ShowsBricks, IsRunning, IsAble, IsInTime, Tells, TellsOperation, record_at}
 use Rattle.world.specs.declared.bricks.Brick.{Brick}
 use Rattle.world.specs.declared.bricks.Power.TheVariants.{Up, Down}
 use Rattle.world.proofs.BrickListLemmas.{runs_at, rests_at}
@@ -142,61 +142,57 @@ distinct_not (x ∷ xs) b some twice is =
       λ all. absurd (let never : true ≡ false = sym twice ∙ ap (list_any (λ y. nat_eq y x)) behind ∙ again x xs all.0 in cc),
     )
 
--- the operation of a number that the ledger has none of is not open
-pub open_nowhere : (setting : Setting) (w : World) (ledger : Ledger) (n : ℕ) → Books setting w → Notes ledger w → origin_at ledger.origins.items n ≡ None
-    → open_call w n ≡ None
-open_nowhere setting w ledger n books notes none = by_operation (w.operations n) refl
+-- the operation of a number of which nothing is kept is not open
+pub open_nowhere : (setting : Setting) (w : World) (history : History) (n : ℕ) → Books setting w → Tells history w
+    → record_at history.operations.items n ≡ None → open_call w n ≡ None
+open_nowhere setting w history n books tells none = by_operation (w.operations n) refl
   where
-    at_place : (k : ℕ) → origin_at ledger.origins.items k ≡ None → 1 ≤ k → k ≤ w.begun → ⊥
+    at_place : (k : ℕ) → record_at history.operations.items k ≡ None → 1 ≤ k → k ≤ w.begun → ⊥
     at_place zero is least most = omega arith
-    at_place (suc k) is least most = slice_get_not_none ledger.origins.items k (omega (arith, notes.count)) is
+    at_place (suc k) is least most = slice_get_not_none history.operations.items k (omega (arith, tells.begun)) is
 
     by_operation : (found : Option Operation) → w.operations n ≡ found → open_at w found ≡ None
     by_operation None is = refl
     by_operation (Some o) is = (let its = books.operations n o is in absurd (at_place n none its.from_one its.begun))
 
--- what is noted of the operation of a number
-pub noted_at : (w : World) (ledger : Ledger) (n : ℕ) (origin : Origin) → Notes ledger w → origin_at ledger.origins.items n ≡ Some origin
-    → (o : Operation) × (w.operations n ≡ Some o) × NotesOrigin w origin o × (n ≢ 0)
-noted_at w ledger zero origin notes is = absurd (let never : None ≡ Some origin = is in cc)
-noted_at w ledger (suc n) origin notes is =
-    let its = notes.origins n origin is in
+-- what is kept of the operation of a number
+pub kept_at : (w : World) (history : History) (n : ℕ) (kept : OperationRecord) → Tells history w → record_at history.operations.items n ≡ Some kept
+    → (o : Operation) × (w.operations n ≡ Some o) × TellsOperation kept o × (n ≢ 0)
+kept_at w history zero kept tells is = absurd (let never : None ≡ Some kept = is in cc)
+kept_at w history (suc n) kept tells is =
+    let its = tells.operations n kept is in
     (its.0, ap w.operations (let same : suc n ≡ n + 1 = omega arith in same) ∙ its.1, its.2, λ e. omega arith)
 
--- an operation whose brick is not up, or was started since, or that has ended, is not open
-pub open_shut : (w : World) (n : ℕ) (o : Operation) (origin : Origin) → w.operations n ≡ Some o → NotesOrigin w origin o
-    → (w.up origin.brick.0 ≡ false) ⊎ ((origin.ended ≡ true) ⊎ ((w.nodes origin.brick.0).boot ≢ origin.boot)) → open_call w n ≡ None
-open_shut w n o origin is its why =
-    ap (open_at w) is ∙ by_up (w.up o.brick.0) refl
-  where
-    by_boot : (x : Bool) → w.up o.brick.0 ≡ true → nat_eq (w.nodes o.brick.0).boot o.boot ≡ x → cond x ((w.nodes o.brick.0).calls o.seq) None ≡ None
-    by_boot true up same = ⊎_elim
-        (λ (down : w.up origin.brick.0 ≡ false). absurd (let never : true ≡ false = sym up ∙ ap (λ (b : BrickId). w.up b.0) (sym its.brick) ∙ down in cc))
-        (λ (other : (origin.ended ≡ true) ⊎ ((w.nodes origin.brick.0).boot ≢ origin.boot)). ⊎_elim
-        (λ (ended : origin.ended ≡ true). none_of ((w.nodes o.brick.0).calls o.seq) (its.ended up (eqb-true _ _ same) ∙ ap not ended))
-        (λ (later : (w.nodes origin.brick.0).boot ≢ origin.boot).
-        absurd (later (ap (λ (b : BrickId). (w.nodes b.0).boot) its.brick ∙ eqb-true _ _ same ∙ sym its.boot))) other) why
-      where
-        none_of : (found : Option Coordinator) → is_some found ≡ false → found ≡ None
-        none_of None is_none = refl
-        none_of (Some c) is_none = absurd (let never : true ≡ false = is_none in cc)
-    by_boot false up other = refl
+-- whether the operation of which this is kept is open
+module _ (w : World) (n : ℕ) (o : Operation) (kept : OperationRecord) (is : w.operations n ≡ Some o) (its : TellsOperation kept o) where
+  open_kept : open_call w n
+      ≡ cond (w.up kept.brick.0 && nat_eq (w.nodes kept.brick.0).boot kept.boot) ((w.nodes kept.brick.0).calls kept.seq) None
+  open_kept =
+      ap (open_at w) is
+      ∙ ap (λ (b : BrickId). cond (w.up b.0 && nat_eq (w.nodes b.0).boot o.boot) ((w.nodes b.0).calls o.seq) None) (sym its.brick)
+      ∙ ap (λ (t : ℕ). cond (w.up kept.brick.0 && nat_eq (w.nodes kept.brick.0).boot t) ((w.nodes kept.brick.0).calls o.seq) None) (sym its.boot)
+      ∙ ap (λ (k : ℕ). cond (w.up kept.brick.0 && nat_eq (w.nodes kept.brick.0).boot kept.boot) ((w.nodes kept.brick.0).calls k) None) (sym its.seq)
 
-    by_up : (x : Bool) → w.up o.brick.0 ≡ x
-        → cond (x && nat_eq (w.nodes o.brick.0).boot o.boot) ((w.nodes o.brick.0).calls o.seq) None ≡ None
-    by_up true up = by_boot (nat_eq (w.nodes o.brick.0).boot o.boot) up refl
-    by_up false down = refl
+  -- its brick is down, or was started since
+  pub open_down : w.up kept.brick.0 ≡ false → open_call w n ≡ None
+  open_down down =
+      open_kept ∙ ap (λ (b : Bool). cond (b && nat_eq (w.nodes kept.brick.0).boot kept.boot) ((w.nodes kept.brick.0).calls kept.seq) None) down
 
--- else it is
-pub open_there : (w : World) (n : ℕ) (o : Operation) (origin : Origin) → w.operations n ≡ Some o → NotesOrigin w origin o → w.up origin.brick.0 ≡ true
-    → origin.ended ≡ false → (w.nodes origin.brick.0).boot ≡ origin.boot → is_some (open_call w n) ≡ true
-open_there w n o origin is its up ended boot =
-    let here : w.up o.brick.0 ≡ true = ap (λ (b : BrickId). w.up b.0) (sym its.brick) ∙ up in
-    let same : (w.nodes o.brick.0).boot ≡ o.boot = ap (λ (b : BrickId). (w.nodes b.0).boot) (sym its.brick) ∙ boot ∙ its.boot in
-    ap (λ (found : Option Operation). is_some (open_at w found)) is
-    ∙ ap (λ (b : Bool). is_some (cond (b && nat_eq (w.nodes o.brick.0).boot o.boot) ((w.nodes o.brick.0).calls o.seq) None)) here
-    ∙ ap (λ (b : Bool). is_some (cond b ((w.nodes o.brick.0).calls o.seq) None)) (eq-eqb (w.nodes o.brick.0).boot o.boot same)
-    ∙ its.ended here same ∙ ap not ended
+  pub open_later : w.up kept.brick.0 ≡ true → (w.nodes kept.brick.0).boot ≢ kept.boot → open_call w n ≡ None
+  open_later up later =
+      open_kept ∙ ap (λ (b : Bool). cond (b && nat_eq (w.nodes kept.brick.0).boot kept.boot) ((w.nodes kept.brick.0).calls kept.seq) None) up
+      ∙ ap (λ (b : Bool). cond b ((w.nodes kept.brick.0).calls kept.seq) None) (ne_eqb (w.nodes kept.brick.0).boot kept.boot later)
+
+  -- else its brick tells
+  pub open_here_is : w.up kept.brick.0 ≡ true → (w.nodes kept.brick.0).boot ≡ kept.boot → open_call w n ≡ (w.nodes kept.brick.0).calls kept.seq
+  open_here_is up boot =
+      open_kept ∙ ap (λ (b : Bool). cond (b && nat_eq (w.nodes kept.brick.0).boot kept.boot) ((w.nodes kept.brick.0).calls kept.seq) None) up
+      ∙ ap (λ (b : Bool). cond b ((w.nodes kept.brick.0).calls kept.seq) None) (eq-eqb (w.nodes kept.brick.0).boot kept.boot boot)
+
+-- nothing that is there is none
+pub none_of : {A : Type 0} (found : Option A) → is_some found ≡ false → found ≡ None
+none_of None is = refl
+none_of (Some x) is = absurd (let never : true ≡ false = is in cc)
 
 -- a brick of the layout that is not found up is down
 pub down_is : (layout : Layout) (w : World) (brick : BrickId) → is_brick layout brick ≡ true → is_up layout w brick ≡ false → w.up brick.0 ≡ false
@@ -210,6 +206,11 @@ up_of layout w brick up = (and_parts (is_brick layout brick) (w.up brick.0) up).
 pub running_boot : (layout : Layout) (me : BrickId) (state : Node) (node : Running MemDisk) → IsRunning layout me state node
     → state.boot ≡ (state_of node).boot
 running_boot layout me state node is = ap (λ (x : Node). x.boot) (sym is.state_is)
+
+-- so are its open calls
+pub running_open : (layout : Layout) (me : BrickId) (state : Node) (node : Running MemDisk) (k : ℕ) → IsRunning layout me state node
+    → is_some (state.calls k) ≡ is_some ((state_of node).calls k)
+running_open layout me state node k is = ap (λ (x : Node). is_some (x.calls k)) (sym is.state_is)
 
 -- an open operation: what it asks is what its coordinator was asked, of the group that the coordinator knows
 pub record IsOpenAt (setting : Setting) (w : World) (n : ℕ) (c : Coordinator) : Type 0 where
@@ -356,30 +357,36 @@ parts_of layout w n numbers c opens at up calm =
       untouched = calm.untouched;
     }
 
--- an operation that is open, as the ledger notes it
-pub record Here (layout : Layout) (w : World) (n : ℕ) (origin : Origin) : Type 0 where
+-- an operation that is open, and of which this is kept
+pub record Here (layout : Layout) (w : World) (n : ℕ) (kept : OperationRecord) : Type 0 where
   pub coordinator : Coordinator
   pub opens : open_call w n ≡ Some coordinator
   pub at : IsOpenAt (coding layout) w n coordinator
   pub up : is_up layout w at.operation.brick ≡ true
-  pub noted : NotesOrigin w origin at.operation
+  pub same : TellsOperation kept at.operation
   pub some : n ≢ 0
 
-pub open_here : (layout : Layout) (w : World) (n : ℕ) (ledger : Ledger) (origin : Origin) → Books (coding layout) w → AreInFirst (coding layout) w → AreOfBricks layout w → Notes ledger w
-    → is_some (open_call w n) ≡ true → origin_at ledger.origins.items n ≡ Some origin → Here layout w n origin
-open_here layout w n ledger origin books first there notes goes is = by_call (open_call w n) refl goes
+pub open_here : (layout : Layout) (w : World) (n : ℕ) (history : History) (kept : OperationRecord) → Books (coding layout) w
+    → AreInFirst (coding layout) w → AreOfBricks layout w → Tells history w
+    → is_some (open_call w n) ≡ true → record_at history.operations.items n ≡ Some kept → Here layout w n kept
+open_here layout w n history kept books first there tells goes is = by_call (open_call w n) refl goes
   where
-    by_call : (found : Option Coordinator) → open_call w n ≡ found → is_some found ≡ true → Here layout w n origin
+    by_call : (found : Option Coordinator) → open_call w n ≡ found → is_some found ≡ true → Here layout w n kept
     by_call None none e = absurd (let never : false ≡ true = e in cc)
     by_call (Some c) opens e =
         let at = open_parts (coding layout) w n c books first opens in
-        let its = noted_at w ledger n origin notes is in
+        let its = kept_at w history n kept tells is in
         let same : its.0 ≡ at.operation = same_Some its.0 at.operation (sym its.1 ∙ at.is) in
         record {
           coordinator = c;
           opens = opens;
           at = at;
           up = ap (λ (b : Bool). b && w.up at.operation.brick.0) (there n at.operation at.is) ∙ at.up;
-          noted = subst (λ (o : Operation). NotesOrigin w origin o) same its.2;
+          same = subst (λ (o : Operation). TellsOperation kept o) same its.2;
           some = its.3;
         }
+
+-- its group is the one that is kept
+pub group_is : (layout : Layout) (w : World) (n : ℕ) (kept : OperationRecord) (here : Here layout w n kept)
+    → group_of layout kept.group.0 ≡ Some here.coordinator.group
+group_is layout w n kept here = ap (λ (g : GroupId). group_of layout g.0) here.same.group ∙ here.at.group_is

@@ -27,31 +27,21 @@ use Rattle.world.specs.Calms.{BeginsAlone}
 use Rattle.world.specs.Calms as begun
 use Rattle.world.specs.Disks.{KeepsDisks}
 use Rattle.world.specs.Faults.{StopsMidway, IsDelivered}
-use Rattle.world.specs.Ledgers.{Notes, NotesOrigin, NoneLeft, FindsLeft, is_left_at}
+use Rattle.world.specs.Deliveries.{NoneLeft, FindsLeft, is_left_at}
 use Rattle.world.specs.Runs.{brick_of}
-use Rattle.world.specs.Shown.{Shows, Comes, HasRun, HasBegun, IsReachedBy, OpensAs, disks_of, is_empty}
+use Rattle.world.specs.Shown.{Shows, Comes, HasRun, HasBegun, IsReachedBy, IsReachable, OpensAs, TellsOperation, disks_of, is_empty}
 use Rattle.world.specs.Texts.{marks_if, is_deliverable, mark_text, marks_text, new_marks, outcome_text, event_text, text_of}
-use Rattle.world.specs.declared.ledgers.Origin.{Origin}
+use Rattle.world.specs.declared.histories.OperationRecord.{OperationRecord}
 use Rattle.world.specs.declared.simulations.Outcome.{Outcome}
 use Rattle.world.specs.declared.simulations.Simulation.{Simulation}
-use Rattle.world.proofs.CallNumbers.{NumbersSay, AreOfBricks, deliver_same, of_bricks}
-use Rattle.world.proofs.CalmLemmas.{noted_at}
+use Rattle.world.proofs.CallNumbers.{NumbersSay, AreOfBricks, KnowsCalls, deliver_same, of_bricks}
+use Rattle.world.proofs.CalmLemmas.{kept_at}
 use Rattle.world.proofs.CalmRuns.{begins_more, begins_run, runs_ended, runs_stuck, keeps_more, left_as, next_found, next_none}
-use Rattle.world.proofs.LedgerLemmas.{KnowsCalls, told_reached, answers_reached}
+use Rattle.world.proofs.HistoryLemmas.{heard_keeps}
 use Rattle.world.proofs.MachineBegins.{happens_handled}
 use Rattle.world.proofs.Places.{append_get}
 use Rattle.world.proofs.RunLaws.{reached_numbers, reached_knows}
 use Rattle.protocol.proofs.Events.{run-append, world_handled}
-
--- what is told and answered stops no brick
-told_up : (setting : Setting) (w : World) (brick : BrickId) (told : List Told) → (world_tells setting w brick told).up ≡ w.up
-told_up setting w brick [] = refl
-told_up setting w brick (Made seq t base ∷ more) = told_up setting (world_told setting w brick (Made seq t base)) brick more
-told_up setting w brick (Seen seq v ∷ more) = told_up setting (world_told setting w brick (Seen seq v)) brick more
-
-answers_up : (w : World) (brick : BrickId) (answers : List Answered) → (world_answers w brick answers).up ≡ w.up
-answers_up w brick [] = refl
-answers_up w brick (one ∷ more) = answers_up (world_answered w brick one) brick more
 
 -- what is told makes no mark, and what is answered adds some
 told_marks : (setting : Setting) (w : World) (brick : BrickId) (told : List Told) → (world_tells setting w brick told).marks ≡ w.marks
@@ -94,13 +84,11 @@ module _ (setting : Setting) (w : World) (number : ℕ) (packet : Packet) (sent 
   reached_after : (k : ℕ) → (happens setting w (Delivers number)).reached k ≡ put w.reached number true k
   reached_after k =
       ap (λ (v : World). v.reached k) after_is
-      ∙ ap (λ (f : ℕ → Bool). f k)
-      (answers_reached (world_tells setting marked packet.to step.told) packet.to step.answers ∙ told_reached setting marked packet.to step.told)
+      ∙ ap (λ (f : ℕ → Bool). f k) (heard_keeps setting marked packet.to step).reached
 
   up_after : (happens setting w (Delivers number)).up ≡ w.up
   up_after =
-      ap (λ (v : World). v.up) after_is
-      ∙ (answers_up (world_tells setting marked packet.to step.told) packet.to step.answers ∙ told_up setting marked packet.to step.told)
+      ap (λ (v : World). v.up) after_is ∙ (heard_keeps setting marked packet.to step).up
 
   marks_after : (made : List Mark) × ((happens setting w (Delivers number)).marks ≡ w.marks ++ made)
   marks_after =
@@ -210,18 +198,13 @@ receiver_up layout w n bricks packet says of_brick some opens ups = by_message p
         subst (λ (i : ℕ). is_up layout w (brick_of i) ≡ true) found.1.2.0 there
     by_message from to message its goes = absurd (let never : false ≡ true = goes in cc)
 
--- a schedule reaches the state's world
-abbrev pub Stands : Layout → Simulation → Type 0
-Stands layout state = (w : World) × IsReachedBy layout w × Shows layout state w × Notes state.ledger w
-
--- so it does after a line
+-- a schedule reaches the world that a state shows after a line
 pub stands_on : (layout : Layout) (w : World) (disks : List MemDisk) (state : Simulation) (line : _) (outcome : Outcome) → IsReachedBy layout w
-    → Comes layout w disks state line outcome → Stands layout state
-stands_on layout w disks state line outcome (before, is) (events, comes, notes) = (
+    → Comes layout w disks state line outcome → IsReachable layout state
+stands_on layout w disks state line outcome (before, is) (events, comes) = (
   run (coding layout) events w,
   (before ++ events, ap (run (coding layout) events) is ∙ sym (run-append (coding layout) (first_world layout) before events)),
   comes.shows,
-  notes,
 )
 
 -- The deliveries so far were made alone, and none of the messages that were looked at is left.
@@ -231,7 +214,6 @@ pub record SoFar (layout : Layout) (w : World) (n : ℕ) (numbers : List ℕ) (d
   pub begins : BeginsAlone (coding layout) n (map brick_of numbers) w events last
   pub reached : IsReachedBy layout last
   pub shows : Shows layout state last
-  pub notes : Notes state.ledger last
   pub kept : KeepsDisks (coding layout) w events disks (disks_of state.bricks.items)
   pub some_is : some ≡ not (is_empty events)
   pub made : List Mark
@@ -247,14 +229,13 @@ some_more (first ∷ events) event = refl
 
 -- there is none at first
 pub none_yet : (layout : Layout) (w : World) (n : ℕ) (numbers : List ℕ) (state : Simulation) → IsReachedBy layout w → Shows layout state w
-    → Notes state.ledger w → SoFar layout w n numbers (disks_of state.bricks.items) state 0 false
-none_yet layout w n numbers state reached shows notes = record {
+    → SoFar layout w n numbers (disks_of state.bricks.items) state 0 false
+none_yet layout w n numbers state reached shows = record {
   events = [];
   last = w;
   begins = begun.Here w;
   reached = reached;
   shows = shows;
-  notes = notes;
   kept = refl;
   some_is = refl;
   made = [];
@@ -281,14 +262,13 @@ module _ (layout : Layout) (w : World) (n : ℕ) (numbers : List ℕ) (disks : L
     last = so.last;
     runs = runs_ended (coding layout) n bricks w so.last so.events so.begins ended;
     shows = so.shows;
-    notes = so.notes;
     kept = so.kept;
   }
 
   -- it is open, and began there
-  module _ (origin : Origin) (opens : OpensAs state so.last n (Some origin)) where
-    noted : (o : Operation) × (so.last.operations n ≡ Some o) × NotesOrigin so.last origin o × (n ≢ 0)
-    noted = noted_at so.last state.ledger n origin so.notes opens.1
+  module _ (kept : OperationRecord) (opens : OpensAs state so.last n (Some kept)) where
+    noted : (o : Operation) × (so.last.operations n ≡ Some o) × TellsOperation kept o × (n ≢ 0)
+    noted = kept_at so.last state.history n kept so.shows.history opens.1
 
     says : NumbersSay so.last
     says = reached_numbers layout so.last so.reached
@@ -296,16 +276,16 @@ module _ (layout : Layout) (w : World) (n : ℕ) (numbers : List ℕ) (disks : L
     knows : KnowsCalls so.last
     knows = reached_knows layout so.last so.reached
 
-    -- what is left is what the ledger tells
-    left_is : (k : ℕ) (packet : Packet) → is_left so.last n bricks (k + 1) packet ≡ is_left_at state.ledger.reached.items origin numbers k packet
+    -- what is left is what the history tells
+    left_is : (k : ℕ) (packet : Packet) → is_left so.last n bricks (k + 1) packet ≡ is_left_at state.history.delivered.reached.items kept numbers k packet
     left_is =
-        left_as so.last n noted.0 says knows noted.3 noted.1 state.ledger origin numbers so.notes noted.2.brick noted.2.boot noted.2.seq
+        left_as so.last n noted.0 says knows noted.3 noted.1 state.history kept so.shows.history noted.2 numbers
 
-    none_before : NoneLeft state.ledger.reached.items origin numbers so.last.packets 0 from
+    none_before : NoneLeft state.history.delivered.reached.items kept numbers so.last.packets 0 from
     none_before k packet least less at = sym (left_is k packet) ∙ so.seen k packet less at
 
     -- none of its messages is left
-    pub has_stuck : FindsLeft state.ledger.reached.items origin numbers from so.last.packets None
+    pub has_stuck : FindsLeft state.history.delivered.reached.items kept numbers from so.last.packets None
         → HasRun layout w n bricks disks state some
     has_stuck none = record {
       events = so.events;
@@ -314,25 +294,23 @@ module _ (layout : Layout) (w : World) (n : ℕ) (numbers : List ℕ) (disks : L
       last = so.last;
       runs =
           runs_stuck (coding layout) n bricks w so.last so.events so.begins opens.0
-          (next_none so.last n noted.0 says knows noted.3 noted.1 state.ledger origin numbers so.notes noted.2.brick noted.2.boot noted.2.seq from
+          (next_none so.last n noted.0 says knows noted.3 noted.1 state.history kept so.shows.history noted.2 numbers from
           none_before none);
       shows = so.shows;
-      notes = so.notes;
       kept = so.kept;
     }
 
     -- one is, and is delivered
     pub goes_on : (place : ℕ) (next : Simulation) (outcome : Outcome)
-        → FindsLeft state.ledger.reached.items origin numbers from so.last.packets (Some place)
+        → FindsLeft state.history.delivered.reached.items kept numbers from so.last.packets (Some place)
         → Comes layout so.last (disks_of state.bricks.items) next (Deliver (place + 1) None) outcome
         → SoFar layout w n numbers disks next (place + 1) true
-    goes_on place next outcome found (events, comes, notes) = record {
+    goes_on place next outcome found (events, comes) = record {
       events = so.events ++ Delivers (place + 1) ∷ [];
       last = happens (coding layout) so.last (Delivers (place + 1));
       begins = begins_more (coding layout) n bricks w so.last so.events (place + 1) so.begins opens.0 its_next;
       reached = (so.reached.0 ++ Delivers (place + 1) ∷ [], reached_is);
       shows = subst (λ (l : List Event). Shows layout next (run (coding layout) l so.last)) one comes.shows;
-      notes = subst (λ (l : List Event). Notes next.ledger (run (coding layout) l so.last)) one notes;
       kept =
           keeps_more (coding layout) w so.events (Delivers (place + 1) ∷ []) disks (disks_of state.bricks.items) (disks_of next.bricks.items) so.kept
           (subst (λ (v : World). KeepsDisks (coding layout) v (Delivers (place + 1) ∷ []) (disks_of state.bricks.items) (disks_of next.bricks.items))
@@ -388,7 +366,7 @@ module _ (layout : Layout) (w : World) (n : ℕ) (numbers : List ℕ) (disks : L
 
         its_next : next_delivery so.last n bricks ≡ Some (place + 1)
         its_next =
-            next_found so.last n noted.0 says knows noted.3 noted.1 state.ledger origin numbers so.notes noted.2.brick noted.2.boot noted.2.seq from
+            next_found so.last n noted.0 says knows noted.3 noted.1 state.history kept so.shows.history noted.2 numbers from
             place none_before found
 
         one : events ≡ Delivers (place + 1) ∷ []
@@ -404,13 +382,12 @@ module _ (layout : Layout) (w : World) (n : ℕ) (numbers : List ℕ) (disks : L
             ∙ sym (run-append (coding layout) (first_world layout) so.reached.0 (Delivers (place + 1) ∷ []))
 
   -- no memory was left for a delivery
-  pub has_begun : (next : Simulation) → Shows layout next so.last → Notes next.ledger so.last
+  pub has_begun : (next : Simulation) → Shows layout next so.last
       → map content_of (disks_of next.bricks.items) ≡ map content_of (disks_of state.bricks.items) → HasBegun layout w n bricks disks next
-  has_begun next shows notes contents = record {
+  has_begun next shows contents = record {
     events = so.events;
     last = so.last;
     begins = so.begins;
     shows = shows;
-    notes = notes;
     kept = record { mid = disks_of state.bricks.items; kept = so.kept; contents = contents };
   }

@@ -13,12 +13,12 @@ use Rattle.protocol.specs.Calms.{RunsAlone, Ended, Stuck, Next, IsUntouched, ope
 use Rattle.world.specs.Calms.{BeginsAlone}
 use Rattle.world.specs.Calms as begun
 use Rattle.world.specs.Disks.{KeepsDisks}
-use Rattle.world.specs.Ledgers.{Notes, NoneLeft, FindsLeft, IsUntouchedAt, is_of, is_left_at}
+use Rattle.world.specs.Deliveries.{NoneLeft, FindsLeft, IsUntouchedAt, is_of, is_left_at}
 use Rattle.world.specs.Runs.{brick_of}
-use Rattle.world.specs.declared.ledgers.Ledger.{Ledger}
-use Rattle.world.specs.declared.ledgers.Origin.{Origin}
-use Rattle.world.proofs.CallNumbers.{NumbersSay}
-use Rattle.world.proofs.LedgerLemmas.{KnowsCalls}
+use Rattle.world.specs.Shown.{Tells, TellsOperation}
+use Rattle.world.specs.declared.histories.History.{History}
+use Rattle.world.specs.declared.histories.OperationRecord.{OperationRecord}
+use Rattle.world.proofs.CallNumbers.{NumbersSay, KnowsCalls}
 
 -- one delivery more
 pub begins_more : (setting : Setting) (n : ℕ) (bricks : List BrickId) (w v : World) (events : List Event) (number : ℕ)
@@ -125,62 +125,56 @@ module _ (w : World) (n : ℕ) (o : Operation) (says : NumbersSay w) (knows : Kn
       by_message from to (Message.Reply call reply) = is_its to.0 call.boot call.seq
       by_message from to message = ne_eqb 0 n (λ none. some (sym none))
 
-  -- a message is left as the ledger tells
-  module _ (ledger : Ledger) (origin : Origin) (numbers : List ℕ) (notes : Notes ledger w)
-      (brick : origin.brick ≡ o.brick) (boot : origin.boot ≡ o.boot) (seq : origin.seq ≡ o.seq) where
-    pub left_as : (k : ℕ) (packet : Packet)
-        → is_left w n (map brick_of numbers) (k + 1) packet ≡ is_left_at ledger.reached.items origin numbers k packet
-    left_as k packet =
-        ap (λ (b : Bool). b && (not (w.reached (k + 1)) && goes_among (map brick_of numbers) packet)) (of_operation packet ∙ sym its)
-        ∙ ap (λ (b : Bool). is_of origin.brick.0 origin.boot origin.seq packet && (not b && goes_among (map brick_of numbers) packet)) (sym (notes.reached k))
-      where
-        its : is_of origin.brick.0 origin.boot origin.seq packet ≡ is_of o.brick.0 o.boot o.seq packet
-        its =
-            ap (λ (b : BrickId). is_of b.0 origin.boot origin.seq packet) brick
-            ∙ ap (λ (b : ℕ). is_of o.brick.0 b origin.seq packet) boot ∙ ap (λ (k : ℕ). is_of o.brick.0 o.boot k packet) seq
+  -- of what a history tells of it
+  module _ (history : History) (kept : OperationRecord) (tells : Tells history w) (same : TellsOperation kept o) where
+    abbrev reached : List Bool
+    reached = history.delivered.reached.items
+
+    of_kept : (packet : Packet) → nat_eq (operation_of w packet) n ≡ is_of kept.brick.0 kept.boot kept.seq packet
+    of_kept packet =
+        of_operation packet
+        ∙ sym (ap (λ (b : BrickId). is_of b.0 kept.boot kept.seq packet) same.brick
+        ∙ ap (λ (b : ℕ). is_of o.brick.0 b kept.seq packet) same.boot ∙ ap (λ (k : ℕ). is_of o.brick.0 o.boot k packet) same.seq)
+
+    -- a message is left
+    pub left_as : (numbers : List ℕ) (k : ℕ) (packet : Packet)
+        → is_left w n (map brick_of numbers) (k + 1) packet ≡ is_left_at reached kept numbers k packet
+    left_as numbers k packet =
+        ap (λ (b : Bool). b && (not (w.reached (k + 1)) && goes_among (map brick_of numbers) packet)) (of_kept packet)
+        ∙ ap (λ (b : Bool). is_of kept.brick.0 kept.boot kept.seq packet && (not b && goes_among (map brick_of numbers) packet)) (sym (tells.reached k))
 
     -- the message that was found is the next
-    pub next_found : (from place : ℕ) → NoneLeft ledger.reached.items origin numbers w.packets 0 from
-        → FindsLeft ledger.reached.items origin numbers from w.packets (Some place) → next_delivery w n (map brick_of numbers) ≡ Some (place + 1)
-    next_found from place before found =
-        first_found (is_left w n (map brick_of numbers)) 1 w.packets place found.2.0 found.2.1 (left_as place found.2.0 ∙ found.2.2)
-        (λ k one less at. left_as k one ∙ by_from k one less at (cases_lt k from))
+    pub next_found : (numbers : List ℕ) (from place : ℕ) → NoneLeft reached kept numbers w.packets 0 from
+        → FindsLeft reached kept numbers from w.packets (Some place) → next_delivery w n (map brick_of numbers) ≡ Some (place + 1)
+    next_found numbers from place before found =
+        first_found (is_left w n (map brick_of numbers)) 1 w.packets place found.2.0 found.2.1 (left_as numbers place found.2.0 ∙ found.2.2)
+        (λ k one less at. left_as numbers k one ∙ by_from k one less at (cases_lt k from))
       where
         by_from : (k : ℕ) (one : Packet) → k < place → slice_get w.packets k ≡ Some one → (k < from) ⊎ (from ≤ k)
-            → is_left_at ledger.reached.items origin numbers k one ≡ false
+            → is_left_at reached kept numbers k one ≡ false
         by_from k one less at (inl earlier) = before k one (omega arith) earlier at
         by_from k one less at (inr later) = found.1 k one later less at
 
-    pub next_none : (from : ℕ) → NoneLeft ledger.reached.items origin numbers w.packets 0 from
-        → FindsLeft ledger.reached.items origin numbers from w.packets None → next_delivery w n (map brick_of numbers) ≡ None
-    next_none from before none =
-        first_none (is_left w n (map brick_of numbers)) 1 w.packets (λ k one at. left_as k one ∙ by_from k one at (cases_lt k from))
+    pub next_none : (numbers : List ℕ) (from : ℕ) → NoneLeft reached kept numbers w.packets 0 from
+        → FindsLeft reached kept numbers from w.packets None → next_delivery w n (map brick_of numbers) ≡ None
+    next_none numbers from before none =
+        first_none (is_left w n (map brick_of numbers)) 1 w.packets (λ k one at. left_as numbers k one ∙ by_from k one at (cases_lt k from))
       where
         by_from : (k : ℕ) (one : Packet) → slice_get w.packets k ≡ Some one → (k < from) ⊎ (from ≤ k)
-            → is_left_at ledger.reached.items origin numbers k one ≡ false
+            → is_left_at reached kept numbers k one ≡ false
         by_from k one at (inl earlier) = before k one (omega arith) earlier at
         by_from k one at (inr later) = none k one later (slice_get_within w.packets k one at) at
 
--- no message of the operation was delivered where the ledger tells of none
-module _ (w : World) (n : ℕ) (o : Operation) (says : NumbersSay w) (knows : KnowsCalls w) (some : n ≢ 0) (is : w.operations n ≡ Some o)
-    (ledger : Ledger) (origin : Origin) (sent : List Packet) (notes : Notes ledger w) (same : sent ≡ w.packets)
-    (brick : origin.brick ≡ o.brick) (boot : origin.boot ≡ o.boot) (seq : origin.seq ≡ o.seq) where
-  of_origin : (packet : Packet) → nat_eq (operation_of w packet) n ≡ is_of origin.brick.0 origin.boot origin.seq packet
-  of_origin packet =
-      of_operation w n o says knows some is packet
-      ∙ sym (ap (λ (b : BrickId). is_of b.0 origin.boot origin.seq packet) brick
-      ∙ ap (λ (b : ℕ). is_of o.brick.0 b origin.seq packet) boot ∙ ap (λ (k : ℕ). is_of o.brick.0 o.boot k packet) seq)
+    -- no message of the operation was delivered where none is noted
+    pub untouched_as : (sent : List Packet) → sent ≡ w.packets → IsUntouchedAt reached sent kept true → IsUntouched w n
+    untouched_as sent are none zero packet at of = absurd (let never : None ≡ Some packet = at in cc)
+    untouched_as sent are none (suc k) packet at of =
+        ap w.reached (let one : suc k ≡ k + 1 = omega arith in one) ∙ sym (tells.reached k)
+        ∙ none k packet (ap (λ (l : List Packet). slice_get l k) are ∙ at) (sym (of_kept packet) ∙ eq-eqb (operation_of w packet) n of)
 
-  pub untouched_as : IsUntouchedAt ledger.reached.items sent origin true → IsUntouched w n
-  untouched_as none zero packet at of = absurd (let never : None ≡ Some packet = at in cc)
-  untouched_as none (suc k) packet at of =
-      let its : nat_eq (operation_of w packet) n ≡ true = eq-eqb (operation_of w packet) n of in
-      ap w.reached (let one : suc k ≡ k + 1 = omega arith in one) ∙ sym (notes.reached k)
-      ∙ none k packet (ap (λ (l : List Packet). slice_get l k) same ∙ at) (sym (of_origin packet) ∙ its)
-
-  pub touched_as : IsUntouchedAt ledger.reached.items sent origin false → IsUntouched w n → ⊥
-  touched_as (k, packet, at, of, marked) untouched =
-      let number : suc k ≡ k + 1 = omega arith in
-      let none : w.reached (suc k) ≡ false =
-      untouched (suc k) packet (ap (λ (l : List Packet). slice_get l k) (sym same) ∙ at) (eqb-true (operation_of w packet) n (of_origin packet ∙ of)) in
-      (let never : true ≡ false = sym marked ∙ notes.reached k ∙ ap w.reached (sym number) ∙ none in cc)
+    pub touched_as : (sent : List Packet) → sent ≡ w.packets → IsUntouchedAt reached sent kept false → IsUntouched w n → ⊥
+    touched_as sent are (k, packet, at, of, marked) untouched =
+        let number : suc k ≡ k + 1 = omega arith in
+        let none : w.reached (suc k) ≡ false =
+        untouched (suc k) packet (ap (λ (l : List Packet). slice_get l k) (sym are) ∙ at) (eqb-true (operation_of w packet) n (of_kept packet ∙ of)) in
+        (let never : true ≡ false = sym marked ∙ tells.reached k ∙ ap w.reached (sym number) ∙ none in cc)

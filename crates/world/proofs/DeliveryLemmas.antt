@@ -1,11 +1,10 @@
 -- What a line that delivers a message, or another line, comes to.
-use Rattle.std.proofs.Common.{◌≡◌, ◌⊎◌, inl, inr, ⊎_elim, ℕ, ◌+◌, Bool, true, false, cond, List, [], ◌∷◌, length, append-nil, arith, Option, Some, None, Result, Ok, Err, refl, sym, ap, ◌∙◌, subst}
-use Rattle.std.specs.Prelude.{slice_get, map, IfOk, OnOk, OnErr}
+use Rattle.std.proofs.Common.{◌≡◌, inl, inr, ℕ, Bool, true, false, cond, List, [], ◌∷◌, length, append-nil, arith, Option, Some, None, Result, Ok, Err, refl, sym, ap, ◌∙◌, subst}
+use Rattle.std.specs.Prelude.{slice_get, map, IfOk}
 use Rattle.std.proofs.lemmas.List.{drop_all}
 use Rattle.std.proofs.lemmas.Bool.{eq-eqb}
 use Rattle.fab_base.specs.declared.identities.BrickId.{BrickId}
 use Rattle.fab_base.specs.Layouts.{Layout}
-use Rattle.fab_disk.specs.MemDisk.{content_of}
 use Rattle.fab_disk.specs.declared.disk.Plan.{Plan}
 use Rattle.fab_disk.specs.Plan.{IsWithin}
 use Rattle.fab_disk.specs.declared.mem_disk.MemDisk.{MemDisk}
@@ -18,14 +17,13 @@ use Rattle.node.specs.Outcomes.{Outcome as Sent}
 use Rattle.stripe_code.specs.Codes.{coding}
 use Rattle.protocol.specs.Settings.{Setting}
 use Rattle.protocol.specs.Nodes.{Node, put, received, absorbed, stopped}
-use Rattle.protocol.specs.Worlds.{World, Event, Before, Delivers, Stops, is_up, packet_of, left_after, replies_with, world_stepped, world_stopped, happens, run}
+use Rattle.protocol.specs.Worlds.{World, Event, Delivers, Stops, is_up, packet_of, reached_at, reached_during, left_after, replies_with, world_stepped, world_stopped, happens, run}
 use Rattle.protocol.specs.Calms.{IsCalm}
 use Rattle.world.specs.Runs.{brick_of}
-use Rattle.world.specs.Faults.{IsEventsOf, IsStartOf, StaysDown, IsStarted, IsNoStart, IsReached, plan_of}
-use Rattle.world.specs.Ledgers.{Notes}
-use Rattle.world.specs.Disks.{KeepsOthers, LeavesDisks, ListsHandled, receiver_of, changes_disk_of}
+use Rattle.world.specs.Faults.{IsEventsOf, IsReached, plan_of}
+use Rattle.world.specs.Disks.{KeepsOthers, LeavesDisks, ListsEvent, ListsHandled, receiver_of, changes_disk_of}
 use Rattle.world.specs.EventCalls.{handled_calls}
-use Rattle.world.specs.Shown.{Shows, ShowsBricks, StartsAs, Tells, Comes, IsReachedBy, Refused, HandledWhole, HandledPart, disks_of}
+use Rattle.world.specs.Shown.{Shows, ShowsBricks, StartsAs, Tells, Comes, TakesEvent, StaysAs, RunsLine, RefusesLine, HandledWhole, HandledPart, disks_of}
 use Rattle.world.specs.Texts.{marks_if, is_deliverable, outcome_of, marks_text, outcome_text, new_marks, event_text, text_of, line_text}
 use Rattle.world.specs.declared.simulations.Outcome.{Outcome}
 use Rattle.world.specs.declared.simulations.Outcome.TheVariants.{Marks, Idle}
@@ -33,27 +31,22 @@ use Rattle.world.specs.declared.simulations.Simulation.{Simulation}
 use Rattle.world.specs.declared.histories.History.{History}
 use Rattle.world.proofs.DiskLemmas.{same_kept, one_kept}
 use Rattle.world.proofs.HistoryLemmas.{tells_during}
-use Rattle.world.specs.declared.bricks.Brick.{Brick}
-use Rattle.world.specs.declared.ledgers.Ledger.{Ledger}
-use Rattle.world.proofs.LedgerLemmas.{notes_stop_event, notes_start_event}
-use Rattle.world.proofs.MachineBegins.{happens_handled, happens_stopped_during, happens_unsent, happens_astray}
-use Rattle.world.proofs.RunLaws.{reached_books}
+use Rattle.world.proofs.MachineBegins.{happens_stopped_during, happens_unsent, happens_astray}
 use Rattle.world.proofs.RunLemmas.{came_text, start_few}
 use Rattle.world.proofs.SimulationLemmas.{shows_still, shows_handled, handled_here, handled_astray}
-use Rattle.protocol.proofs.Events.{world_handled}
 
--- two things that are known of a result
-pub ok_both : {T E P : Type 0} (r : Result T E) (Q R : T → Type 0) → ((x : T) → P → Q x → R x) → OnOk r P → IfOk r Q → IfOk r R
-ok_both (Ok x) Q R both p q = both x p q
-ok_both (Err e) Q R both p q = tt
+-- what follows of each value follows of a result
+pub ok_each : {T E : Type 0} (r : Result T E) (Q R : T → Type 0) → ((x : T) → Q x → R x) → IfOk r Q → IfOk r R
+ok_each (Ok x) Q R each q = each x q
+ok_each (Err e) Q R each q = tt
 
 -- a line that is one event
 pub one_event : (layout : Layout) (w : World) (disks : List MemDisk) (state : Simulation) (line : Line) (outcome : Outcome) (event : Event)
     → IsEventsOf layout w disks (disks_of state.bricks.items) line (event ∷ [])
     → Shows layout state (happens (coding layout) w event) → outcome ≡ outcome_of (coding layout) w event
-    → LeavesDisks layout w event disks (disks_of state.bricks.items) → Notes state.ledger (happens (coding layout) w event)
+    → LeavesDisks layout w event disks (disks_of state.bricks.items)
     → Comes layout w disks state line outcome
-one_event layout w disks state line outcome event are shows comes kept notes = (
+one_event layout w disks state line outcome event are shows comes kept = (
   event ∷ [],
   record {
     are = are;
@@ -62,7 +55,6 @@ one_event layout w disks state line outcome event are shows comes kept notes = (
         ∙ sym (append-nil (event_text (coding layout) w event));
     kept = one_kept (coding layout) w event disks (disks_of state.bricks.items) kept;
   },
-  notes,
 )
 
 -- no call of none is named
@@ -71,22 +63,20 @@ never_within calls plan none within = omega (arith, none, within.some, within.re
 
 -- a message that was not sent
 pub unsent_comes : (layout : Layout) (w : World) (state : Simulation) (number : ℕ) (fault : Option Fault) → packet_of w.packets number ≡ None
-    → Shows layout state w → Notes state.ledger w
-    → Comes layout w (disks_of state.bricks.items) state (Deliver number fault) Idle
-unsent_comes layout w state number fault none shows notes =
+    → Shows layout state w → Comes layout w (disks_of state.bricks.items) state (Deliver number fault) Idle
+unsent_comes layout w state number fault none shows =
     one_event layout w (disks_of state.bricks.items) state (Deliver number fault) Idle (Delivers number)
     (inr (record { spared = λ struck. (let never : Some struck.packet ≡ None = sym struck.sent ∙ none in cc); events_are = refl }))
     (shows_still layout state w (happens (coding layout) w (Delivers number)) (happens_unsent (coding layout) w number none) shows)
     (sym (ap (λ p. marks_if (is_deliverable (coding layout) w p)) none))
     (same_kept layout w (Delivers number) (disks_of state.bricks.items) (disks_of state.bricks.items) refl
     (subst (λ (p : Option Packet). ListsHandled layout w p (disks_of state.bricks.items) (disks_of state.bricks.items)) (sym none) tt))
-    (subst (λ (v : World). Notes state.ledger v) (sym (happens_unsent (coding layout) w number none)) notes)
 
 -- a message to a brick that is not up
 pub astray_comes : (layout : Layout) (w : World) (state : Simulation) (number : ℕ) (fault : Option Fault) (packet : Packet)
-    → packet_of w.packets number ≡ Some packet → is_up layout w packet.to ≡ false → Shows layout state w → Notes state.ledger w
+    → packet_of w.packets number ≡ Some packet → is_up layout w packet.to ≡ false → Shows layout state w
     → Comes layout w (disks_of state.bricks.items) state (Deliver number fault) Idle
-astray_comes layout w state number fault packet sent down shows notes =
+astray_comes layout w state number fault packet sent down shows =
     one_event layout w (disks_of state.bricks.items) state (Deliver number fault) Idle (Delivers number)
     (inr (record { spared = λ struck. not_struck struck.packet struck.sent struck.up; events_are = refl }))
     (shows_still layout state w (happens (coding layout) w (Delivers number)) (happens_astray (coding layout) w number packet sent down) shows)
@@ -94,7 +84,6 @@ astray_comes layout w state number fault packet sent down shows notes =
     (same_kept layout w (Delivers number) (disks_of state.bricks.items) (disks_of state.bricks.items) refl
     (subst (λ (p : Option Packet). ListsHandled layout w p (disks_of state.bricks.items) (disks_of state.bricks.items)) (sym sent)
     (λ up. let never : true ≡ false = sym up ∙ down in absurd cc)))
-    (subst (λ (v : World). Notes state.ledger v) (sym (happens_astray (coding layout) w number packet sent down)) notes)
   where
     not_struck : (other : Packet) → packet_of w.packets number ≡ Some other → is_up layout w other.to ≡ true → ⊥
     not_struck other is up =
@@ -117,9 +106,8 @@ module _ (layout : Layout) (w : World) (old new : Simulation) (number : ℕ) (fa
   pub whole_comes : (outs : Sent) → HandledWhole layout w packet.to packet fault old.bricks.items new.bricks.items outs
       → Tells new.history (world_stepped (coding layout) (record w { replies = replies_with (coding layout) w packet; reached = put w.reached number true }) packet.to
       (received (coding layout) packet.to (w.clocks packet.to.0) (w.nodes packet.to.0) packet))
-      → Notes new.ledger (world_handled (coding layout) w number packet)
       → Comes layout w (disks_of old.bricks.items) new (Deliver number fault) Marks
-  whole_comes outs handled history notes =
+  whole_comes outs handled history =
       one_event layout w (disks_of old.bricks.items) new (Deliver number fault) Marks (Delivers number)
       (inr (record { spared = λ struck. not_struck struck.packet struck.sent struck.disk struck.disk_is struck.reached; events_are = refl }))
       (shows_handled layout new w number packet sent up handled.bricks history)
@@ -130,7 +118,6 @@ module _ (layout : Layout) (w : World) (old new : Simulation) (number : ℕ) (fa
         lists = subst (λ (p : Option Packet). ListsHandled layout w p (disks_of old.bricks.items) (disks_of new.bricks.items)) (sym sent)
             (λ is. handled.lists);
       })
-      (subst (λ (v : World). Notes new.ledger v) (sym (happens_handled (coding layout) w number packet sent up)) notes)
     where
       not_struck : (other : Packet) → packet_of w.packets number ≡ Some other → (disk : MemDisk)
           → slice_get (disks_of old.bricks.items) other.to.0 ≡ Some disk
@@ -147,10 +134,15 @@ module _ (layout : Layout) (w : World) (old new : Simulation) (number : ℕ) (fa
       ∙ ap (λ (b : Bool). cond b (stopped (absorbed (coding layout) packet.to (w.nodes packet.to.0) packet)) (stopped (w.nodes packet.to.0)))
       (eq-eqb packet.to.0 packet.to.0 refl)
 
+  reached_is : reached_during w packet.to (Some number) ≡ put w.reached number true
+  reached_is =
+      ap (reached_at w.reached packet.to number) sent
+      ∙ ap (λ (b : Bool). cond b (put w.reached number true) w.reached) (eq-eqb packet.to.0 packet.to.0 refl)
+
   pub part_comes : HandledPart layout w packet.to packet fault old.bricks.items new.bricks.items
-      → Tells new.history (world_stopped (coding layout) w packet.to None) → Notes new.ledger (world_stopped (coding layout) w packet.to (Some number))
+      → Tells new.history (world_stopped (coding layout) (record w { reached = put w.reached number true }) packet.to None)
       → Comes layout w (disks_of old.bricks.items) new (Deliver number fault) Marks
-  part_comes handled history notes =
+  part_comes handled history =
       let v : World = world_stopped (coding layout) w packet.to (Some number) in
       one_event layout w (disks_of old.bricks.items) new (Deliver number fault) Marks (Stops packet.to (Some number))
       (inl (record {
@@ -161,7 +153,7 @@ module _ (layout : Layout) (w : World) (old new : Simulation) (number : ℕ) (fa
       (subst (λ (x : World). Shows layout new x) (sym (happens_stopped_during (coding layout) w packet.to (Some number) up))
       (record {
         bricks = subst (λ (node : Node). ShowsBricks layout new.bricks.items v.nodes (put w.after packet.to.0 node) v.up v.clocks) (sym left_is) handled.bricks;
-        history = tells_during (coding layout) new.history w packet.to (Some number) history;
+        history = tells_during (coding layout) new.history w packet.to number reached_is history;
       }))
       (sym (ap marks_if up))
       (record {
@@ -171,7 +163,6 @@ module _ (layout : Layout) (w : World) (old new : Simulation) (number : ℕ) (fa
             (sym (calls_here handled.reached.listed) ∙ none handled.reached.listed true) handled.reached.within);
         lists = tt;
       })
-      (subst (λ (v : World). Notes new.ledger v) (sym (happens_stopped_during (coding layout) w packet.to (Some number) up)) notes)
 
 -- what a start prints is the text of its events
 start_text : (setting : Setting) (w : World) (b : ℕ) (fault : Option Fault) (events : List Event)
@@ -179,30 +170,12 @@ start_text : (setting : Setting) (w : World) (b : ℕ) (fault : Option Fault) (e
 start_text setting w b fault [] = refl
 start_text setting w b fault (event ∷ events) = refl
 
--- and leaves what is noted
-start_notes : (layout : Layout) (w : World) (bricks : List Brick) (old new : List MemDisk) (brick : BrickId) (fault : Option Fault) (events : List Event)
-    (ledger : Ledger) → IsReachedBy layout w → ShowsBricks layout bricks w.nodes w.after w.up w.clocks → IsStartOf layout w old new brick fault events
-    → Notes ledger w → Notes ledger (run (coding layout) events w)
-start_notes layout w bricks old new brick fault events ledger reached shows are notes = ⊎_elim
-    (λ (stays : StaysDown layout w old new brick fault events).
-    subst Noted (sym stays.events_are) (notes_stop_event layout ledger w brick notes))
-    (λ (other : IsStarted layout w old brick fault events ⊎ IsNoStart layout w brick events). ⊎_elim
-    (λ (is : IsStarted layout w old brick fault events).
-    subst Noted (sym is.events_are)
-    (notes_start_event layout ledger bricks w brick (is.start.finds.openings + 1) is.start.finds.found (reached_books layout w reached) shows notes))
-    (λ (is : IsNoStart layout w brick events).
-    subst Noted (sym is.events_are) (notes_start_event layout ledger bricks w brick 1 Before (reached_books layout w reached) shows notes)) other) are
-  where
-    Noted : List Event → Type 0
-    Noted all = Notes ledger (run (coding layout) all w)
-
 -- the start of a brick
 pub start_comes : (layout : Layout) (w : World) (old new : Simulation) (brick : BrickId) (fault : Option Fault) (started : Bool)
-    → new.history ≡ old.history → new.ledger ≡ old.ledger
-    → IsReachedBy layout w → Shows layout old w → Notes old.ledger w
+    → new.history ≡ old.history → Shows layout old w
     → (events : List Event) × StartsAs layout w brick fault old.bricks.items new.bricks.items started events
     → Comes layout w (disks_of old.bricks.items) new (Start brick.0 fault) (cond started Marks Idle)
-start_comes layout w old new brick fault started same noted reached shows notes (events, starts) = (
+start_comes layout w old new brick fault started same shows (events, starts) = (
   events,
   record {
     are = starts.are;
@@ -215,38 +188,31 @@ start_comes layout w old new brick fault started same noted reached shows notes 
         ∙ sym (start_text (coding layout) w brick.0 fault events);
     kept = starts.kept;
   },
-  start_notes layout w old.bricks.items (disks_of old.bricks.items) (disks_of new.bricks.items) brick fault events new.ledger reached shows.bricks starts.are
-      (subst (λ (ledger : Ledger). Notes ledger w) (sym noted) notes),
 )
 
 -- a line that says nothing
-pub nothing_comes : (layout : Layout) (w : World) (state : Simulation) → Shows layout state w → Notes state.ledger w
+pub nothing_comes : (layout : Layout) (w : World) (state : Simulation) → Shows layout state w
     → Comes layout w (disks_of state.bricks.items) state Nothing Marks
-nothing_comes layout w state shows notes =
-    ([], record { are = refl; shows = shows; prints = ap marks_text (drop_all (length w.marks) w.marks (omega arith)); kept = refl }, notes)
+nothing_comes layout w state shows =
+    ([], record { are = refl; shows = shows; prints = ap marks_text (drop_all (length w.marks) w.marks (omega arith)); kept = refl })
 
 -- an operation that may not run alone
 pub idle_comes : (layout : Layout) (w : World) (state : Simulation) (n : ℕ) (bricks : List ℕ)
-    → (IsCalm (coding layout) w n (map brick_of bricks) → ⊥) → Shows layout state w → Notes state.ledger w
+    → (IsCalm (coding layout) w n (map brick_of bricks) → ⊥) → Shows layout state w
     → Comes layout w (disks_of state.bricks.items) state (Calm n bricks) Idle
-idle_comes layout w state n bricks not shows notes =
-    ([], record { are = inr (not, refl); shows = shows; prints = refl; kept = refl }, notes)
+idle_comes layout w state n bricks not shows =
+    ([], record { are = inr (not, refl); shows = shows; prints = refl; kept = refl })
 
--- a line for which no memory was left
-pub refused_still : (layout : Layout) (w : World) (old new : Simulation) (line : Line) → Shows layout new w
-    → map content_of (disks_of new.bricks.items) ≡ map content_of (disks_of old.bricks.items) → (Notes old.ledger w → Notes new.ledger w)
-    → Refused layout w old new line
-refused_still layout w old new line shows contents notes = inl (record { shows = shows; contents = contents }, notes)
+-- so such a line runs that is one event, which makes no call of a disk
+pub takes_runs : (layout : Layout) (old new : Simulation) (line : Line) (event : Event) (outcome : Outcome)
+    → ((w : World) → IsEventsOf layout w (disks_of old.bricks.items) (disks_of new.bricks.items) line (event ∷ []))
+    → ((w : World) → ListsEvent layout w event (disks_of old.bricks.items) (disks_of new.bricks.items))
+    → TakesEvent layout old new event outcome → RunsLine layout old new line outcome
+takes_runs layout old new line event outcome are lists takes w reached shows =
+    one_event layout w (disks_of old.bricks.items) new line outcome event (are w) (takes.shows w shows) (takes.outcome_is w shows)
+    (same_kept layout w event (disks_of old.bricks.items) (disks_of new.bricks.items) takes.disks (lists w))
 
--- three things that are known of a result, and of an error
-pub ok_three : {T E P O : Type 0} (r : Result T E) (Q R : T → Type 0) → ((x : T) → P → O → Q x → R x) → OnOk r P → OnOk r O → IfOk r Q → IfOk r R
-ok_three (Ok x) Q R all p o q = all x p o q
-ok_three (Err e) Q R all p o q = tt
-
-pub err_both : {T E P O R : Type 0} (r : Result T E) → (P → O → R) → OnErr r P → OnErr r O → OnErr r R
-err_both (Ok x) both p o = tt
-err_both (Err e) both p o = both p o
-
-pub err_three : {T E P Q R O : Type 0} (r : Result T E) → (P → Q → R → O) → OnErr r P → OnErr r Q → OnErr r R → OnErr r O
-err_three (Ok x) three p q r = tt
-err_three (Err e) three p q r = three p q r
+-- and no memory was left for one where nothing happened
+pub stays_refuses : (layout : Layout) (old new : Simulation) (line : Line) → StaysAs layout old new → RefusesLine layout old new line
+stays_refuses layout old new line stays w reached shows =
+    ([], inl (record { shows = stays.shows w shows; contents = stays.contents }, refl))

@@ -1,9 +1,9 @@
 -- What a history tells, step by step.
-use Rattle.std.proofs.Common.{◌≡◌, ◌≢◌, ℕ, ◌+◌, ◌<◌, ◌≤◌, ◌-◌, ⊎_elim, get_or, set, Bool, true, false, cond, nat_eq, List, [], ◌∷◌, ◌++◌, length, Option, Some, None, refl, sym, ap, ◌∙◌, subst, arith, length-append}
-use Rattle.std.specs.Prelude.{option_to_list, slice_get, if◌then◌else◌, unwrap_or}
+use Rattle.std.proofs.Common.{◌≡◌, ◌≢◌, ℕ, zero, suc, ◌+◌, ◌<◌, ◌≤◌, ◌-◌, ⊎_elim, get_or, set, Bool, true, false, cond, nat_eq, List, [], ◌∷◌, ◌++◌, length, Option, Some, None, refl, sym, ap, ◌∙◌, subst, arith, add-one, length-append}
+use Rattle.std.specs.Prelude.{option_to_list, slice_get, if◌then◌else◌}
 use Rattle.std.specs.Option.{option_map}
-use Rattle.std.specs.BTreeMap.{BTreeMap, get, is_at}
 use Rattle.std.proofs.lemmas.Bool.{cond_both, eqb-true, eqb-false, ne_eqb}
+use Rattle.std.proofs.lemmas.List.{get_or_append_left}
 use Rattle.std.proofs.lemmas.Option.{slice_get_within, slice_get_past, slice_get-get_or}
 use Rattle.fab_base.specs.declared.answers.Answer.{Answer}
 use Rattle.fab_base.specs.declared.asks.Ask.{Ask}
@@ -17,64 +17,60 @@ use Rattle.protocol.specs.declared.tellings.Answered.{Answered}
 use Rattle.protocol.specs.declared.tellings.Told.{Told}
 use Rattle.protocol.specs.declared.tellings.Told.TheVariants.{Made, Seen}
 use Rattle.protocol.specs.Settings.{Setting}
-use Rattle.protocol.specs.Worlds.{World, Operation, Found, Before, After, number_of, with_number, world_began, world_stepped, world_stopped, world_found, world_started, world_told, world_tells, world_answered, world_answers, with_made, with_seen, with_answer, is_answer}
+use Rattle.protocol.specs.Worlds.{World, Operation, Found, Before, After, number_of, with_number, world_began, world_stepped, world_stopped, world_found, world_started, world_told, world_tells, world_answered, world_answers, reached_during, with_made, with_seen, with_answer, is_answer}
 use Rattle.protocol.specs.Happenings.{writes}
 use Rattle.protocol_laws.proofs.MarkNumbers.{KeepsMark, made_mark, seen_mark, answer_mark, own_number, own_changed, own_more}
 use Rattle.world.specs.declared.histories.History.{History}
-use Rattle.world.specs.declared.histories.KeptOperation.{KeptOperation}
-use Rattle.world.specs.Shown.{TellsOperations, ChangesAt, TellsOperation, Tells, pair_cmp, made_kept, seen_kept, ended_kept}
-use Rattle.world.proofs.Places.{grown, each_value, value_here, value_elsewhere, call_apart, set_here, set_elsewhere}
+use Rattle.world.specs.declared.histories.OperationRecord.{OperationRecord}
+use Rattle.world.specs.CallNumbers.{AreCalls, calls_in, call_at}
+use Rattle.world.specs.Shown.{TellsOperations, ChangesAt, TellsOperation, Tells, made_kept, seen_kept, ended_kept}
+use Rattle.world.specs.declared.call_numbers.CallNumbers.{CallNumbers}
+use Rattle.world.specs.declared.deliveries.Deliveries.{Deliveries}
+use Rattle.world.proofs.Places.{grown, each_value, value_here, value_elsewhere, get_or_end, set_here, set_elsewhere}
 
 -- room alone changes nothing that is told
-pub tells_same : (old new : History) (w : World) → new.sent.packets.items ≡ old.sent.packets.items → new.marks.items ≡ old.marks.items
-    → new.operations.items ≡ old.operations.items → new.numbers ≡ old.numbers → Tells old w → Tells new w
-tells_same old new w sent marks operations numbers tells = record {
+pub tells_same : (old new : History) (w : World) → new.sent.packets.items ≡ old.sent.packets.items
+    → ((k : ℕ) → get_or new.delivered.reached.items k false ≡ get_or old.delivered.reached.items k false)
+    → new.marks.items ≡ old.marks.items → new.operations.items ≡ old.operations.items
+    → ((i : ℕ) → calls_in new.calls i ≡ calls_in old.calls i) → Tells old w → Tells new w
+tells_same old new w sent reached marks operations calls tells = record {
   packets = sent ∙ tells.packets;
+  reached = λ k. reached k ∙ tells.reached k;
   marks = marks ∙ tells.marks;
   begun = ap length operations ∙ tells.begun;
   own = tells.own;
-  operations = subst (λ (kept : List KeptOperation). TellsOperations kept w.operations) (sym operations) tells.operations;
-  numbers = λ i k low high. subst (λ (map : BTreeMap (ℕ × ℕ) ℕ). get pair_cmp map (i, k) ≡ Some (number_of w i k)) (sym numbers)
-      (tells.numbers i k low high);
+  operations = subst (λ (kept : List OperationRecord). TellsOperations kept w.operations) (sym operations) tells.operations;
+  calls = λ i. subst (λ (l : List ℕ). AreCalls (w.up i) l (number_of w i) (w.nodes i).seq) (sym (calls i)) (tells.calls i);
 }
 
--- the number of a call that is none so far changes nothing that is told
-pub tells_numbered : (old : History) (map : BTreeMap (ℕ × ℕ) ℕ) (w : World) (b s : ℕ) → (w.nodes b).seq < s
-    → ((q : ℕ × ℕ) → is_at (pair_cmp (b, s)) q ≡ false → get pair_cmp map q ≡ get pair_cmp old.numbers q)
-    → Tells old w → Tells (record old { numbers = map }) w
-tells_numbered old map w b s above others tells = record {
-  packets = tells.packets;
-  marks = tells.marks;
-  begun = tells.begun;
-  own = tells.own;
-  operations = tells.operations;
-  numbers = λ i k low high. others (i, k) (call_apart b s i k (λ here this. apart i k here this high)) ∙ tells.numbers i k low high;
-}
+-- the calls so far of each brick in one world are those in another, of the same operations
+abbrev pub KeepsCalls : World → World → Type 0
+KeepsCalls w v =
+    (i : ℕ) (calls : List ℕ) → AreCalls (w.up i) calls (number_of w i) (w.nodes i).seq → AreCalls (v.up i) calls (number_of v i) (v.nodes i).seq
+
+-- so where the boots, the counts of calls and the numbers stay, and the same bricks are up
+pub calls_same : (w v : World) → v.up ≡ w.up → ((i : ℕ) → (v.nodes i).boot ≡ (w.nodes i).boot) → ((i : ℕ) → (v.nodes i).seq ≡ (w.nodes i).seq)
+    → v.numbers ≡ w.numbers → KeepsCalls w v
+calls_same w v up boots seqs numbers i calls are =
+    by_up (w.up i) (v.up i) (ap (λ (f : ℕ → Bool). f i) up) are
   where
-    apart : (i k : ℕ) → i ≡ b → k ≡ s → k ≤ (w.nodes i).seq → ⊥
-    apart i k here this high = let same : (w.nodes i).seq ≡ (w.nodes b).seq = ap (λ j. (w.nodes j).seq) here in omega arith
-
--- each call so far of each brick's present boot is one of the world before, and has the same number
-pub record KeepsCalls (w v : World) : Type 0 where
-  pub each : (i k : ℕ) → 1 ≤ k → k ≤ (v.nodes i).seq → (k ≤ (w.nodes i).seq) × (number_of v i k ≡ number_of w i k)
-
--- so where the boots, the counts of calls and the numbers stay
-pub calls_same : (w v : World) → ((i : ℕ) → (v.nodes i).boot ≡ (w.nodes i).boot) → ((i : ℕ) → (v.nodes i).seq ≡ (w.nodes i).seq)
-    → v.numbers ≡ w.numbers
-    → KeepsCalls w v
-calls_same w v boots seqs numbers = record {
-  each = λ i k low high. (
-    (let same : (v.nodes i).seq ≡ (w.nodes i).seq = seqs i in omega arith),
-    ap (λ (n : ℕ → ℕ → ℕ → ℕ). n i (v.nodes i).boot k) numbers ∙ ap (λ b. w.numbers i b k) (boots i),
-  );
-}
+    by_up : (x y : Bool) → y ≡ x → AreCalls x calls (number_of w i) (w.nodes i).seq → AreCalls y calls (number_of v i) (v.nodes i).seq
+    by_up true true same are = (
+      are.0 ∙ sym (seqs i),
+      λ k less.
+          (let within : k < (w.nodes i).seq = (let count = seqs i in omega (arith, less, count)) in
+          are.1 k within ∙ sym (ap (λ (n : ℕ → ℕ → ℕ → ℕ). n i (v.nodes i).boot (k + 1)) numbers ∙ ap (λ b. w.numbers i b (k + 1)) (boots i))),
+    )
+    by_up false false same are = are
+    by_up true false same are = absurd (let never : false ≡ true = same in cc)
+    by_up false true same are = absurd (let never : true ≡ false = same in cc)
 
 -- a world that differs in what no history tells
-pub tells_other : (history : History) (w v : World) → v.packets ≡ w.packets → v.marks ≡ w.marks → v.marked ≡ w.marked → v.begun ≡ w.begun
-    → v.operations ≡ w.operations
-    → KeepsCalls w v → Tells history w → Tells history v
-tells_other history w v packets marks marked begun operations calls tells = record {
+pub tells_other : (history : History) (w v : World) → v.packets ≡ w.packets → v.reached ≡ w.reached → v.marks ≡ w.marks → v.marked ≡ w.marked
+    → v.begun ≡ w.begun → v.operations ≡ w.operations → KeepsCalls w v → Tells history w → Tells history v
+tells_other history w v packets reached marks marked begun operations calls tells = record {
   packets = tells.packets ∙ sym packets;
+  reached = λ k. tells.reached k ∙ ap (λ (f : ℕ → Bool). f (k + 1)) (sym reached);
   marks = tells.marks ∙ sym marks;
   begun = tells.begun ∙ sym begun;
   own = record {
@@ -82,8 +78,23 @@ tells_other history w v packets marks marked begun operations calls tells = reco
     each = subst (λ (f : ℕ → Option Operation). (n : ℕ) (o : Operation) → f n ≡ Some o → o.mark ≡ n) (sym operations) tells.own.each;
   };
   operations = subst (λ (o : ℕ → Option Operation). TellsOperations history.operations.items o) (sym operations) tells.operations;
-  numbers = λ i k low high. (let kept = calls.each i k low high in tells.numbers i k low kept.0 ∙ ap (λ n. Some n) (sym kept.1));
+  calls = λ i. calls i (calls_in history.calls i) (tells.calls i);
 }
+
+-- a message was delivered
+pub tells_delivered : (old new : History) (w : World) (number : ℕ) → new ≡ record old { delivered = new.delivered }
+    → ((k : ℕ) → get_or new.delivered.reached.items k false ≡ (if nat_eq (k + 1) number then true else get_or old.delivered.reached.items k false))
+    → Tells old w → Tells new (record w { reached = put w.reached number true })
+tells_delivered old new w number rest reached tells =
+    subst (λ (h : History). Tells h (record w { reached = put w.reached number true })) (sym rest) (record {
+      packets = tells.packets;
+      reached = λ k. reached k ∙ ap (λ (b : Bool). if nat_eq (k + 1) number then true else b) (tells.reached k);
+      marks = tells.marks;
+      begun = tells.begun;
+      own = tells.own;
+      operations = tells.operations;
+      calls = tells.calls;
+    })
 
 -- a brick's step leaves all boots, and one that opens no call all call numbers
 pub boots_stay : (w : World) (brick : BrickId) (node : Node) → node.boot ≡ (w.nodes brick.0).boot → (i : ℕ) → (put w.nodes brick.0 node i).boot ≡
@@ -95,20 +106,20 @@ pub seqs_stay : (w : World) (brick : BrickId) (node : Node) → node.seq ≡ (w.
 seqs_stay w brick node same = each_value (λ i x. x.seq ≡ (w.nodes i).seq) w.nodes brick.0 node same (λ i other. refl)
 
 -- what is kept of the operations is the machine's where both change alike at one number
-pub known_changed : (old new : List KeptOperation) (operations : ℕ → Option Operation) (number : ℕ) (change : KeptOperation → KeptOperation)
+pub known_changed : (old new : List OperationRecord) (operations : ℕ → Option Operation) (number : ℕ) (change : OperationRecord → OperationRecord)
     (next : Option Operation → Option Operation)
-    → ((known : KeptOperation) (o : Operation) → TellsOperation known o → (p : Operation) × (next (Some o) ≡ Some p) × TellsOperation (change known) p)
+    → ((known : OperationRecord) (o : Operation) → TellsOperation known o → (p : Operation) × (next (Some o) ≡ Some p) × TellsOperation (change known) p)
     → ChangesAt old new number change
     → TellsOperations old operations → TellsOperations new (put operations number (next (operations number)))
 known_changed old new operations number change next alike changed known n k is =
     cond_both (nat_eq (n + 1) number) (option_map change (slice_get old n)) (slice_get old n)
-    (λ (x : Option KeptOperation). x ≡ Some k → (o : Operation) × (put operations number (next (operations number)) (n + 1) ≡ Some o) × TellsOperation k o)
+    (λ (x : Option OperationRecord). x ≡ Some k → (o : Operation) × (put operations number (next (operations number)) (n + 1) ≡ Some o) × TellsOperation k o)
     (λ here found. at_place (eqb-true (n + 1) number here) (slice_get old n) refl found)
     (λ there found. let old_one = known n k found in
     (old_one.0, value_elsewhere operations number (n + 1) (next (operations number)) (eqb-false (n + 1) number there) ∙ old_one.1, old_one.2))
     (sym (changed n) ∙ is)
   where
-    at_place : n + 1 ≡ number → (found : Option KeptOperation) → slice_get old n ≡ found → option_map change found ≡ Some k
+    at_place : n + 1 ≡ number → (found : Option OperationRecord) → slice_get old n ≡ found → option_map change found ≡ Some k
         → (o : Operation) × (put operations number (next (operations number)) (n + 1) ≡ Some o) × TellsOperation k o
     at_place here None was e = let never : None ≡ Some k = e in cc
     at_place here (Some x) was e =
@@ -118,62 +129,23 @@ known_changed old new operations number change next alike changed known n k is =
         let becomes : change x ≡ k = cc in (
           after.0,
           value_here operations number (n + 1) (next (operations number)) here ∙ ap next same ∙ after.1,
-          subst (λ (kept : KeptOperation). TellsOperation kept after.0) becomes after.2,
+          subst (λ (kept : OperationRecord). TellsOperation kept after.0) becomes after.2,
         )
 
 -- an operation that made a version
-pub made_alike : (stamp : Stamp) (base : Option Stamp) (known : KeptOperation) (o : Operation) → TellsOperation known o
+pub made_alike : (stamp : Stamp) (base : Option Stamp) (known : OperationRecord) (o : Operation) → TellsOperation known o
     → (p : Operation) × (with_made stamp base (Some o) ≡ Some p) × TellsOperation (made_kept stamp base known) p
-made_alike stamp base known o is = (
-  _,
-  refl,
-  record {
-    begin = is.begin;
-    group = is.group;
-    stripe = is.stripe;
-    version = refl;
-    made = refl;
-    base = refl;
-    writes = is.writes;
-    answered = is.answered;
-  },
-)
+made_alike stamp base known o is = (_, refl, record { brick = is.brick; boot = is.boot; seq = is.seq; begin = is.begin; group = is.group; stripe = is.stripe; version = refl; made = refl; base = refl; writes = is.writes; answered = is.answered })
 
 -- an operation that read a version at once
-pub seen_alike : (stamp : Stamp) (known : KeptOperation) (o : Operation) → TellsOperation known o
+pub seen_alike : (stamp : Stamp) (known : OperationRecord) (o : Operation) → TellsOperation known o
     → (p : Operation) × (with_seen stamp (Some o) ≡ Some p) × TellsOperation (seen_kept stamp known) p
-seen_alike stamp known o is = (
-  _,
-  refl,
-  record {
-    begin = is.begin;
-    group = is.group;
-    stripe = is.stripe;
-    version = refl;
-    made = is.made;
-    base = is.base;
-    writes = is.writes;
-    answered = is.answered;
-  },
-)
+seen_alike stamp known o is = (_, refl, record { brick = is.brick; boot = is.boot; seq = is.seq; begin = is.begin; group = is.group; stripe = is.stripe; version = refl; made = is.made; base = is.base; writes = is.writes; answered = is.answered })
 
 -- an operation that ended
-pub ended_alike : (answer : Answer) (known : KeptOperation) (o : Operation) → TellsOperation known o
+pub ended_alike : (answer : Answer) (known : OperationRecord) (o : Operation) → TellsOperation known o
     → (p : Operation) × (with_answer answer (Some o) ≡ Some p) × TellsOperation (ended_kept (is_answer answer) known) p
-ended_alike answer known o is = (
-  _,
-  refl,
-  record {
-    begin = is.begin;
-    group = is.group;
-    stripe = is.stripe;
-    version = is.version;
-    made = is.made;
-    base = is.base;
-    writes = is.writes;
-    answered = refl;
-  },
-)
+ended_alike answer known o is = (_, refl, record { brick = is.brick; boot = is.boot; seq = is.seq; begin = is.begin; group = is.group; stripe = is.stripe; version = is.version; made = is.made; base = is.base; writes = is.writes; answered = refl })
 
 -- a brick that stops stays at its boot and its calls so far; one that starts again has none
 stopped_boot : (node : Node) → (stopped node).boot ≡ node.boot
@@ -189,51 +161,67 @@ unfolding restarted
 restarted_seq openings node = refl
 
 -- one operation changed, and some marks came
-tells_changed : (old new : History) (w : World) (number : ℕ) (kept after : List KeptOperation) (change : KeptOperation → KeptOperation)
+tells_changed : (old new : History) (w : World) (number : ℕ) (kept after : List OperationRecord) (change : OperationRecord → OperationRecord)
     (next : Option Operation → Option Operation)
     → KeepsMark next → Tells old w → kept ≡ old.operations.items → new.operations.items ≡ after
-    → ((known : KeptOperation) (o : Operation) → TellsOperation known o → (p : Operation) × (next (Some o) ≡ Some p) × TellsOperation (change known) p)
+    → ((known : OperationRecord) (o : Operation) → TellsOperation known o → (p : Operation) × (next (Some o) ≡ Some p) × TellsOperation (change known) p)
     → ChangesAt kept after number change → length after ≡ length kept
-    → new.sent.packets.items ≡ old.sent.packets.items → new.numbers ≡ old.numbers → (marks : List Mark) → new.marks.items ≡ marks
-    → Tells new (record w { marks = marks; operations = put w.operations number (next (w.operations number)) })
-tells_changed old new w number kept after change next keeps tells are become alike changed count sent numbers marks marked = record {
+    → new.sent.packets.items ≡ old.sent.packets.items → new.delivered ≡ old.delivered → new.calls ≡ old.calls → (marks : List Mark)
+    → new.marks.items ≡ marks → Tells new (record w { marks = marks; operations = put w.operations number (next (w.operations number)) })
+tells_changed old new w number kept after change next keeps tells are become alike changed count sent delivered calls marks marked = record {
   packets = sent ∙ tells.packets;
+  reached = λ k. ap (λ (d : Deliveries). get_or d.reached.items k false) delivered ∙ tells.reached k;
   marks = marked;
   begun = ap length become ∙ count ∙ ap length are ∙ tells.begun;
   own = own_changed w.marked w.begun w.operations tells.own number next keeps;
-  operations = subst (λ (x : List KeptOperation). TellsOperations x (put w.operations number (next (w.operations number)))) (sym become)
+  operations = subst (λ (x : List OperationRecord). TellsOperations x (put w.operations number (next (w.operations number)))) (sym become)
       (known_changed kept after w.operations number change next alike changed
-      (subst (λ (x : List KeptOperation). TellsOperations x w.operations) (sym are) tells.operations));
-  numbers = λ i k low high. subst (λ (map : BTreeMap (ℕ × ℕ) ℕ). get pair_cmp map (i, k) ≡ Some (number_of w i k)) (sym numbers)
-      (tells.numbers i k low high);
+      (subst (λ (x : List OperationRecord). TellsOperations x w.operations) (sym are) tells.operations));
+  calls = λ i. subst (λ (c : CallNumbers). AreCalls (w.up i) (calls_in c i) (number_of w i) (w.nodes i).seq) (sym calls) (tells.calls i);
 }
 
--- the numbers of calls with one call more
-numbers_grow : (w : World) (map : BTreeMap (ℕ × ℕ) ℕ) (b number : ℕ) (node : Node) → node.boot ≡ (w.nodes b).boot → node.seq ≡ (w.nodes b).seq + 1
-    → get pair_cmp map (b, node.seq) ≡ Some number
-    → ((i k : ℕ) → 1 ≤ k → k ≤ (w.nodes i).seq → get pair_cmp map (i, k) ≡ Some (number_of w i k))
-    → (i k : ℕ) → 1 ≤ k → k ≤ (put w.nodes b node i).seq
-    → get pair_cmp map (i, k) ≡ Some (with_number w.numbers b node number i (put w.nodes b node i).boot k)
-numbers_grow w map b number node boot next here old i k low = by_brick (nat_eq i b) refl
+-- the calls of each brick with one call more
+calls_grow : (w : World) (calls : ℕ → List ℕ) (b number : ℕ) (node : Node) → w.up b ≡ true → node.boot ≡ (w.nodes b).boot
+    → node.seq ≡ (w.nodes b).seq + 1 → ((i : ℕ) → AreCalls (w.up i) (calls i) (number_of w i) (w.nodes i).seq)
+    → (i : ℕ) → AreCalls (w.up i) (put calls b (calls b ++ number ∷ []) i) (with_number w.numbers b node number i (put w.nodes b node i).boot)
+    (put w.nodes b node i).seq
+calls_grow w calls b number node up boot next are i = by_brick (nat_eq i b) refl
   where
-    by_call : (y : Bool) → nat_eq k node.seq ≡ y → k ≤ node.seq → get pair_cmp map (b, k) ≡ Some (cond y number (w.numbers b node.boot k))
-    by_call true this high = ap (λ j. get pair_cmp map (b, j)) (eqb-true k node.seq this) ∙ here
-    by_call false other high =
-        let apart : k ≢ node.seq = eqb-false k node.seq other in
-        old b k low (omega arith) ∙ ap (λ x. Some (w.numbers b x k)) (sym boot)
-
     of_boot : ℕ → ℕ
     of_boot = put (w.numbers b node.boot) node.seq number
 
-    by_brick : (x : Bool) → nat_eq i b ≡ x → k ≤ (cond x node (w.nodes i)).seq
-        → get pair_cmp map (i, k) ≡ Some (cond x (put (w.numbers b) node.boot of_boot) (w.numbers i) (cond x node (w.nodes i)).boot k)
-    by_brick true same high =
-        ap (λ j. get pair_cmp map (j, k)) (eqb-true i b same) ∙ by_call (nat_eq k node.seq) refl high
-        ∙ ap (λ (f : ℕ → ℕ). Some (f k)) (sym (value_here (w.numbers b) node.boot node.boot of_boot refl))
-    by_brick false other high = old i k low high
+    was : AreCalls true (calls b) (number_of w b) (w.nodes b).seq
+    was = subst (λ (x : Bool). AreCalls x (calls b) (number_of w b) (w.nodes b).seq) up (are b)
+
+    at : (k : ℕ) → k < node.seq → (y : Bool) → nat_eq (k + 1) node.seq ≡ y
+        → get_or (calls b ++ number ∷ []) k 0 ≡ cond y number (w.numbers b node.boot (k + 1))
+    at k less true same =
+        let last : k ≡ length (calls b) = (let e : k + 1 ≡ node.seq = eqb-true (k + 1) node.seq same in omega (arith, e, next, was.0)) in
+        ap (λ j. get_or (calls b ++ number ∷ []) j 0) last ∙ get_or_end (calls b) number 0
+    at k less false other =
+        let apart : k + 1 ≢ node.seq = eqb-false (k + 1) node.seq other in
+        let within : k < (w.nodes b).seq = omega (arith, less, next, apart) in
+        get_or_append_left (calls b) (number ∷ []) 0 k (omega (arith, within, was.0)) ∙ was.1 k within
+        ∙ ap (λ x. w.numbers b x (k + 1)) (sym boot)
+
+    one_more : AreCalls true (calls b ++ number ∷ []) (put (w.numbers b) node.boot of_boot node.boot) node.seq
+    one_more = (
+      length-append (calls b) (number ∷ []) ∙ (let count = was.0 in let e : length (calls b) + 1 ≡ node.seq = omega (arith, count, next) in e),
+      λ k less.
+          at k less (nat_eq (k + 1) node.seq) refl
+          ∙ ap (λ (f : ℕ → ℕ). f (k + 1)) (sym (value_here (w.numbers b) node.boot node.boot of_boot refl)),
+    )
+
+    by_brick : (x : Bool) → nat_eq i b ≡ x
+        → AreCalls (w.up i) (cond x (calls b ++ number ∷ []) (calls i))
+        (cond x (put (w.numbers b) node.boot of_boot) (w.numbers i) (cond x node (w.nodes i)).boot) (cond x node (w.nodes i)).seq
+    by_brick true same =
+        subst (λ (y : Bool). AreCalls y (calls b ++ number ∷ []) (put (w.numbers b) node.boot of_boot node.boot) node.seq)
+        (sym (ap w.up (eqb-true i b same) ∙ up)) one_more
+    by_brick false other = are i
 
 -- what is kept of the operations with one more
-known_begun : (kept : List KeptOperation) (operations : ℕ → Option Operation) (begun : ℕ) (known : KeptOperation) (o : Operation)
+known_begun : (kept : List OperationRecord) (operations : ℕ → Option Operation) (begun : ℕ) (known : OperationRecord) (o : Operation)
     → length kept ≡ begun → TellsOperation known o → TellsOperations kept operations → TellsOperations (kept ++ known ∷ []) (put operations (begun + 1) (Some o))
 known_begun kept operations begun known o count is old n k found =
     ⊎_elim
@@ -244,13 +232,16 @@ known_begun kept operations begun known o count is old n k found =
     (one.0, value_elsewhere operations (begun + 1) (n + 1) (Some o) apart ∙ one.1, one.2))
     (λ (new : (n ≡ length kept) × (known ≡ k)).
     let here : n + 1 ≡ begun + 1 = omega (arith, new.0) in
-    (o, value_here operations (begun + 1) (n + 1) (Some o) here, subst (λ (x : KeptOperation). TellsOperation x o) new.1 is))
+    (o, value_here operations (begun + 1) (n + 1) (Some o) here, subst (λ (x : OperationRecord). TellsOperation x o) new.1 is))
     (grown kept known n k found)
 
 -- what is kept of an operation that began at a position
-abbrev pub begun_kept : ℕ → Ask → KeptOperation
-begun_kept begin ask =
+abbrev pub begun_kept : BrickId → ℕ → ℕ → ℕ → Ask → OperationRecord
+begun_kept brick boot seq begin ask =
     record {
+      brick = brick;
+      boot = boot;
+      seq = seq;
       begin = begin;
       group = ask.group;
       stripe = ask.stripe;
@@ -262,23 +253,26 @@ begun_kept begin ask =
     }
 
 -- an operation that began
-pub tells_began : (old new : History) (w : World) (brick : BrickId) (ask : Ask) (step : NodeStep) → Tells old w
-    → new.sent.packets.items ≡ old.sent.packets.items ++ step.packets
+pub tells_began : (old new : History) (w : World) (brick : BrickId) (ask : Ask) (step : NodeStep) → Tells old w → w.up brick.0 ≡ true
+    → new.sent.packets.items ≡ old.sent.packets.items ++ step.packets → new.delivered ≡ old.delivered
     → new.marks.items ≡ old.marks.items ++ Begin (length old.marks.items) (length old.operations.items + 1) brick ask ∷ []
-    → new.operations.items ≡ old.operations.items ++ begun_kept (length old.marks.items) ask ∷ []
-    → new.numbers ≡ old.numbers
-    → step.node.boot ≡ (w.nodes brick.0).boot → step.node.seq ≡ (w.nodes brick.0).seq + 1
-    → get pair_cmp old.numbers (brick.0, step.node.seq) ≡ Some (w.begun + 1)
-    → Tells new (world_began w brick ask step)
-tells_began old new w brick ask step tells sent marks operations numbers boot next number = record {
+    → new.operations.items ≡ old.operations.items ++ begun_kept brick step.node.boot step.node.seq (length old.marks.items) ask ∷ []
+    → ((i : ℕ) → calls_in new.calls i
+    ≡ put (calls_in old.calls) brick.0 (calls_in old.calls brick.0 ++ (length old.operations.items + 1) ∷ []) i)
+    → step.node.boot ≡ (w.nodes brick.0).boot → step.node.seq ≡ (w.nodes brick.0).seq + 1 → Tells new (world_began w brick ask step)
+tells_began old new w brick ask step tells up sent delivered marks operations calls boot next = record {
   packets = sent ∙ ap (λ xs. xs ++ step.packets) tells.packets;
+  reached = λ k. ap (λ (d : Deliveries). get_or d.reached.items k false) delivered ∙ tells.reached k;
   marks = marks ∙ ap (λ (xs : List Mark). xs ++ Begin (length xs) (length old.operations.items + 1) brick ask ∷ []) tells.marks
       ∙ ap (λ n. w.marks ++ Begin (length w.marks) (n + 1) brick ask ∷ []) (tells.begun ∙ sym tells.own.count);
   begun = ap length operations ∙ length-append old.operations.items _ ∙ ap (λ n. n + 1) tells.begun;
   own = own_more w.marked w.begun w.operations tells.own _ refl;
-  operations = subst (λ (kept : List KeptOperation). TellsOperations kept (world_began w brick ask step).operations) (sym operations)
+  operations = subst (λ (kept : List OperationRecord). TellsOperations kept (world_began w brick ask step).operations) (sym operations)
       (known_begun old.operations.items w.operations w.begun _ _ tells.begun
       (record {
+        brick = refl;
+        boot = refl;
+        seq = refl;
         begin = ap length tells.marks;
         group = refl;
         stripe = refl;
@@ -288,23 +282,24 @@ tells_began old new w brick ask step tells sent marks operations numbers boot ne
         writes = refl;
         answered = refl;
       }) tells.operations);
-  numbers = subst (λ (map : BTreeMap (ℕ × ℕ) ℕ). (i k : ℕ) → 1 ≤ k → k ≤ (put w.nodes brick.0 step.node i).seq
-      → get pair_cmp map (i, k) ≡ Some (with_number w.numbers brick.0 step.node (w.begun + 1) i (put w.nodes brick.0 step.node i).boot k))
-      (sym numbers)
-      (numbers_grow w old.numbers brick.0 (w.begun + 1) step.node boot next number tells.numbers);
+  calls = λ i.
+      subst (λ (l : List ℕ). AreCalls (w.up i) l (with_number w.numbers brick.0 step.node (w.begun + 1) i (put w.nodes brick.0 step.node i).boot)
+      (put w.nodes brick.0 step.node i).seq)
+      (sym (calls i ∙ ap (λ n. put (calls_in old.calls) brick.0 (calls_in old.calls brick.0 ++ (n + 1) ∷ []) i) tells.begun))
+      (calls_grow w (calls_in old.calls) brick.0 (w.begun + 1) step.node up boot next tells.calls i);
 }
 
 -- there is no operation 0
-pub changes_none : (kept : List KeptOperation) (number : ℕ) (change : KeptOperation → KeptOperation) → number ≡ 0 → ChangesAt kept kept number change
+pub changes_none : (kept : List OperationRecord) (number : ℕ) (change : OperationRecord → OperationRecord) → number ≡ 0 → ChangesAt kept kept number change
 changes_none kept number change none n =
     sym (ap (λ b. if b then option_map change (slice_get kept n) else slice_get kept n)
     (let apart : n + 1 ≢ number = (λ e. omega arith) in ne_eqb (n + 1) number apart))
 
 -- there is no operation past the last
-pub changes_past : (kept : List KeptOperation) (number : ℕ) (change : KeptOperation → KeptOperation) → number ≢ 0 → length kept ≤ number - 1
+pub changes_past : (kept : List OperationRecord) (number : ℕ) (change : OperationRecord → OperationRecord) → number ≢ 0 → length kept ≤ number - 1
     → ChangesAt kept kept number change
 changes_past kept number change some past n =
-    cond_both (nat_eq (n + 1) number) (option_map change (slice_get kept n)) (slice_get kept n) (λ (x : Option KeptOperation). slice_get kept n ≡ x)
+    cond_both (nat_eq (n + 1) number) (option_map change (slice_get kept n)) (slice_get kept n) (λ (x : Option OperationRecord). slice_get kept n ≡ x)
     (λ here.
     let at : n + 1 ≡ number = eqb-true (n + 1) number here in
     let none : slice_get kept n ≡ None = slice_get_past kept n (omega arith) in
@@ -312,11 +307,11 @@ changes_past kept number change some past n =
     (λ there. refl)
 
 -- the operation of a number changed
-pub changes_at : (kept : List KeptOperation) (number : ℕ) (default : KeptOperation) (change : KeptOperation → KeptOperation) → number ≢ 0 → number - 1 < length kept
+pub changes_at : (kept : List OperationRecord) (number : ℕ) (default : OperationRecord) (change : OperationRecord → OperationRecord) → number ≢ 0 → number - 1 < length kept
     → ChangesAt kept (set kept (number - 1) (change (get_or kept (number - 1) default))) number change
 changes_at kept number default change some within n =
     cond_both (nat_eq (n + 1) number) (option_map change (slice_get kept n)) (slice_get kept n)
-    (λ (y : Option KeptOperation). slice_get (set kept (number - 1) (change (get_or kept (number - 1) default))) n ≡ y)
+    (λ (y : Option OperationRecord). slice_get (set kept (number - 1) (change (get_or kept (number - 1) default))) n ≡ y)
     (λ here.
     let at : n + 1 ≡ number = eqb-true (n + 1) number here in
     let place : n ≡ number - 1 = omega arith in
@@ -330,49 +325,52 @@ changes_at kept number default change some within n =
     set_elsewhere kept (number - 1) (change (get_or kept (number - 1) default)) n other)
 
 -- the operation of a number became this
-pub changes_to : (kept : List KeptOperation) (number : ℕ) (default value : KeptOperation) (change : KeptOperation → KeptOperation) → number ≢ 0 → number - 1 < length kept
+pub changes_to : (kept : List OperationRecord) (number : ℕ) (default value : OperationRecord) (change : OperationRecord → OperationRecord) → number ≢ 0 → number - 1 < length kept
     → change (get_or kept (number - 1) default) ≡ value → ChangesAt kept (set kept (number - 1) value) number change
 changes_to kept number default value change some within is =
-    subst (λ (x : KeptOperation). ChangesAt kept (set kept (number - 1) x) number change) is (changes_at kept number default change some within)
+    subst (λ (x : OperationRecord). ChangesAt kept (set kept (number - 1) x) number change) is (changes_at kept number default change some within)
 
 -- the number of a call is that of its operation
-pub number_is : (history : History) (w : World) (b seq number : ℕ) → Tells history w → 1 ≤ seq → seq ≤ (w.nodes b).seq
-    → number ≡ unwrap_or (get pair_cmp history.numbers (b, seq)) 0 → number ≡ number_of w b seq
-number_is history w b seq number tells low high is = is ∙ ap (λ o. unwrap_or o 0) (tells.numbers b seq low high)
+pub number_is : (history : History) (w : World) (b seq number : ℕ) → Tells history w → w.up b ≡ true → 1 ≤ seq → seq ≤ (w.nodes b).seq
+    → number ≡ call_at (calls_in history.calls b) seq → number ≡ number_of w b seq
+number_is history w b zero number tells up low high is = absurd (omega arith)
+number_is history w b (suc k) number tells up low high is =
+    let are = subst (λ (x : Bool). AreCalls x (calls_in history.calls b) (number_of w b) (w.nodes b).seq) up (tells.calls b) in
+    is ∙ are.1 k (omega (arith, high)) ∙ ap (number_of w b) (add-one k)
 
 -- an operation made a version
-pub tells_made : (old new : History) (w : World) (b seq number : ℕ) (stamp : Stamp) (base : Option Stamp) (kept after : List KeptOperation) → Tells old w
+pub tells_made : (old new : History) (w : World) (b seq number : ℕ) (stamp : Stamp) (base : Option Stamp) (kept after : List OperationRecord) → Tells old w
     → number ≡ number_of w b seq → kept ≡ old.operations.items → new.operations.items ≡ after
     → new.sent.packets.items ≡ old.sent.packets.items → new.marks.items ≡ old.marks.items
-    → ChangesAt kept after number (made_kept stamp base) → length after ≡ length kept → new.numbers ≡ old.numbers
+    → ChangesAt kept after number (made_kept stamp base) → length after ≡ length kept → new.delivered ≡ old.delivered → new.calls ≡ old.calls
     → Tells new (record w { operations = put w.operations (number_of w b seq) (with_made stamp base (w.operations (number_of w b seq))) })
-tells_made old new w b seq number stamp base kept after tells is are become sent marks changed count numbers =
+tells_made old new w b seq number stamp base kept after tells is are become sent marks changed count delivered calls =
     tells_changed old new w (number_of w b seq) kept after (made_kept stamp base) (with_made stamp base) (made_mark stamp base) tells are become (made_alike stamp base)
-    (subst (λ n. ChangesAt kept after n (made_kept stamp base)) is changed) count sent numbers w.marks (marks ∙ tells.marks)
+    (subst (λ n. ChangesAt kept after n (made_kept stamp base)) is changed) count sent delivered calls w.marks (marks ∙ tells.marks)
 
 -- an operation read a version at once
-pub tells_seen : (old new : History) (w : World) (b seq number : ℕ) (stamp : Stamp) (kept after : List KeptOperation) → Tells old w
+pub tells_seen : (old new : History) (w : World) (b seq number : ℕ) (stamp : Stamp) (kept after : List OperationRecord) → Tells old w
     → number ≡ number_of w b seq → kept ≡ old.operations.items → new.operations.items ≡ after
     → new.sent.packets.items ≡ old.sent.packets.items → new.marks.items ≡ old.marks.items
-    → ChangesAt kept after number (seen_kept stamp) → length after ≡ length kept → new.numbers ≡ old.numbers
+    → ChangesAt kept after number (seen_kept stamp) → length after ≡ length kept → new.delivered ≡ old.delivered → new.calls ≡ old.calls
     → Tells new (record w { operations = put w.operations (number_of w b seq) (with_seen stamp (w.operations (number_of w b seq))) })
-tells_seen old new w b seq number stamp kept after tells is are become sent marks changed count numbers =
+tells_seen old new w b seq number stamp kept after tells is are become sent marks changed count delivered calls =
     tells_changed old new w (number_of w b seq) kept after (seen_kept stamp) (with_seen stamp) (seen_mark stamp) tells are become (seen_alike stamp)
-    (subst (λ n. ChangesAt kept after n (seen_kept stamp)) is changed) count sent numbers w.marks (marks ∙ tells.marks)
+    (subst (λ n. ChangesAt kept after n (seen_kept stamp)) is changed) count sent delivered calls w.marks (marks ∙ tells.marks)
 
 -- an operation ended
 pub tells_ended : (old new : History) (w : World) (brick : BrickId) (seq number : ℕ) (answer : Answer) (answered : Bool)
-    (kept after : List KeptOperation)
+    (kept after : List OperationRecord)
     → Tells old w → number ≡ number_of w brick.0 seq → kept ≡ old.operations.items → new.operations.items ≡ after → answered ≡ is_answer answer
     → new.sent.packets.items ≡ old.sent.packets.items → new.marks.items ≡ old.marks.items ++ End (length old.marks.items) number answer ∷ []
-    → ChangesAt kept after number (ended_kept answered) → length after ≡ length kept → new.numbers ≡ old.numbers
+    → ChangesAt kept after number (ended_kept answered) → length after ≡ length kept → new.delivered ≡ old.delivered → new.calls ≡ old.calls
     → Tells new (world_answered w brick (record { seq = seq; answer = answer }))
-tells_ended old new w brick seq number answer answered kept after tells is are become right sent marks changed count numbers =
+tells_ended old new w brick seq number answer answered kept after tells is are become right sent marks changed count delivered calls =
     let at : ChangesAt kept after (number_of w brick.0 seq) (ended_kept answered) =
     subst (λ n. ChangesAt kept after n (ended_kept answered)) is changed in
     tells_changed old new w (number_of w brick.0 seq) kept after (ended_kept (is_answer answer)) (with_answer answer) (answer_mark answer) tells are become
     (ended_alike answer)
-    (subst (λ (x : Bool). ChangesAt kept after (number_of w brick.0 seq) (ended_kept x)) right at) count sent numbers _
+    (subst (λ (x : Bool). ChangesAt kept after (number_of w brick.0 seq) (ended_kept x)) right at) count sent delivered calls _
     (marks ∙ ap (λ n. old.marks.items ++ End (length old.marks.items) n answer ∷ []) is
     ∙ ap (λ (xs : List Mark). xs ++ End (length xs) (number_of w brick.0 seq) answer ∷ []) tells.marks
     ∙ ap (λ n. w.marks ++ End (length w.marks) n answer ∷ []) (sym (own_number w.marked w.begun w.operations tells.own (number_of w brick.0 seq))))
@@ -388,7 +386,7 @@ pub tells_contents : (history : History) (w : World) (contents : ℕ → ℕ →
     → Tells history (record w { contents = contents })
 tells_contents history w contents tells =
     let v : World = record w { contents = contents } in
-    tells_other history w v refl refl refl refl refl (calls_same w v (λ i. refl) (λ i. refl) refl) tells
+    tells_other history w v refl refl refl refl refl refl (λ i calls are. are) tells
 
 -- What is told and answered changes operations, contents and marks alone.
 pub record KeepsRest (w v : World) : Type 0 where
@@ -397,21 +395,22 @@ pub record KeepsRest (w v : World) : Type 0 where
   pub up : v.up ≡ w.up
   pub clocks : v.clocks ≡ w.clocks
   pub packets : v.packets ≡ w.packets
+  pub reached : v.reached ≡ w.reached
 
 told_keeps : (setting : Setting) (w : World) (brick : BrickId) (told : List Told) → KeepsRest w (world_tells setting w brick told)
-told_keeps setting w brick [] = record { nodes = refl; after = refl; up = refl; clocks = refl; packets = refl }
+told_keeps setting w brick [] = record { nodes = refl; after = refl; up = refl; clocks = refl; packets = refl; reached = refl }
 told_keeps setting w brick (Made seq stamp base ∷ more) =
     let k = told_keeps setting (world_told setting w brick (Made seq stamp base)) brick more in
-    record { nodes = k.nodes; after = k.after; up = k.up; clocks = k.clocks; packets = k.packets }
+    record { nodes = k.nodes; after = k.after; up = k.up; clocks = k.clocks; packets = k.packets; reached = k.reached }
 told_keeps setting w brick (Seen seq stamp ∷ more) =
     let k = told_keeps setting (world_told setting w brick (Seen seq stamp)) brick more in
-    record { nodes = k.nodes; after = k.after; up = k.up; clocks = k.clocks; packets = k.packets }
+    record { nodes = k.nodes; after = k.after; up = k.up; clocks = k.clocks; packets = k.packets; reached = k.reached }
 
 answers_keep : (w : World) (brick : BrickId) (answers : List Answered) → KeepsRest w (world_answers w brick answers)
-answers_keep w brick [] = record { nodes = refl; after = refl; up = refl; clocks = refl; packets = refl }
+answers_keep w brick [] = record { nodes = refl; after = refl; up = refl; clocks = refl; packets = refl; reached = refl }
 answers_keep w brick (one ∷ more) =
     let k = answers_keep (world_answered w brick one) brick more in
-    record { nodes = k.nodes; after = k.after; up = k.up; clocks = k.clocks; packets = k.packets }
+    record { nodes = k.nodes; after = k.after; up = k.up; clocks = k.clocks; packets = k.packets; reached = k.reached }
 
 -- the world once a step told and answered what it did
 abbrev pub world_heard : Setting → World → BrickId → NodeStep → World
@@ -419,6 +418,9 @@ world_heard setting w brick step = world_answers (world_tells setting w brick st
 
 pub nodes_told : (setting : Setting) (w : World) (brick : BrickId) (told : List Told) → (world_tells setting w brick told).nodes ≡ w.nodes
 nodes_told setting w brick told = (told_keeps setting w brick told).nodes
+
+pub up_told : (setting : Setting) (w : World) (brick : BrickId) (told : List Told) → (world_tells setting w brick told).up ≡ w.up
+up_told setting w brick told = (told_keeps setting w brick told).up
 
 pub heard_keeps : (setting : Setting) (w : World) (brick : BrickId) (step : NodeStep) → KeepsRest w (world_heard setting w brick step)
 heard_keeps setting w brick step =
@@ -430,6 +432,7 @@ heard_keeps setting w brick step =
       up = answered.up ∙ told.up;
       clocks = answered.clocks ∙ told.clocks;
       packets = answered.packets ∙ told.packets;
+      reached = answered.reached ∙ told.reached;
     }
 
 -- a step that told, answered and sent
@@ -441,69 +444,71 @@ tells_stepped setting history w brick step packets sent boot next tells =
     let heard : World = world_heard setting w brick step in
     let keeps = heard_keeps setting w brick step in
     tells_other history (record heard { packets = heard.packets ++ packets }) (world_stepped setting w brick step)
-    (ap (λ (xs : List Packet). xs ++ step.packets) (sym keeps.packets) ∙ ap (λ (xs : List Packet). heard.packets ++ xs) (sym sent)) refl refl refl refl
-    (calls_same (record heard { packets = heard.packets ++ packets }) (world_stepped setting w brick step)
+    (ap (λ (xs : List Packet). xs ++ step.packets) (sym keeps.packets) ∙ ap (λ (xs : List Packet). heard.packets ++ xs) (sym sent)) refl refl refl refl refl
+    (calls_same (record heard { packets = heard.packets ++ packets }) (world_stepped setting w brick step) refl
     (λ i. boots_stay w brick step.node boot i ∙ ap (λ (f : ℕ → Node). (f i).boot) (sym keeps.nodes))
     (λ i. seqs_stay w brick step.node next i ∙ ap (λ (f : ℕ → Node). (f i).seq) (sym keeps.nodes)) refl) tells
 
--- a brick stopped
-pub tells_crashed : (setting : Setting) (old new : History) (w : World) (brick : BrickId) → Tells old w → new.sent.packets.items ≡ old.sent.packets.items
-    → new.marks.items ≡ old.marks.items ++ Crash (length old.marks.items) brick ∷ [] → new.operations.items ≡ old.operations.items
-    → new.numbers ≡ old.numbers → Tells new (world_stopped setting w brick None)
-tells_crashed setting old new w brick tells sent marks operations numbers =
-    let kept : Tells (record new { marks = old.marks }) w = tells_same old (record new { marks = old.marks }) w sent refl operations numbers tells in
-    let other : Tells (record new { marks = old.marks }) (record (world_stopped setting w brick None) { marks = w.marks }) =
-    tells_other (record new { marks = old.marks }) w (record (world_stopped setting w brick None) { marks = w.marks }) refl refl refl refl refl
-    (calls_same w (record (world_stopped setting w brick None) { marks = w.marks })
-    (boots_stay w brick (stopped (w.nodes brick.0)) (stopped_boot (w.nodes brick.0)))
-    (seqs_stay w brick (stopped (w.nodes brick.0)) (stopped_seq (w.nodes brick.0))) refl) kept
-    in
-    record {
-      packets = other.packets;
+-- a brick stopped, which has made no call then
+pub tells_crashed : (setting : Setting) (old new : History) (w : World) (brick : BrickId) → Tells old w
+    → new ≡ record old { marks = new.marks; calls = new.calls }
+    → new.marks.items ≡ old.marks.items ++ Crash (length old.marks.items) brick ∷ []
+    → ((i : ℕ) → calls_in new.calls i ≡ put (calls_in old.calls) brick.0 [] i) → Tells new (world_stopped setting w brick None)
+tells_crashed setting old new w brick tells rest marks calls =
+    subst (λ (h : History). Tells h (world_stopped setting w brick None)) (sym rest) (record {
+      packets = tells.packets;
+      reached = tells.reached;
       marks = marks ∙ ap (λ (xs : List Mark). xs ++ Crash (length xs) brick ∷ []) tells.marks;
-      begun = other.begun;
-      own = other.own;
-      operations = other.operations;
-      numbers = other.numbers;
-    }
+      begun = tells.begun;
+      own = tells.own;
+      operations = tells.operations;
+      calls = λ i.
+          subst (λ (l : List ℕ). AreCalls (v.up i) l (number_of v i) (v.nodes i).seq) (sym (calls i)) (by_brick i (nat_eq i brick.0));
+    })
+  where
+    v : World
+    v = world_stopped setting w brick None
+
+    by_brick : (i : ℕ) (x : Bool) → AreCalls (cond x false (w.up i)) (cond x [] (calls_in old.calls i))
+        (w.numbers i (cond x (stopped (w.nodes brick.0)) (w.nodes i)).boot) (cond x (stopped (w.nodes brick.0)) (w.nodes i)).seq
+    by_brick i true = refl
+    by_brick i false = tells.calls i
 
 -- a brick that starts has made no call yet
-started_calls : (w : World) (brick : BrickId) (openings : ℕ) → KeepsCalls w (world_started w brick openings)
-started_calls w brick openings = record {
-  each = λ i k low. each_value (λ j x. k ≤ x.seq → (k ≤ (w.nodes j).seq) × (w.numbers j x.boot k ≡ number_of w j k)) w.nodes brick.0
-      (restarted openings (w.nodes brick.0)) (λ high. absurd (let none : (restarted openings (w.nodes brick.0)).seq ≡ 0 = restarted_seq openings
-      (w.nodes brick.0) in omega arith))
-      (λ j other high. (high, refl)) i;
-}
+module _ (w : World) (brick : BrickId) (openings : ℕ) (down : w.up brick.0 ≡ false) where
+  started_calls : (nodes : ℕ → Node) → ((i : ℕ) → i ≢ brick.0 → nodes i ≡ w.nodes i) → (i : ℕ) (calls : List ℕ)
+      → AreCalls (w.up i) calls (number_of w i) (w.nodes i).seq
+      → (let node : Node = put nodes brick.0 (restarted openings (nodes brick.0)) i in
+      AreCalls (put w.up brick.0 true i) calls (w.numbers i node.boot) node.seq)
+  started_calls nodes others i calls are = by_brick (nat_eq i brick.0) refl
+    where
+      node : Node
+      node = restarted openings (nodes brick.0)
 
--- a brick started again
-pub tells_started : (history : History) (w : World) (brick : BrickId) (openings : ℕ) → Tells history w
-    → Tells history (world_started w brick openings)
-tells_started history w brick openings tells =
-    tells_other history w (world_started w brick openings) refl refl refl refl refl (started_calls w brick openings) tells
+      by_brick : (x : Bool) → nat_eq i brick.0 ≡ x
+          → AreCalls (cond x true (w.up i)) calls (w.numbers i (cond x node (nodes i)).boot) (cond x node (nodes i)).seq
+      by_brick true same =
+          let none : calls ≡ [] =
+          subst (λ (y : Bool). AreCalls y calls (number_of w i) (w.nodes i).seq) (ap w.up (eqb-true i brick.0 same) ∙ down) are in
+          let count : node.seq ≡ 0 = restarted_seq openings (nodes brick.0) in
+          (ap length none ∙ sym count, λ k less. absurd (omega (arith, less, count)))
+      by_brick false other =
+          subst (λ (n : Node). AreCalls (w.up i) calls (w.numbers i n.boot) n.seq) (sym (others i (eqb-false i brick.0 other))) are
 
--- so does one whose store is found to hold what the handling that its stop cut short would have kept
-found_calls : (w : World) (brick : BrickId) (openings : ℕ) → KeepsCalls w (world_started (world_found w brick After) brick openings)
-found_calls w brick openings =
-    let was : ℕ → Node = put w.nodes brick.0 (w.after brick.0) in
-    let kept : (j : ℕ) (x : Node) (k : ℕ) → Type 0 =
-    λ j x k. k ≤ x.seq → (k ≤ (w.nodes j).seq) × (w.numbers j x.boot k ≡ number_of w j k)
-    in
-    record {
-      each = λ i k low. each_value (λ j x. kept j x k) was brick.0 (restarted openings (was brick.0))
-          (λ high. absurd (let none : (restarted openings (was brick.0)).seq ≡ 0 = restarted_seq openings (was brick.0) in omega arith))
-          (λ j other. subst (λ (x : Node). kept j x k) (sym (value_elsewhere w.nodes brick.0 j (w.after brick.0) other)) (λ high. (high, refl))) i;
-    }
+  -- a brick started again, with what its store is found to hold
+  pub tells_found_started : (history : History) (found : Found) → Tells history w
+      → Tells history (world_started (world_found w brick found) brick openings)
+  tells_found_started history Before tells =
+      tells_other history w (world_started w brick openings) refl refl refl refl refl refl (started_calls w.nodes (λ i other. refl)) tells
+  tells_found_started history After tells =
+      tells_other history w (world_started (world_found w brick After) brick openings) refl refl refl refl refl refl
+      (started_calls (put w.nodes brick.0 (w.after brick.0)) (λ i other. value_elsewhere w.nodes brick.0 i (w.after brick.0) other)) tells
 
-pub tells_found_started : (history : History) (w : World) (brick : BrickId) (openings : ℕ) (found : Found) → Tells history w
-    → Tells history (world_started (world_found w brick found) brick openings)
-tells_found_started history w brick openings Before tells = tells_started history w brick openings tells
-tells_found_started history w brick openings After tells =
-    tells_other history w (world_started (world_found w brick After) brick openings) refl refl refl refl refl (found_calls w brick openings) tells
-
--- what a brick that is down would have kept is told by no history
-pub tells_during : (setting : Setting) (history : History) (w : World) (brick : BrickId) (during : Option ℕ)
-    → Tells history (world_stopped setting w brick None) → Tells history (world_stopped setting w brick during)
-tells_during setting history w brick during tells =
-    tells_other history (world_stopped setting w brick None) (world_stopped setting w brick during) refl refl refl refl refl
-    (calls_same (world_stopped setting w brick None) (world_stopped setting w brick during) (λ i. refl) (λ i. refl) refl) tells
+-- what a brick that is down would have kept is told by no history, and that a message was delivered in whose midst it stopped is
+pub tells_during : (setting : Setting) (history : History) (w : World) (brick : BrickId) (number : ℕ)
+    → reached_during w brick (Some number) ≡ put w.reached number true
+    → Tells history (world_stopped setting (record w { reached = put w.reached number true }) brick None)
+    → Tells history (world_stopped setting w brick (Some number))
+tells_during setting history w brick number reached tells =
+    tells_other history (world_stopped setting (record w { reached = put w.reached number true }) brick None)
+    (world_stopped setting w brick (Some number)) refl reached refl refl refl refl (λ i calls are. are) tells

@@ -24,28 +24,28 @@ use Rattle.protocol_laws.proofs.Effects.{told_all}
 use Rattle.protocol_laws.proofs.Entries.{IsEntryOf, entries_of}
 use Rattle.protocol_laws.proofs.Sorting.{ascending_permutation}
 use Rattle.reg_model.proofs.StripeLives.{life_filtered}
-use Rattle.world.specs.declared.histories.KeptOperation.{KeptOperation}
+use Rattle.world.specs.declared.histories.OperationRecord.{OperationRecord}
 use Rattle.world.specs.Shown.{TellsOperation}
 use Rattle.world.specs.Walks.{KeepsAll, BeginsAgree, BeginAsMarked, op_that, operation_of, operations_of, begin_at}
 
 -- stands for an operation of which nothing is kept
-abbrev pub nothing_kept : KeptOperation
-nothing_kept = record { begin = 0; group = record { 0 = 0 }; stripe = record { 0 = 0 }; version = None; made = false; base = None; writes = false; answered = false }
+abbrev pub nothing_kept : OperationRecord
+nothing_kept = record { brick = record { 0 = 0 }; boot = 0; seq = 0; begin = 0; group = record { 0 = 0 }; stripe = record { 0 = 0 }; version = None; made = false; base = None; writes = false; answered = false }
 
 -- the entries of one operation more
-pub entries_more : (operations : List KeptOperation) (g s i : ℕ) (d : KeptOperation) → i < length operations
+pub entries_more : (operations : List OperationRecord) (g s i : ℕ) (d : OperationRecord) → i < length operations
     → entries_to (operations_of operations) g s (i + 1)
     ≡ entries_to (operations_of operations) g s i ++ entry_at g s (i + 1) (Some (operation_of (get_or operations i d)))
 entries_more operations g s i d within =
-    let known : KeptOperation = get_or operations i d in
+    let known : OperationRecord = get_or operations i d in
     subst (λ (m : ℕ). entries_to (operations_of operations) g s m ≡ entries_to (operations_of operations) g s i ++ entry_at g s m
     (Some (operation_of known)))
     (sym (add-one i))
-    (ap (λ (o : Option KeptOperation). entries_to (operations_of operations) g s i ++ entry_at g s (suc i) (option_map operation_of o))
+    (ap (λ (o : Option OperationRecord). entries_to (operations_of operations) g s i ++ entry_at g s (suc i) (option_map operation_of o))
     (slice_get-get_or operations i d within))
 
 -- the entry of an operation that is kept is the machine's
-kept_entry : (g s n : ℕ) (known : KeptOperation) (o : Operation) → TellsOperation known o → entry_at g s n (Some (operation_of known)) ≡ entry_at g s n (Some o)
+kept_entry : (g s n : ℕ) (known : OperationRecord) (o : Operation) → TellsOperation known o → entry_at g s n (Some (operation_of known)) ≡ entry_at g s n (Some o)
 kept_entry g s n known o is =
     ap (λ (x : GroupId). cond (nat_eq x.0 g && nat_eq known.stripe.0 s) (entry_with n (not known.made) known.version) []) is.group
     ∙ ap (λ (x : StripeNo). cond (nat_eq o.ask.group.0 g && nat_eq x.0 s) (entry_with n (not known.made) known.version) []) is.stripe
@@ -53,23 +53,23 @@ kept_entry g s n known o is =
     ∙ ap (λ (x : Option Stamp). cond (is_of g s o) (entry_with n (not o.made) x) []) is.version
 
 -- operation k, as it is kept and as the machine has it
-record Agrees (operations : List KeptOperation) (w : World) (k : ℕ) : Type 0 where
-  known : KeptOperation
+record Agrees (operations : List OperationRecord) (w : World) (k : ℕ) : Type 0 where
+  known : OperationRecord
   operation : Operation
   kept : operations_of operations k ≡ Some (operation_of known)
   is : w.operations k ≡ Some operation
   same : TellsOperation known operation
 
-agrees : (operations : List KeptOperation) (w : World) → KeepsAll operations w → (d : KeptOperation) (k : ℕ) → 1 ≤ k → k ≤ length operations → Agrees operations w k
+agrees : (operations : List OperationRecord) (w : World) → KeepsAll operations w → (d : OperationRecord) (k : ℕ) → 1 ≤ k → k ≤ length operations → Agrees operations w k
 agrees operations w are d zero low high = absurd (omega arith)
 agrees operations w are d (suc i) low high =
-    let known : KeptOperation = get_or operations i d in
+    let known : OperationRecord = get_or operations i d in
     let at : slice_get operations i ≡ Some known = slice_get-get_or operations i d (omega arith) in
     let mine = are.each i known at in
     record {
       known = known;
       operation = mine.0;
-      kept = ap (λ (o : Option KeptOperation). option_map operation_of o) at;
+      kept = ap (λ (o : Option OperationRecord). option_map operation_of o) at;
       is = subst (λ (m : ℕ). w.operations m ≡ Some mine.0) (add-one i) mine.1;
       same = mine.2;
     }
@@ -135,7 +135,7 @@ effect_same f g (e ∷ entries) same =
     ap (λ (above : Effect). with_entry (f e.operation) e above) (effect_same f g entries (All-tail AreSame e entries same))
     ∙ with_entry_same (f e.operation) (g e.operation) e (effect_of g entries) first.0 first.1 first.2
 
-module _ (operations : List KeptOperation) (w : World) (are : KeepsAll operations w) (d : KeptOperation) (g s : ℕ) where
+module _ (operations : List OperationRecord) (w : World) (are : KeepsAll operations w) (d : OperationRecord) (g s : ℕ) where
   -- the entries are the same
   entries_same : (n : ℕ) → n ≤ length operations → entries_to (operations_of operations) g s n ≡ entries_to w.operations g s n
   entries_same zero within = refl
@@ -217,17 +217,17 @@ module _ (operations : List KeptOperation) (w : World) (are : KeepsAll operation
       (let near : IsUpTo w.begun (get_or walk k e) = upto k e lt in (near.0, (let begun = are.begun in omega (arith, near.1)))) (ours k e lt)
 
 -- from the operations that a world keeps, and the entries of a stripe, comes the walk along its versions
-pub kept_walk : (operations : List KeptOperation) (w : World) (g s : ℕ) → KeepsAll operations w
+pub kept_walk : (operations : List OperationRecord) (w : World) (g s : ℕ) → KeepsAll operations w
     → (effect_of (operations_of operations) (ascending (entries_to w.operations g s w.begun))).told ≡ walk_of w g s
 kept_walk operations w g s are = walk_same operations w are nothing_kept g s
 
 -- and the operations of the walk begin where the marks of the stripe say
-pub kept_begins : (operations : List KeptOperation) (w : World) (g s : ℕ) → KeepsAll operations w → BeginsAgree w
+pub kept_begins : (operations : List OperationRecord) (w : World) (g s : ℕ) → KeepsAll operations w → BeginsAgree w
     → BeginAsMarked (operations_of operations) (stripe_marks g s w.marks) (walk_of w g s)
 kept_begins operations w g s are begins = walk_begins operations w are nothing_kept g s begins
 
 -- the entries of a world, from the operations that are kept
-pub kept_entries : (operations : List KeptOperation) (w : World) (g s : ℕ) → KeepsAll operations w
+pub kept_entries : (operations : List OperationRecord) (w : World) (g s : ℕ) → KeepsAll operations w
     → entries_to (operations_of operations) g s (length operations) ≡ entries_to w.operations g s w.begun
 kept_entries operations w g s are =
     entries_same operations w are nothing_kept g s (length operations) (omega arith)

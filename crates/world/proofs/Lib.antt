@@ -17,10 +17,8 @@ pub mod RunLemmas
 pub mod SimulationLemmas
 pub mod DeliveryLemmas
 pub mod CallNumbers
-pub mod CallSteps
 pub mod TimeLemmas
-pub mod LedgerLemmas
-pub mod LedgerLists
+pub mod DeliveryLists
 pub mod Chains
 pub mod ChainWalks
 pub mod Numberless

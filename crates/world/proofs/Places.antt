@@ -1,5 +1,5 @@
 -- Lists that grow or change at one place, functions with one value changed, and queries for calls.
-use Rattle.std.proofs.Common.{◌≡◌, ◌≢◌, ℕ, zero, suc, ◌<◌, ◌⊎◌, inl, inr, Bool, true, false, cond, nat_eq, ◌&&◌, List, [], ◌∷◌, ◌++◌, length, set, Some, None, refl, sym, ap, ◌∙◌, subst, arith}
+use Rattle.std.proofs.Common.{◌≡◌, ◌≢◌, ℕ, zero, suc, ◌<◌, ◌⊎◌, inl, inr, Bool, true, false, cond, nat_eq, ◌&&◌, List, [], ◌∷◌, ◌++◌, length, get_or, set, Some, None, refl, sym, ap, ◌∙◌, subst, arith}
 use Rattle.std.specs.Prelude.{slice_get, Result, Ok, Err, is_ok, IsOk}
 use Rattle.std.specs.declared.cmp.Ordering.{Ordering}
 use Rattle.std.specs.declared.cmp.Ordering.TheVariants.{Less, Equal, Greater}
@@ -59,19 +59,10 @@ then_is_eq Less b = refl
 then_is_eq Equal b = refl
 then_is_eq Greater b = refl
 
--- a query for a call is at its own brick and number
+-- a query for a pair of numbers is at its own two
 pub is_at_call : (b s i k : ℕ) → is_at (pair_cmp (b, s)) (i, k) ≡ nat_eq i b && nat_eq k s
 is_at_call b s i k =
     then_is_eq (nat_cmp b i) (nat_cmp s k) ∙ ap (λ x. x && is_eq (nat_cmp s k)) (is_at_number b i) ∙ ap (λ x. nat_eq i b && x) (is_at_number s k)
-
--- another call is not there
-pub call_apart : (b s i k : ℕ) → (i ≡ b → k ≢ s) → is_at (pair_cmp (b, s)) (i, k) ≡ false
-call_apart b s i k apart = is_at_call b s i k ∙ not_both (nat_eq i b) (nat_eq k s) refl refl
-  where
-    not_both : (x y : Bool) → nat_eq i b ≡ x → nat_eq k s ≡ y → x && y ≡ false
-    not_both true true same equal = absurd (apart (eqb-true i b same) (eqb-true k s equal))
-    not_both true false same equal = refl
-    not_both false y same equal = refl
 
 -- the new element of a list with one place changed
 pub set_here : {A : Type 0} (xs : List A) (k : ℕ) (x : A) → k < length xs → slice_get (set xs k x) k ≡ Some x
@@ -98,3 +89,14 @@ pub append_get : {A : Type 0} (xs ys : List A) (k : ℕ) (x : A) → k < length 
 append_get xs ys k x within at =
     slice_get-get_or xs k x within ∙ ap Some (sym (get_or_append_left xs ys x k within))
     ∙ sym (slice_get-get_or (xs ++ ys) k x (omega (arith, within, length-append xs ys))) ∙ at
+
+-- the element at the end
+pub get_or_end : {A : Type 0} (xs : List A) (x d : A) → get_or (xs ++ x ∷ []) (length xs) d ≡ x
+get_or_end [] x d = refl
+get_or_end (y ∷ xs) x d = get_or_end xs x d
+
+-- there is an element at each place of a list
+pub slice_get_not_none : {A : Type 0} (xs : List A) (k : ℕ) → k < length xs → slice_get xs k ≡ None → ⊥
+slice_get_not_none [] k within none = absurd (omega arith)
+slice_get_not_none (x ∷ xs) zero within none = (let never : Some x ≡ None = none in cc)
+slice_get_not_none (x ∷ xs) (suc k) within none = slice_get_not_none xs k (omega arith) none

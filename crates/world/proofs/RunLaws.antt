@@ -13,9 +13,8 @@ use Rattle.protocol_laws.proofs.EveryRun.{every_views_run}
 use Rattle.world.specs.Runs.{Run, world_of, all_events}
 use Rattle.world.specs.Shown.{IsNumbered, IsReachedBy}
 use Rattle.world.specs.Walks.{BeginsAgree}
-use Rattle.world.proofs.CallNumbers.{NumbersSay, AreOfBricks, numbers_say, of_bricks}
+use Rattle.world.proofs.CallNumbers.{NumbersSay, AreOfBricks, KnowsCalls, numbers_say, of_bricks, knows_calls}
 use Rattle.world.proofs.KeptOperations.{begins_from_books}
-use Rattle.world.proofs.LedgerLemmas.{KnowsCalls, knows_calls}
 use Rattle.world.proofs.RunLemmas.{numbered_from_books}
 
 -- its books are kept

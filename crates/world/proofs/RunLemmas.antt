@@ -22,12 +22,10 @@ use Rattle.protocol_laws.proofs.Books.{Books}
 use Rattle.world.specs.Runs.{Run, Step, world_of, all_events, brick_of}
 use Rattle.world.specs.Faults.{IsEventsOf, IsStartOf, StaysDown, IsStarted, IsNoStart}
 use Rattle.world.specs.Disks.{ShowsDiskOf, ShowsDisks, KeepsDisks, LeavesContents}
-use Rattle.world.specs.Shown.{IsNumbered, Shows, ShowsBricks, ShowsPower, ComesTo, Refused, disk_in, disks_of, came_to}
+use Rattle.world.specs.Shown.{IsNumbered, Shows, ShowsBricks, ShowsPower, ComesTo, Leaves, disk_in, disks_of, came_to}
 use Rattle.calm_laws.specs.Logs.{is_stripe}
 use Rattle.protocol.proofs.Events.{run-append, EventCases, step_on, world_counting, stepped_each, started_each, run_each}
 use Rattle.world.specs.Steps.{Runs, RunsTo, LeavesSome, with_step, log_at}
-use Rattle.world.specs.Standing.{Leaves}
-use Rattle.world.specs.Ledgers.{Notes}
 use Rattle.world.specs.Texts.{text_of, event_text, marks_text, outcome_text, new_marks, line_text, step_text}
 use Rattle.world.specs.declared.bricks.Brick.{Brick}
 use Rattle.world.specs.declared.bricks.Power.{Power}
@@ -195,10 +193,9 @@ text_is old new line step outcome marks before text runs prints are count is =
 pub runs_to : (layout : Layout) (old new : List Step) (before disks : List MemDisk) (state : Simulation) (line : Line) (outcome : Outcome)
     → disks ≡ disks_of state.bricks.items
     → (events : List Event) × ComesTo layout (world_of (record { layout = layout; steps = old; disks = before })) before state line outcome events
-    × Notes state.ledger (run (coding layout) events (world_of (record { layout = layout; steps = old; disks = before })))
     × (new ≡ old ++ record { line = line; events = events } ∷ [])
     → RunsTo (record { layout = layout; steps = old; disks = before }) (record { layout = layout; steps = new; disks = disks }) line outcome
-runs_to layout old new before disks state line outcome same (events, comes, notes, grown) =
+runs_to layout old new before disks state line outcome same (events, comes, grown) =
     let r : Run = record { layout = layout; steps = old; disks = before } in
     record {
       step = record { line = line; events = events };
@@ -216,24 +213,13 @@ runs_to layout old new before disks state line outcome same (events, comes, note
           ∙ world_of-with_step r (record { line = line; events = events }) disks) ∙ comes.prints;
     }
 
--- and the state shows the world behind it, and its ledger notes it
+-- and the state shows the world behind it
 pub stands_run : (layout : Layout) (old new : List Step) (before disks : List MemDisk) (state : Simulation) (line : Line) (outcome : Outcome)
     → (events : List Event) × ComesTo layout (world_of (record { layout = layout; steps = old; disks = before })) before state line outcome events
-    × Notes state.ledger (run (coding layout) events (world_of (record { layout = layout; steps = old; disks = before })))
     × (new ≡ old ++ record { line = line; events = events } ∷ [])
     → Shows layout state (world_of (record { layout = layout; steps = new; disks = disks }))
-    × Notes state.ledger (world_of (record { layout = layout; steps = new; disks = disks }))
-stands_run layout old new before disks state line outcome (events, comes, notes, grown) = (
-  stands_step (Shows layout state) layout old new (record { line = line; events = events }) before disks grown comes.shows,
-  stands_step (Notes state.ledger) layout old new (record { line = line; events = events }) before disks grown notes,
-)
-
--- what a refusal for want of memory adds to the steps
-pub refused_leaves : (layout : Layout) (w : World) (old new : Simulation) (line : Line) → Notes old.ledger w → Refused layout w old new line
-    → (steps : List Step) × Leaves layout w (disks_of old.bricks.items) new line steps
-refused_leaves layout w old new line notes (inl (stays, on)) = ([], inl (stays, on notes, refl))
-refused_leaves layout w old new line notes (inr (events, stops, on)) =
-    (record { line = line; events = events } ∷ [], inr (events, stops, on notes, refl))
+stands_run layout old new before disks state line outcome (events, comes, grown) =
+    stands_step (Shows layout state) layout old new (record { line = line; events = events }) before disks grown comes.shows
 
 -- what a line leaves for which no memory was left
 pub leaves_some : (layout : Layout) (old new : List Step) (before disks : List MemDisk) (state : Simulation) (line : Line)
@@ -250,13 +236,13 @@ leaves_some layout old new before disks state line same (steps, leaves, grown) =
     s = record { layout = layout; steps = new; disks = disks }
 
     left : Leaves layout (world_of r) before state line steps → LeavesSome r s line
-    left (inl (stays, notes, none)) =
+    left (inl (stays, none)) =
         inl (record {
           layout = refl;
           steps = grown ∙ ap (λ (more : List Step). old ++ more) none ∙ append-nil old;
           contents = ap (λ (d : List MemDisk). map content_of d) same ∙ stays.contents;
         })
-    left (inr (events, stops, notes, one)) =
+    left (inr (events, stops, one)) =
         inr (
           record { line = line; events = events },
           record {
@@ -268,25 +254,19 @@ leaves_some layout old new before disks state line same (steps, leaves, grown) =
           },
         )
 
--- and the state shows the world behind it, and its ledger notes it
+-- and the state shows the world behind it
 pub stands_left : (layout : Layout) (old new : List Step) (before disks : List MemDisk) (state : Simulation) (line : Line)
     → (steps : List Step) × Leaves layout (world_of (record { layout = layout; steps = old; disks = before })) before state line steps
     × (new ≡ old ++ steps)
     → Shows layout state (world_of (record { layout = layout; steps = new; disks = disks }))
-    × Notes state.ledger (world_of (record { layout = layout; steps = new; disks = disks }))
 stands_left layout old new before disks state line (steps, leaves, grown) = left leaves
   where
     v : List Step → World
     v steps = world_of (record { layout = layout; steps = steps; disks = disks })
 
-    left : Leaves layout (v old) before state line steps → Shows layout state (v new) × Notes state.ledger (v new)
-    left (inl (stays, notes, none)) =
-        let same : new ≡ old = grown ∙ ap (λ (more : List Step). old ++ more) none ∙ append-nil old in (
-          subst (λ (x : List Step). Shows layout state (v x)) (sym same) stays.shows,
-          subst (λ (x : List Step). Notes state.ledger (v x)) (sym same) notes,
-        )
-    left (inr (events, stops, notes, one)) =
-        let more : new ≡ old ++ record { line = line; events = events } ∷ [] = grown ∙ ap (λ (more : List Step). old ++ more) one in (
-          stands_step (Shows layout state) layout old new (record { line = line; events = events }) before disks more stops.shows,
-          stands_step (Notes state.ledger) layout old new (record { line = line; events = events }) before disks more notes,
-        )
+    left : Leaves layout (v old) before state line steps → Shows layout state (v new)
+    left (inl (stays, none)) =
+        subst (λ (x : List Step). Shows layout state (v x)) (sym (grown ∙ ap (λ (more : List Step). old ++ more) none ∙ append-nil old)) stays.shows
+    left (inr (events, stops, one)) =
+        stands_step (Shows layout state) layout old new (record { line = line; events = events }) before disks
+        (grown ∙ ap (λ (more : List Step). old ++ more) one) stops.shows

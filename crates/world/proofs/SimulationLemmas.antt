@@ -22,7 +22,7 @@ use Rattle.world.specs.declared.bricks.Power.TheVariants.{Up, Down}
 use Rattle.fab_disk.specs.declared.mem_disk.MemDisk.{MemDisk}
 use Rattle.world.specs.declared.simulations.Simulation.{Simulation}
 use Rattle.world.proofs.MachineBegins.{happens_begun, happens_handled, happens_set, happens_ticked, happens_stopped}
-use Rattle.world.proofs.HistoryLemmas.{tells_other, calls_same, heard_keeps}
+use Rattle.world.proofs.HistoryLemmas.{tells_other, heard_keeps}
 use Rattle.protocol.proofs.Events.{world_handled}
 
 -- what holds anyway holds where there is an error
@@ -72,12 +72,12 @@ shows_begun layout state w brick ask up none bricks history =
 pub shows_still : (layout : Layout) (state : Simulation) (w v : World) → v ≡ w → Shows layout state w → Shows layout state v
 shows_still layout state w v same shows = subst (λ (x : World). Shows layout state x) (sym same) shows
 
--- which replies count, and which messages were delivered, is told by no history
-pub tells_replies : (layout : Layout) (history : History) (w : World) (number : ℕ) (packet : Packet) → Tells history w
-    → Tells history (record w { replies = replies_with (coding layout) w packet; reached = put w.reached number true })
+-- which replies count is told by no history
+pub tells_replies : (layout : Layout) (history : History) (w : World) (number : ℕ) (packet : Packet)
+    → Tells history (record w { reached = put w.reached number true }) → Tells history (record w { replies = replies_with (coding layout) w packet; reached = put w.reached number true })
 tells_replies layout history w number packet tells =
     let v : World = record w { replies = replies_with (coding layout) w packet; reached = put w.reached number true } in
-    tells_other history w v refl refl refl refl refl (calls_same w v (λ i. refl) (λ i. refl) refl) tells
+    tells_other history (record w { reached = put w.reached number true }) v refl refl refl refl refl refl (λ i calls are. are) tells
 
 -- a message that was handled
 pub shows_handled : (layout : Layout) (state : Simulation) (w : World) (number : ℕ) (packet : Packet) → packet_of w.packets number ≡ Some packet
@@ -112,8 +112,8 @@ shows_set layout old new w brick time within bricks same shows =
     (record {
       bricks = bricks;
       history = subst (λ (h : History). Tells h (record w { clocks = put w.clocks brick.0 time })) (sym same)
-          (tells_other old.history w (record w { clocks = put w.clocks brick.0 time }) refl refl refl refl refl
-          (calls_same w (record w { clocks = put w.clocks brick.0 time }) (λ i. refl) (λ i. refl) refl) shows.history);
+          (tells_other old.history w (record w { clocks = put w.clocks brick.0 time }) refl refl refl refl refl refl (λ i calls are. are)
+          shows.history);
     })
 
 -- what setting a clock comes to

@@ -194,7 +194,7 @@ module _ (layout : Layout) (bricks : List Brick) (number : BrickId) (old : Brick
           are = inr (inl (record { start = start_here was.finds; spared = inl was.spared; events_are = refl }));
           bricks = subst (λ (x : World). ShowsBricks layout new_bricks x.nodes x.after x.up x.clocks) (sym happened) shown;
           comes = sym (ap marks_if may);
-          tells = λ history tells. subst (λ (x : World). Tells history x) (sym happened) (tells_found_started history w number openings was.finds.found tells);
+          tells = λ history tells. subst (λ (x : World). Tells history x) (sym happened) (tells_found_started w number openings down_here history was.finds.found tells);
           kept = one_kept (coding layout) w event (disks_of bricks) (disks_of new_bricks)
               (record {
                 others = others_here;

@@ -1,7 +1,8 @@
 pub mod Runs
 pub mod Calms
 pub mod Sendings
-pub mod Ledgers
+pub mod CallNumbers
+pub mod Deliveries
 pub mod EventCalls
 pub mod Faults
 pub mod Disks

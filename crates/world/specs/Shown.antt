@@ -1,8 +1,7 @@
 -- What a world keeps, and the machine's world that it shows.
-use Rattle.std.specs.Prelude.{◌≡◌, ◌⊎◌, ℕ, ◌+◌, ◌<◌, ◌≤◌, Bool, true, false, not, nat_eq, if◌then◌else◌, List, [], ◌∷◌, length, map, Option, Some, None, is_some, Result, Ok, Err, slice_get, vec_len, vec_capacity}
+use Rattle.std.specs.Prelude.{◌≡◌, ◌⊎◌, ℕ, zero, suc, ◌+◌, ◌<◌, ◌≤◌, Bool, true, false, not, nat_eq, if◌then◌else◌, List, [], ◌∷◌, length, map, Option, Some, None, is_some, Result, Ok, Err, get_or, slice_get, vec_len, vec_capacity}
 use Rattle.std.specs.declared.cmp.Ordering.{Ordering}
 use Rattle.std.specs.Ordering.{nat_cmp, ordering_then}
-use Rattle.std.specs.BTreeMap.{get}
 use Rattle.std.specs.List.{AllByRecursion}
 use Rattle.std.specs.Option.{option_map}
 use Rattle.fab_base.specs.declared.faults.NoMem.{NoMem}
@@ -14,18 +13,19 @@ use Rattle.brick_store.specs.Calls.{opening_calls}
 use Rattle.brick_store.specs.Openings.{opens_appendable}
 use Rattle.node.specs.Calls.{packet_calls}
 use Rattle.node.specs.Running.{Running, state_of, shape_at}
-use Rattle.fab_base.specs.Layouts.{Layout, Group}
+use Rattle.fab_base.specs.Layouts.{Layout}
 use Rattle.protocol.specs.Coordinators.{Coordinator}
 use Rattle.protocol.specs.Nodes as machine
 use Rattle.protocol.specs.declared.tellings.Answered.{Answered}
 use Rattle.protocol.specs.declared.tellings.Told.{Told}
 use Rattle.protocol.specs.declared.tellings.Told.TheVariants as told
-use Rattle.protocol.specs.Worlds.{World, Operation, is_up, number_of, first_world, run}
+use Rattle.protocol.specs.Worlds.{World, Operation, is_up, number_of, first_world, happens, run}
 use Rattle.protocol.specs.Happenings.{writes}
 use Rattle.protocol.specs.Settings.{Setting}
 use Rattle.protocol.specs.Worlds.{Event}
 use Rattle.protocol_laws.specs.Marked.{OwnMarks}
-use Rattle.world.specs.Runs.{brick_of}
+use Rattle.world.specs.Runs.{Step, brick_of}
+use Rattle.world.specs.CallNumbers.{AreCalls, calls_in}
 use Rattle.world.specs.Faults.{HoldsOne, IsEventsOf, IsStartOf, IsLeft, IsLeftOpening, IsReached, IsReachedOpening, Finds, plan_of, found_of}
 use Rattle.world.specs.Disks.{ShowsDisk, IsUnwritten, AreUnwritten, KeepsDisks, LeavesContents, ListsPacket, ListsOpening, OfDisk}
 use Rattle.lines.specs.declared.forms.Fault.{Fault}
@@ -37,14 +37,11 @@ use Rattle.node.specs.Outcomes.{Outcome as Sent}
 use Rattle.stripe_code.specs.Codes.{coding}
 use Rattle.protocol.specs.Calms.{IsEarly, RunsAlone, early, open_call}
 use Rattle.world.specs.Calms.{BeginsCalm, BeginsAlone}
-use Rattle.world.specs.Ledgers.{Notes, origin_at}
-use Rattle.world.specs.declared.ledgers.Ledger.{Ledger}
-use Rattle.world.specs.declared.ledgers.Origin.{Origin}
 use Rattle.world.specs.Texts.{outcome_of, outcome_text, new_marks, marks_text, line_text, text_of}
 use Rattle.world.specs.declared.simulations.Outcome.{Outcome}
 use Rattle.world.specs.declared.simulations.Outcome.TheVariants.{Marks, Idle}
 use Rattle.world.specs.declared.histories.History.{History}
-use Rattle.world.specs.declared.histories.KeptOperation.{KeptOperation}
+use Rattle.world.specs.declared.histories.OperationRecord.{OperationRecord}
 use Rattle.world.specs.declared.bricks.Brick.{Brick}
 use Rattle.world.specs.declared.bricks.Power.{Power}
 use Rattle.world.specs.declared.bricks.Power.TheVariants.{Up, Down}
@@ -55,7 +52,10 @@ abbrev pub pair_cmp : ℕ × ℕ → ℕ × ℕ → Ordering
 pair_cmp x y = ordering_then (nat_cmp x.0 y.0) (nat_cmp x.1 y.1)
 
 -- what is kept of an operation is the machine's
-pub record TellsOperation (kept : KeptOperation) (o : Operation) : Type 0 where
+pub record TellsOperation (kept : OperationRecord) (o : Operation) : Type 0 where
+  pub brick : kept.brick ≡ o.brick
+  pub boot : kept.boot ≡ o.boot
+  pub seq : kept.seq ≡ o.seq
   pub begin : kept.begin ≡ o.begin
   pub group : kept.group ≡ o.ask.group
   pub stripe : kept.stripe ≡ o.ask.stripe
@@ -66,25 +66,30 @@ pub record TellsOperation (kept : KeptOperation) (o : Operation) : Type 0 where
   pub answered : kept.answered ≡ o.answered
 
 -- what is kept of the operations, from the first, is the machine's
-abbrev pub TellsOperations : List KeptOperation → (ℕ → Option Operation) → Type 0
+abbrev pub TellsOperations : List OperationRecord → (ℕ → Option Operation) → Type 0
 TellsOperations kept operations =
-    (n : ℕ) (one : KeptOperation) → slice_get kept n ≡ Some one
+    (n : ℕ) (one : OperationRecord) → slice_get kept n ≡ Some one
     → (o : Operation) × (operations (n + 1) ≡ Some o) × TellsOperation one o
 
+-- what is kept of the operation of a number
+abbrev pub record_at : List OperationRecord → ℕ → Option OperationRecord
+record_at kept zero = None
+record_at kept (suc n) = slice_get kept n
+
 -- what is kept of an operation that made a version, on this base
-abbrev pub made_kept : Stamp → Option Stamp → KeptOperation → KeptOperation
+abbrev pub made_kept : Stamp → Option Stamp → OperationRecord → OperationRecord
 made_kept stamp base kept = record kept { version = Some stamp; made = true; base = base }
 
 -- what is kept of an operation that ended
-abbrev pub ended_kept : Bool → KeptOperation → KeptOperation
+abbrev pub ended_kept : Bool → OperationRecord → OperationRecord
 ended_kept answered kept = record kept { answered = answered }
 
 -- what is kept of an operation that read a version at once
-abbrev pub seen_kept : Stamp → KeptOperation → KeptOperation
+abbrev pub seen_kept : Stamp → OperationRecord → OperationRecord
 seen_kept stamp kept = record kept { version = Some stamp }
 
 -- what is kept of the operation of a number changed, and of no other
-abbrev pub ChangesAt : List KeptOperation → List KeptOperation → ℕ → (KeptOperation → KeptOperation) → Type 0
+abbrev pub ChangesAt : List OperationRecord → List OperationRecord → ℕ → (OperationRecord → OperationRecord) → Type 0
 ChangesAt old new number change =
     (n : ℕ) → slice_get new n ≡ (if nat_eq (n + 1) number then option_map change (slice_get old n) else slice_get old n)
 
@@ -246,15 +251,16 @@ HandledAs layout w number packet fault old new (Ok (Some outs)) = HandledWhole l
 HandledAs layout w number packet fault old new (Ok None) = HandledPart layout w number packet fault old new
 HandledAs layout w number packet fault old new (Err refused) = ShowsBricks layout new w.nodes w.after w.up w.clocks
 
--- The history tells the machine's world: every message, every mark, each operation, whose marks have its number, and the numbers of the
--- calls so far of each brick's present boot.
+-- The history tells the machine's world: every message, and which were delivered, every mark, each operation, whose marks have its number, and
+-- the operations of the calls so far of each brick that is up.
 pub record Tells (history : History) (w : World) : Type 0 where
   pub packets : history.sent.packets.items ≡ w.packets
+  pub reached : (k : ℕ) → get_or history.delivered.reached.items k false ≡ w.reached (k + 1)
   pub marks : history.marks.items ≡ w.marks
   pub begun : length history.operations.items ≡ w.begun
   pub own : OwnMarks w
   pub operations : TellsOperations history.operations.items w.operations
-  pub numbers : (i k : ℕ) → 1 ≤ k → k ≤ (w.nodes i).seq → get pair_cmp history.numbers (i, k) ≡ Some (number_of w i k)
+  pub calls : (i : ℕ) → AreCalls (w.up i) (calls_in history.calls i) (number_of w i) (w.nodes i).seq
 
 -- The state shows the machine's world.
 pub record Shows (layout : Layout) (state : Simulation) (w : World) : Type 0 where
@@ -291,11 +297,6 @@ AreTold node told = AllByRecursion (λ one. IsOfCall node (told_call one)) told
 abbrev pub AreAnswered : machine.Node → List Answered → Type 0
 AreAnswered node answers = AllByRecursion (λ one. IsOfCall node one.seq) answers
 
--- the operation of the one call that is answered, if one is
-abbrev pub EndedIs : World → BrickId → List Answered → Option ℕ → Type 0
-EndedIs w brick [] ended = ended ≡ None
-EndedIs w brick (one ∷ answers) ended = ended ≡ Some (number_of w brick.0 one.seq)
-
 -- what events that are none or one come to
 abbrev pub came_to : Setting → World → List Event → Outcome
 came_to setting w [] = Marks
@@ -325,14 +326,9 @@ abbrev pub IsBegunBy : Layout → World → Line → List Event → Type 0
 IsBegunBy layout w (Calm n bricks) events = BeginsCalm (coding layout) w n (map brick_of bricks) events
 IsBegunBy layout w line events = ⊥
 
--- a line came to this outcome, and is some events, after which the ledger notes the world too
+-- a line came to this outcome, and is some events
 abbrev pub Comes : Layout → World → List MemDisk → Simulation → Line → Outcome → Type 0
-Comes layout w disks state line outcome =
-    (events : List Event) × ComesTo layout w disks state line outcome events × Notes state.ledger (run (coding layout) events w)
-
--- the ledger notes the world after events, where it noted the world before
-abbrev pub NotesOn : Layout → World → Ledger → List Event → Ledger → Type 0
-NotesOn layout w old events new = Notes old w → Notes new (run (coding layout) events w)
+Comes layout w disks state line outcome = (events : List Event) × ComesTo layout w disks state line outcome events
 
 -- No memory was left for a line: the state shows the world as it was, and a read of each disk gives what it gave; or an operation began to run alone.
 pub record StopsAt (layout : Layout) (w : World) (disks : List MemDisk) (state : Simulation) (line : Line) (events : List Event) : Type 0 where
@@ -344,10 +340,39 @@ pub record StaysAt (layout : Layout) (w : World) (disks : List MemDisk) (state :
   pub shows : Shows layout state w
   pub contents : map content_of (disks_of state.bricks.items) ≡ map content_of disks
 
+-- the steps that a line adds for which no memory was left: none, or one that was not run to its end
+abbrev pub Leaves : Layout → World → List MemDisk → Simulation → Line → List Step → Type 0
+Leaves layout w disks state line steps =
+    (StaysAt layout w disks state × (steps ≡ []))
+    ⊎ ((events : List Event) × StopsAt layout w disks state line events × (steps ≡ record { line = line; events = events } ∷ []))
+
+-- so it adds some steps or other
 abbrev pub Refused : Layout → World → Simulation → Simulation → Line → Type 0
-Refused layout w old new line =
-    (StaysAt layout w (disks_of old.bricks.items) new × NotesOn layout w old.ledger [] new.ledger)
-    ⊎ ((events : List Event) × StopsAt layout w (disks_of old.bricks.items) new line events × NotesOn layout w old.ledger events new.ledger)
+Refused layout w old new line = (steps : List Step) × Leaves layout w (disks_of old.bricks.items) new line steps
+
+-- a schedule reaches a world that the state shows
+abbrev pub IsReachable : Layout → Simulation → Type 0
+IsReachable layout state = (w : World) × IsReachedBy layout w × Shows layout state w
+
+-- A line was run from one state to another, and came to this outcome, in the world that the first shows.
+abbrev pub RunsLine : Layout → Simulation → Simulation → Line → Outcome → Type 0
+RunsLine layout old new line outcome =
+    (w : World) → IsReachedBy layout w → Shows layout old w → Comes layout w (disks_of old.bricks.items) new line outcome
+
+-- no memory was left for it
+abbrev pub RefusesLine : Layout → Simulation → Simulation → Line → Type 0
+RefusesLine layout old new line = (w : World) → IsReachedBy layout w → Shows layout old w → Refused layout w old new line
+
+-- An event took one state to another, and came to this outcome. It makes no call of a disk.
+pub record TakesEvent (layout : Layout) (old new : Simulation) (event : Event) (outcome : Outcome) : Type 0 where
+  pub shows : (w : World) → Shows layout old w → Shows layout new (happens (coding layout) w event)
+  pub outcome_is : (w : World) → Shows layout old w → outcome ≡ outcome_of (coding layout) w event
+  pub disks : disks_of new.bricks.items ≡ disks_of old.bricks.items
+
+-- nothing happened from one state to another, and a read of each disk gives what it gave
+pub record StaysAs (layout : Layout) (old new : Simulation) : Type 0 where
+  pub shows : (w : World) → Shows layout old w → Shows layout new w
+  pub contents : map content_of (disks_of new.bricks.items) ≡ map content_of (disks_of old.bricks.items)
 
 -- the brick of a number was found running, or there is none that is up
 abbrev pub FindsRunning : List Brick → ℕ → Option (Running MemDisk) → Type 0
@@ -375,14 +400,10 @@ pub record IsInTime (layout : Layout) (w : World) (number : ℕ) : Type 0 where
   pub clock : w.clocks number < early
   pub times : IsEarly (w.nodes number)
 
--- the operation of a number is open, and began there; or it is not open
-abbrev pub OpensAs : Simulation → World → ℕ → Option Origin → Type 0
+-- the operation of a number is open, and this is kept of it; or it is not open
+abbrev pub OpensAs : Simulation → World → ℕ → Option OperationRecord → Type 0
 OpensAs state w n None = open_call w n ≡ None
-OpensAs state w n (Some origin) = (is_some (open_call w n) ≡ true) × (origin_at state.ledger.origins.items n ≡ Some origin)
-
--- the group of an operation was found, where it is open
-abbrev pub GroupIs : Layout → World → ℕ → Option Group → Type 0
-GroupIs layout w n found = (c : Coordinator) → open_call w n ≡ Some c → found ≡ Some c.group
+OpensAs state w n (Some kept) = (is_some (open_call w n) ≡ true) × (record_at state.history.operations.items n ≡ Some kept)
 
 -- no event
 abbrev pub is_empty : List Event → Bool
@@ -397,7 +418,6 @@ pub record HasRun (layout : Layout) (w : World) (n : ℕ) (bricks : List BrickId
   pub prints : text_of (coding layout) w events ≡ marks_text (new_marks w last)
   pub runs : RunsAlone (coding layout) n bricks w events last
   pub shows : Shows layout state last
-  pub notes : Notes state.ledger last
   pub kept : KeepsDisks (coding layout) w events disks (disks_of state.bricks.items)
 
 -- so it began to
@@ -406,5 +426,4 @@ pub record HasBegun (layout : Layout) (w : World) (n : ℕ) (bricks : List Brick
   pub last : World
   pub begins : BeginsAlone (coding layout) n bricks w events last
   pub shows : Shows layout state last
-  pub notes : Notes state.ledger last
   pub kept : LeavesContents (coding layout) w events disks (disks_of state.bricks.items)

@@ -17,13 +17,13 @@ use Rattle.reg_model.specs.Walk.{begin_of}
 use Rattle.protocol.specs.Worlds.{World, Operation}
 use Rattle.protocol.specs.Happenings.{Effect, entries_to, is_among}
 use Rattle.protocol_laws.specs.Marked.{OwnMarks}
-use Rattle.world.specs.declared.histories.KeptOperation.{KeptOperation}
+use Rattle.world.specs.declared.histories.OperationRecord.{OperationRecord}
 use Rattle.world.specs.declared.stripe_entries.StripeEntries.{StripeEntries}
 use Rattle.world.specs.declared.walks.Sweep.{Sweep}
 use Rattle.world.specs.Shown.{TellsOperations, pair_cmp}
 
 -- these are the operations of a world, number n at place n - 1, and the marks of each have its number
-pub record KeepsAll (operations : List KeptOperation) (w : World) : Type 0 where
+pub record KeepsAll (operations : List OperationRecord) (w : World) : Type 0 where
   pub begun : length operations ≡ w.begun
   pub own : OwnMarks w
   pub each : TellsOperations operations w.operations
@@ -38,12 +38,12 @@ abbrev pub op_that : Bool → Op
 op_that writes = if writes then WriteStripe [] else ReadStripe
 
 -- an operation of which no more is known than is kept: what is not kept is filled in
-abbrev pub operation_of : KeptOperation → Operation
+abbrev pub operation_of : OperationRecord → Operation
 operation_of kept =
     record {
-      brick = record { 0 = 0 };
-      boot = 0;
-      seq = 0;
+      brick = kept.brick;
+      boot = kept.boot;
+      seq = kept.seq;
       begin = kept.begin;
       ask = record { group = kept.group; stripe = kept.stripe; op = op_that kept.writes };
       version = kept.version;
@@ -56,7 +56,7 @@ operation_of kept =
     }
 
 -- the operations that are kept, by number from 1
-abbrev pub operations_of : List KeptOperation → ℕ → Option Operation
+abbrev pub operations_of : List OperationRecord → ℕ → Option Operation
 operations_of operations zero = None
 operations_of operations (suc k) = option_map operation_of (slice_get operations k)
 

@@ -1,7 +1,6 @@
 //! The bricks of a world: each is a disk in memory, and the brick that runs over it while it is up.
 
 ghost use Rattle.std.specs.Prelude.{◌≡◌, ◌≢◌, ◌+◌, ◌^◌, ◌<◌, ◌≤◌, true, false, List, Some, Err, IfOk, IfSome, OnErr, vec_len, length, map};
-ghost use Rattle.std.specs.Option.{SomeIff};
 ghost use Rattle.protocol.specs.Nodes as machine;
 ghost use Rattle.protocol.specs.Nodes.{first_node, refusal_of, invoked, ticked, stopped};
 ghost use Rattle.protocol.specs.Nodes.{put as changed};
@@ -234,18 +233,6 @@ pub fn find_up(bricks: &[Brick], layout: &Layout, number: u64) -> Option<BrickId
     match &bricks[number as usize].power {
         Power::Up(_) => Some(BrickId(number as u16)),
         Power::Down(_) => None,
-    }
-}
-
-/// The number of the next call of a brick that is up. None where no number is left.
-pub fn next_of(bricks: &[Brick], number: BrickId) -> Option<u64>
-    requires { (layout : _) × IsUp layout bricks.now number }
-    ensures { (layout : _) (w : World) → ShowsBricks layout bricks.now w.nodes w.after w.up w.clocks
-        → SomeIff result ((w.nodes number.0).seq + 1 < 2 ^ 64) ((w.nodes number.0).seq + 1) }
-{
-    match &bricks[number.0 as usize].power {
-        Power::Up(node) => node.next_seq(),
-        Power::Down(_) => unreachable!(),
     }
 }
 

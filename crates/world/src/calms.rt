@@ -12,7 +12,7 @@ ghost use Rattle.node.specs.Running.{state_of};
 ghost use Rattle.world.specs.Shown.{ShowsBricks, FindsRunning, ClockIs, IsAble, IsInTime, AreNodesOf};
 
 use crate::bricks::{Brick, Power};
-use crate::ledgers::Origin;
+use crate::histories::{OperationRecord, record_at};
 use crate::simulations::Simulation;
 use fab_base::BrickId;
 use fab_disk::MemDisk;
@@ -123,44 +123,42 @@ fn members_among(group: &Group, numbers: &[u64]) -> usize
 }
 
 impl Simulation {
-    ghost use Rattle.std.specs.Prelude.{◌≡◌, map, is_some};
+    ghost use Rattle.std.specs.Prelude.{map};
     ghost use Rattle.std.specs.Bool.{Decides};
     ghost use Rattle.protocol.specs.Worlds.{World};
-    ghost use Rattle.protocol.specs.Calms.{IsCalm, open_call};
+    ghost use Rattle.protocol.specs.Calms.{IsCalm};
     ghost use Rattle.stripe_code.specs.Codes.{coding};
-    ghost use Rattle.world.specs.Ledgers.{Notes, origin_at};
     ghost use Rattle.world.specs.Runs.{brick_of};
-    ghost use Rattle.std.specs.Option.{option_copied};
-    ghost use Rattle.world.specs.Shown.{Shows, IsReachedBy, OpensAs, GroupIs};
+    ghost use Rattle.world.specs.Shown.{Shows, IsReachedBy, OpensAs};
 
-    /// Where an operation began, if it is open.
-    pub fn open_origin(&self, operation: u64) -> Option<Origin>
-        ensures { (layout : _) (w : World) → IsReachedBy layout w → Shows layout self.now w → Notes self.now.ledger w → OpensAs self.now w operation result }
+    /// What is kept of an operation, if it is open.
+    pub fn open_record(&self, operation: u64) -> Option<OperationRecord>
+        ensures { (layout : _) (w : World) → IsReachedBy layout w → Shows layout self.now w → OpensAs self.now w operation result }
     {
-        let Some(origin) = self.ledger.origin(operation) else {
+        let Some(record) = record_at(&self.history.operations, operation) else {
             return None;
         };
-        let Some(node) = running(&self.bricks, u64::from(origin.brick.0)) else {
+        let Some(node) = running(&self.bricks, u64::from(record.brick.0)) else {
             return None;
         };
-        if origin.ended {
+        if node.boot() != record.boot {
             return None;
         }
-        if node.boot() != origin.boot {
+        if !node.is_open(record.seq) {
             return None;
         }
-        Some(origin)
+        Some(record)
     }
 
     /// Whether an operation may run alone among these bricks.
     pub fn is_calm(&self, layout: &Layout, operation: u64, bricks: &[u64]) -> bool
-        ensures { (w : World) → IsReachedBy layout.now w → Shows layout.now self.now w → Notes self.now.ledger w
+        ensures { (w : World) → IsReachedBy layout.now w → Shows layout.now self.now w
             → Decides result (IsCalm (coding layout.now) w operation (map brick_of bricks.now)) }
     {
-        let Some(origin) = self.open_origin(operation) else {
+        let Some(record) = self.open_record(operation) else {
             return false;
         };
-        let Some(group) = self.group_of(layout, operation) else {
+        let Some(group) = layout.group(record.group) else {
             return false;
         };
         if !are_distinct(bricks) {
@@ -169,27 +167,13 @@ impl Simulation {
         if members_among(group, bricks) < group.quorum() as usize {
             return false;
         }
-        if !is_in_time(&self.bricks, u64::from(origin.brick.0)) {
+        if !is_in_time(&self.bricks, u64::from(record.brick.0)) {
             return false;
         }
         if !are_able(&self.bricks, layout, bricks) {
             return false;
         }
-        self.ledger.is_untouched(&self.history.sent, origin)
-    }
-
-    /// The group of an operation.
-    fn group_of<'l>(&self, layout: &'l Layout, operation: u64) -> Option<&'l Group>
-        ensures { (w : World) → IsReachedBy layout.now w → Shows layout.now self.now w → GroupIs layout.now w operation (option_copied result) }
-    {
-        if operation == 0 {
-            return None;
-        }
-        let place = (operation - 1) as usize;
-        if place >= self.history.operations.len() {
-            return None;
-        }
-        let kept = self.history.operations[place];
-        layout.group(kept.group)
+        let delivered = &self.history.delivered;
+        delivered.is_untouched(&self.history.sent, record)
     }
 }

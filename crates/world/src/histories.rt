@@ -5,16 +5,17 @@ ghost use Rattle.coord_phase.specs.Messages.{packets_from};
 ghost use Rattle.std.specs.Option.{option_copied};
 ghost use Rattle.protocol.specs.Worlds.{packet_of, is_answer};
 ghost use Rattle.protocol.specs.Happenings.{writes};
-ghost use Rattle.world.specs.Shown.{ChangesAt, made_kept, seen_kept, ended_kept};
+ghost use Rattle.world.specs.Shown.{ChangesAt, made_kept, seen_kept, ended_kept, record_at};
 
+use crate::call_numbers::CallNumbers;
+use crate::deliveries::Deliveries;
 use crate::sendings::Sendings;
 use fab_base::{Answer, Ask, BrickId, GroupId, NoMem, Op, Stamp, StripeNo};
 use messages::{Messages, Packet};
-use node::Outs;
+use node::{Begun, Outs};
 use protocol::{Answered, Told};
 use reg_model::Mark;
 use std::alloc::Global;
-use std::collections::BTreeMap;
 
 /// The most packets that a step of a brick sends on a message or for an operation that begins: one to each
 /// member of a group.
@@ -22,7 +23,13 @@ const MOST_PACKETS: usize = 32;
 
 /// What is kept of an operation.
 #[derive(Clone, Copy)]
-pub struct KeptOperation {
+pub struct OperationRecord {
+    /// Its brick.
+    pub brick: BrickId,
+    /// How often the brick's store had been opened.
+    pub boot: u32,
+    /// The number of its call since then.
+    pub seq: u64,
     /// The position of its Begin.
     pub begin: u64,
     /// The group that is asked.
@@ -41,15 +48,15 @@ pub struct KeptOperation {
     pub answered: bool,
 }
 
-/// What happened. Operations are by number, from 1, and the number of an operation by its brick and call. A
-/// brick that starts again counts its calls from 1: what was kept of its calls before then stays until it is
-/// written over, and is never asked for.
+/// What happened. Operations are by number, from 1, and the number of an operation by its brick and call: a brick that starts again counts its
+/// calls from 1.
 #[derive(Drop)]
 pub struct History {
     pub sent: Sendings,
+    pub delivered: Deliveries,
     pub marks: Vec<Mark>,
-    pub operations: Vec<KeptOperation>,
-    pub numbers: BTreeMap<(u16, u64), u64>,
+    pub operations: Vec<OperationRecord>,
+    pub calls: CallNumbers,
 }
 
 /// The packet of a number, counted from 1.
@@ -83,7 +90,7 @@ fn writes(op: &Op) -> bool
 }
 
 /// The operation of a number made a version, on this base.
-fn note_made(operations: &mut [KeptOperation], number: u64, stamp: Stamp, base: Option<Stamp>)
+fn note_made(operations: &mut [OperationRecord], number: u64, stamp: Stamp, base: Option<Stamp>)
     ensures { ChangesAt operations.old operations.new number (made_kept stamp base) }
 {
     if number == 0 {
@@ -100,7 +107,7 @@ fn note_made(operations: &mut [KeptOperation], number: u64, stamp: Stamp, base: 
 }
 
 /// The operation of a number read a version at once.
-fn note_seen(operations: &mut [KeptOperation], number: u64, stamp: Stamp)
+fn note_seen(operations: &mut [OperationRecord], number: u64, stamp: Stamp)
     ensures { ChangesAt operations.old operations.new number (seen_kept stamp) }
 {
     if number == 0 {
@@ -114,7 +121,7 @@ fn note_seen(operations: &mut [KeptOperation], number: u64, stamp: Stamp)
 }
 
 /// The operation of a number ended: answered, or aborted.
-fn note_answer(operations: &mut [KeptOperation], number: u64, answered: bool)
+fn note_answer(operations: &mut [OperationRecord], number: u64, answered: bool)
     ensures { ChangesAt operations.old operations.new number (ended_kept answered) }
 {
     if number == 0 {
@@ -141,17 +148,26 @@ fn put_packets(sent: &mut Sendings, brick: BrickId, messages: Messages)
     }
 }
 
+/// What is kept of the operation of a number. None where there is none.
+pub fn record_at(operations: &[OperationRecord], number: u64) -> Option<OperationRecord>
+    ensures { result ≡ record_at operations.now number }
+{
+    if number == 0 {
+        return None;
+    }
+    operations.get((number - 1) as usize).copied()
+}
+
 impl History {
-    ghost use Rattle.std.specs.Prelude.{◌≡◌, ◌+◌, ◌<◌, ◌≤◌, [], ◌∷◌, ◌++◌, Some, None, length, unwrap_or, option_to_list, OnOk, OnErr, vec_len, vec_capacity};
-    ghost use Rattle.std.specs.BTreeMap.{get};
-    ghost use Rattle.std.specs.Option.{ForSome};
+    ghost use Rattle.std.specs.Prelude.{◌≡◌, ◌+◌, ◌<◌, ◌≤◌, ◌++◌, true, None, length, option_to_list, OnOk, OnErr, vec_len, vec_capacity};
     ghost use Rattle.fab_base.specs.Layouts.{Layout};
     ghost use Rattle.coord_phase.specs.Messages.{packets_from};
     ghost use Rattle.protocol.specs.Settings.{Setting};
     ghost use Rattle.protocol.specs.Nodes.{NodeStep};
     ghost use Rattle.protocol.specs.Nodes.{put as changed};
     ghost use Rattle.protocol.specs.Worlds.{World, first_world, number_of, world_began, world_stepped, world_stopped, world_tells, world_answers, with_made, with_seen};
-    ghost use Rattle.world.specs.Shown.{Tells, HasStepRoom, pair_cmp, AreTold, AreAnswered, EndedIs};
+    ghost use Rattle.world.specs.CallNumbers.{HasCallRoom, calls_in, call_at};
+    ghost use Rattle.world.specs.Shown.{Tells, HasStepRoom, AreTold, AreAnswered};
 
     /// Nothing yet.
     pub fn new(alloc: Global) -> History
@@ -159,9 +175,10 @@ impl History {
     {
         History {
             sent: Sendings::new(alloc),
+            delivered: Deliveries::new(alloc),
             marks: Vec::new(alloc),
             operations: Vec::new(alloc),
-            numbers: BTreeMap::new(alloc),
+            calls: CallNumbers::new(alloc),
         }
     }
 
@@ -176,52 +193,33 @@ impl History {
         Ok(())
     }
 
-    /// Gives the number of the next operation to a call, which is none so far.
-    pub fn number_call(&mut self, brick: BrickId, seq: u64) -> Result<(), NoMem>
-        requires { HasStepRoom self.old }
-        ensures room { HasStepRoom self.new }
-        ensures number { OnOk result ((w : World) → Tells self.old w
-            → get pair_cmp self.new.numbers (brick.0, seq) ≡ Some (w.begun + 1)) }
-        ensures same { (w : World) → (w.nodes brick.0).seq < seq → Tells self.old w → Tells self.new w }
+    /// Makes room for what an operation adds that a brick begins.
+    pub fn expect_call(&mut self, alloc: Global, brick: BrickId) -> Result<(), NoMem>
+        ensures room { OnOk result (HasStepRoom self.new) }
+        ensures call { OnOk result (HasCallRoom self.new.calls brick.0) }
+        ensures same { (w : World) → Tells self.old w → Tells self.new w }
     {
-        let operation = self.operations.len() as u64 + 1;
-        self.numbers.insert((brick.0, seq), operation)?;
+        self.make_room()?;
+        self.calls.reserve(alloc, brick)?;
         Ok(())
     }
 
-    /// Makes room for what one step of a brick adds, and gives the number of the next operation to the
-    /// brick's next call, if one is left.
-    pub fn expect_call(&mut self, brick: BrickId, next: Option<u64>) -> Result<(), NoMem>
-        ensures room { OnOk result (HasStepRoom self.new) }
-        ensures number { OnOk result (ForSome next (λ seq. (w : World) → Tells self.old w
-            → get pair_cmp self.new.numbers (brick.0, seq) ≡ Some (w.begun + 1))) }
-        ensures same { (w : World) → ForSome next (λ seq. (w.nodes brick.0).seq < seq) → Tells self.old w → Tells self.new w }
+    /// Notes that the message of a number was delivered. There is room for it.
+    pub fn deliver(&mut self, number: u64)
+        requires some { 1 ≤ number }
+        requires delivery { number ≤ vec_len self.old.delivered.reached }
+        requires room { HasStepRoom self.old }
+        ensures delivered { (w : World) → Tells self.old w → Tells self.new (record w { reached = changed w.reached number true }) }
+        ensures room { HasStepRoom self.new }
     {
-        self.make_room()?;
-        match next {
-            Some(seq) => self.number_call(brick, seq),
-            None => Ok(()),
-        }
+        self.delivered.note(number);
     }
 
     /// The number of the operation of a brick's call; 0 where there is none.
     fn number(&self, brick: BrickId, seq: u64) -> u64
-        ensures { result ≡ unwrap_or (get pair_cmp self.now.numbers (brick.0, seq)) 0 }
+        ensures { result ≡ call_at (calls_in self.now.calls brick.0) seq }
     {
-        match self.numbers.get(&(brick.0, seq)) {
-            Some(number) => *number,
-            None => 0,
-        }
-    }
-
-    /// The number of the operation that a brick's step answers, if it does.
-    pub fn ended(&self, brick: BrickId, outs: &Outs) -> Option<u64>
-        ensures { (w : World) → Tells self.now w → AreAnswered (w.nodes brick.0) outs.now.answers → EndedIs w brick outs.now.answers result }
-    {
-        match &outs.answer {
-            Some(answered) => Some(self.number(brick, answered.seq)),
-            None => None,
-        }
+        self.calls.number(brick, seq)
     }
 
     /// Notes what a brick sends, in order.
@@ -230,9 +228,7 @@ impl History {
         ensures items { self.new.sent.packets.items ≡ self.old.sent.packets.items ++ packets_from brick messages.items }
         ensures sent { (w : World) → Tells self.old w
             → Tells self.new (record w { packets = w.packets ++ packets_from brick messages.items }) }
-        ensures marks { self.new.marks ≡ self.old.marks }
-        ensures operations { self.new.operations ≡ self.old.operations }
-        ensures numbers { self.new.numbers ≡ self.old.numbers }
+        ensures rest { self.new ≡ record self.old { sent = self.new.sent } }
     {
         put_packets(&mut self.sent, brick, messages);
     }
@@ -254,44 +250,48 @@ impl History {
         ensures { (setting : Setting) (w : World) → Tells self.old w → Tells self.new (world_stopped setting w brick None) }
     {
         let position = self.marks.len() as u64;
-        // There is room for it.
-        let _ = self.marks.push(Mark::Crash { position, brick });
+        self.marks.push_reserved(Mark::Crash { position, brick });
+        self.calls.clear(brick);
     }
 
     /// Notes an operation that begins, and what it sends.
-    pub fn begin(&mut self, brick: BrickId, ask: Ask, messages: Messages)
+    pub fn begin(&mut self, brick: BrickId, boot: u32, ask: Ask, begun: Begun)
         requires room { HasStepRoom self.old }
-        requires few { vec_len messages ≤ 32 }
-        ensures { (w : World) (step : NodeStep) → Tells self.old w
-            → packets_from brick messages.items ≡ step.packets → step.node.boot ≡ (w.nodes brick.0).boot → step.node.seq ≡ (w.nodes brick.0).seq + 1
-            → get pair_cmp self.old.numbers (brick.0, step.node.seq) ≡ Some (w.begun + 1) → Tells self.new (world_began w brick ask step) }
+        requires call { HasCallRoom self.old.calls brick.0 }
+        requires few { vec_len begun.messages ≤ 32 }
+        ensures { (w : World) (step : NodeStep) → Tells self.old w → w.up brick.0 ≡ true
+            → packets_from brick begun.messages.items ≡ step.packets → boot ≡ step.node.boot → begun.seq ≡ step.node.seq
+            → step.node.boot ≡ (w.nodes brick.0).boot → step.node.seq ≡ (w.nodes brick.0).seq + 1 → Tells self.new (world_began w brick ask step) }
     {
+        let Begun { seq, messages } = begun;
         let position = self.marks.len() as u64;
         let operation = self.operations.len() as u64 + 1;
-        let writes = writes(&ask.op);
-        self.send(brick, messages);
-        // There is room for both.
-        let _ = self.operations.push(KeptOperation {
+        self.operations.push_reserved(OperationRecord {
+            brick,
+            boot,
+            seq,
             begin: position,
             group: ask.group,
             stripe: ask.stripe,
             version: None,
             made: false,
             base: None,
-            writes,
+            writes: writes(&ask.op),
             answered: false,
         });
-        let _ = self.marks.push(Mark::Begin {
+        self.calls.add(brick, operation);
+        self.marks.push_reserved(Mark::Begin {
             position,
             operation,
             brick,
             ask,
         });
+        self.send(brick, messages);
     }
 
     /// The operation of a brick's call made a version, on this base.
     fn made(&mut self, brick: BrickId, seq: u64, stamp: Stamp, base: Option<Stamp>)
-        ensures made { (w : World) → Tells self.old w → 1 ≤ seq → seq ≤ (w.nodes brick.0).seq
+        ensures made { (w : World) → Tells self.old w → w.up brick.0 ≡ true → 1 ≤ seq → seq ≤ (w.nodes brick.0).seq
             → (let n = number_of w brick.0 seq in Tells self.new
             (record w { operations = changed w.operations n (with_made stamp base (w.operations n)) })) }
         ensures marks { self.new.marks ≡ self.old.marks }
@@ -303,7 +303,7 @@ impl History {
 
     /// The operation of a brick's call read a version at once.
     fn seen(&mut self, brick: BrickId, seq: u64, stamp: Stamp)
-        ensures seen { (w : World) → Tells self.old w → 1 ≤ seq → seq ≤ (w.nodes brick.0).seq
+        ensures seen { (w : World) → Tells self.old w → w.up brick.0 ≡ true → 1 ≤ seq → seq ≤ (w.nodes brick.0).seq
             → (let n = number_of w brick.0 seq in Tells self.new
             (record w { operations = changed w.operations n (with_seen stamp (w.operations n)) })) }
         ensures marks { self.new.marks ≡ self.old.marks }
@@ -315,7 +315,7 @@ impl History {
 
     /// Notes what a step told, if anything.
     fn tell(&mut self, brick: BrickId, told: Option<Told>)
-        ensures told { (setting : Setting) (w : World) → Tells self.old w → AreTold (w.nodes brick.0) (option_to_list told)
+        ensures told { (setting : Setting) (w : World) → Tells self.old w → w.up brick.0 ≡ true → AreTold (w.nodes brick.0) (option_to_list told)
             → Tells self.new (world_tells setting w brick (option_to_list told)) }
         ensures marks { self.new.marks ≡ self.old.marks }
         ensures sent { self.new.sent ≡ self.old.sent }
@@ -330,7 +330,7 @@ impl History {
     /// Notes the answer that a step gave, if one.
     fn answer(&mut self, brick: BrickId, answer: Option<Answered>)
         requires { vec_len self.old.marks < vec_capacity self.old.marks }
-        ensures answered { (w : World) → Tells self.old w → AreAnswered (w.nodes brick.0) (option_to_list answer)
+        ensures answered { (w : World) → Tells self.old w → w.up brick.0 ≡ true → AreAnswered (w.nodes brick.0) (option_to_list answer)
             → Tells self.new (world_answers w brick (option_to_list answer)) }
         ensures sent { self.new.sent ≡ self.old.sent }
     {
@@ -340,8 +340,7 @@ impl History {
         let operation = self.number(brick, seq);
         note_answer(&mut self.operations, operation, is_answer(&answer));
         let position = self.marks.len() as u64;
-        // There is room for it.
-        let _ = self.marks.push(Mark::End {
+        self.marks.push_reserved(Mark::End {
             position,
             operation,
             answer,
@@ -352,7 +351,7 @@ impl History {
     pub fn step(&mut self, brick: BrickId, outs: Outs)
         requires room { HasStepRoom self.old }
         requires few { length outs.messages ≤ 32 }
-        ensures { (setting : Setting) (w : World) (step : NodeStep) → Tells self.old w
+        ensures { (setting : Setting) (w : World) (step : NodeStep) → Tells self.old w → w.up brick.0 ≡ true
             → packets_from brick outs.messages ≡ step.packets → outs.told ≡ step.told → outs.answers ≡ step.answers
             → step.node.boot ≡ (w.nodes brick.0).boot → step.node.seq ≡ (w.nodes brick.0).seq
             → AreTold (w.nodes brick.0) step.told → AreAnswered (w.nodes brick.0) step.answers

@@ -3,9 +3,10 @@
 #![tactic(auto)]
 
 mod bricks;
+mod call_numbers;
 mod calms;
+mod deliveries;
 mod histories;
-mod ledgers;
 mod sendings;
 mod simulations;
 mod stripe_entries;

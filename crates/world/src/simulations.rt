@@ -6,11 +6,10 @@ ghost use Rattle.protocol.specs.Nodes.{refusal_of};
 ghost use Rattle.world.specs.Runs.{ask_of, block_no, op_of};
 
 use crate::bricks::{
-    Brick, ask_brick, boot_of, find_up, fresh_bricks, hand_over, next_of, start_brick, stop_brick,
+    Brick, ask_brick, boot_of, find_up, fresh_bricks, hand_over, start_brick, stop_brick,
     tick_brick,
 };
 use crate::histories::{History, packet_at};
-use crate::ledgers::Ledger;
 use fab_base::{Ask, BrickId, GroupId, NoMem, Op, Refusal, StripeNo};
 use layout::Layout;
 use lines::{Access, Fault, Line};
@@ -22,7 +21,6 @@ use std::alloc::Global;
 pub struct Simulation {
     pub bricks: Vec<Brick>,
     pub history: History,
-    pub ledger: Ledger,
 }
 
 /// What a line comes to.
@@ -75,27 +73,22 @@ fn op_of(alloc: Global, access: &Access) -> Result<Op, NoMem>
 }
 
 impl Simulation {
-    ghost use Rattle.std.specs.Prelude.{◌≡◌, true, List, None, map, vec_len, IfOk, OnOk, OnErr};
-    ghost use Rattle.fab_disk.specs.MemDisk.{content_of};
-    ghost use Rattle.protocol.specs.Worlds.{World, first_world, happens, is_brick, is_up};
+    ghost use Rattle.std.specs.Prelude.{◌≡◌, None, map, vec_len, IfOk, OnErr};
+    ghost use Rattle.protocol.specs.Worlds.{World, first_world};
     ghost use Rattle.protocol.specs.Worlds.Event.{Invokes, Sets, Ticks, Stops};
     ghost use Rattle.protocol.specs.Calms.{IsCalm};
     ghost use Rattle.lines.specs.declared.forms.Line.TheVariants.{Deliver, Start, Calm};
     ghost use Rattle.stripe_code.specs.Codes.{coding};
-    ghost use Rattle.world.specs.Runs.{brick_of, ask_of, op_of, refusal_at};
-    ghost use Rattle.world.specs.Shown.{AreNodesOf, Shows, Comes, Refused, HasRun, HasBegun, IsUp, IsReachedBy, disks_of};
-    ghost use Rattle.world.specs.Ledgers.{Notes};
-    ghost use Rattle.world.specs.Texts.{refused_or_begun, marks_if};
+    ghost use Rattle.world.specs.Runs.{brick_of, ask_of, op_of};
+    ghost use Rattle.world.specs.Shown.{AreNodesOf, Shows, HasRun, HasBegun, IsUp, IsReachedBy, IsReachable, RunsLine, RefusesLine, TakesEvent, StaysAs, disks_of};
 
     /// All bricks up, their stores fresh, their clocks at 0, and nothing sent.
     pub fn new(alloc: Global, layout: &Layout) -> Result<Simulation, NoMem>
         ensures shows { IfOk result (λ state. Shows layout.now state (first_world layout.now)) }
-        ensures notes { IfOk result (λ state. Notes state.ledger (first_world layout.now)) }
     {
         Ok(Simulation {
             bricks: fresh_bricks(alloc, layout)?,
             history: History::new(alloc),
-            ledger: Ledger::new(alloc),
         })
     }
 
@@ -104,11 +97,9 @@ impl Simulation {
     pub fn run(&mut self, alloc: Global, layout: &Layout, line: &Line) -> Result<Outcome, NoMem>
         requires nodes { AreNodesOf layout.now self.old.bricks.items }
         requires bricks { vec_len self.old.bricks ≡ layout.now.bricks }
-        requires shows { (w : World) × IsReachedBy layout.now w × Shows layout.now self.old w × Notes self.old.ledger w }
-        ensures comes { IfOk result (λ outcome. (w : World) → IsReachedBy layout.now w → Shows layout.now self.old w → Notes self.old.ledger w
-            → Comes layout.now w (disks_of self.old.bricks.items) self.new line.now outcome) }
-        ensures err { OnErr result ((w : World) → IsReachedBy layout.now w → Shows layout.now self.old w → Notes self.old.ledger w
-            → Refused layout.now w self.old self.new line.now) }
+        requires shows { IsReachable layout.now self.old }
+        ensures ok { IfOk result (RunsLine layout.now self.old self.new line.now) }
+        ensures err { OnErr result (RefusesLine layout.now self.old self.new line.now) }
     {
         match line {
             Line::Nothing => Ok(Outcome::Marks),
@@ -141,15 +132,8 @@ impl Simulation {
     ) -> Result<Outcome, NoMem>
         requires nodes { AreNodesOf layout.now self.old.bricks.items }
         requires bricks { vec_len self.old.bricks ≡ layout.now.bricks }
-        ensures shows { OnOk result ((w : World) → Shows layout.now self.old w
-            → Shows layout.now self.new (happens (coding layout.now) w (Invokes (brick_of brick) (ask_of group stripe (op_of access.now))))) }
-        ensures outcome { IfOk result (λ outcome. (w : World) → Shows layout.now self.old w
-            → outcome ≡ refused_or_begun (refusal_at (coding layout.now) w (brick_of brick) (ask_of group stripe (op_of access.now)))) }
-        ensures notes { OnOk result ((w : World) → IsReachedBy layout.now w → Shows layout.now self.old w → Notes self.old.ledger w
-            → Notes self.new.ledger (happens (coding layout.now) w (Invokes (brick_of brick) (ask_of group stripe (op_of access.now))))) }
-        ensures err { OnErr result ((w : World) → Shows layout.now self.old w → Shows layout.now self.new w) }
-        ensures kept { OnErr result ((w : World) → Notes self.old.ledger w → Notes self.new.ledger w) }
-        ensures disks { disks_of self.new.bricks.items ≡ disks_of self.old.bricks.items }
+        ensures ok { IfOk result (TakesEvent layout.now self.old self.new (Invokes (brick_of brick) (ask_of group stripe (op_of access.now)))) }
+        ensures err { OnErr result (StaysAs layout.now self.old self.new) }
     {
         let brick = match find_up(&self.bricks, layout, brick) {
             Some(brick) => brick,
@@ -160,30 +144,26 @@ impl Simulation {
             None => return Ok(Outcome::Refused(Refusal::NoStripe)),
         };
         let op = op_of(alloc, access)?;
-        self.begin(layout, brick, Ask { group, stripe, op })
+        self.begin(alloc, layout, brick, Ask { group, stripe, op })
     }
 
     /// A brick begins an operation, or refuses it.
-    fn begin(&mut self, layout: &Layout, brick: BrickId, ask: Ask) -> Result<Outcome, NoMem>
+    fn begin(
+        &mut self,
+        alloc: Global,
+        layout: &Layout,
+        brick: BrickId,
+        ask: Ask,
+    ) -> Result<Outcome, NoMem>
         requires { IsUp layout.now self.old.bricks.items brick }
-        ensures shows { OnOk result ((w : World) → Shows layout.now self.old w
-            → Shows layout.now self.new (happens (coding layout.now) w (Invokes brick ask))) }
-        ensures outcome { IfOk result (λ outcome. (w : World) → Shows layout.now self.old w
-            → outcome ≡ refused_or_begun (refusal_at (coding layout.now) w brick ask)) }
-        ensures notes { OnOk result ((w : World) → IsReachedBy layout.now w → Shows layout.now self.old w → Notes self.old.ledger w
-            → Notes self.new.ledger (happens (coding layout.now) w (Invokes brick ask))) }
-        ensures err { OnErr result ((w : World) → Shows layout.now self.old w → Shows layout.now self.new w) }
-        ensures kept { OnErr result ((w : World) → Notes self.old.ledger w → Notes self.new.ledger w) }
-        ensures disks { disks_of self.new.bricks.items ≡ disks_of self.old.bricks.items }
+        ensures ok { IfOk result (TakesEvent layout.now self.old self.new (Invokes brick ask)) }
+        ensures err { OnErr result (StaysAs layout.now self.old self.new) }
     {
-        let next = next_of(&self.bricks, brick);
+        self.history.expect_call(alloc, brick)?;
         let boot = boot_of(&self.bricks, brick);
-        self.history.expect_call(brick, next)?;
-        self.ledger.make_room()?;
         match ask_brick(&mut self.bricks, brick, &ask) {
             Ok(begun) => {
-                self.history.begin(brick, ask, begun.messages);
-                self.ledger.begin(brick, boot, begun.seq);
+                self.history.begin(brick, boot, ask, begun);
                 Ok(Outcome::Marks)
             }
             Err(NodeFault::Refused(refusal)) => Ok(Outcome::Refused(refusal)),
@@ -202,11 +182,8 @@ impl Simulation {
     ) -> Result<Outcome, NoMem>
         requires nodes { AreNodesOf layout.now self.old.bricks.items }
         requires bricks { vec_len self.old.bricks ≡ layout.now.bricks }
-        ensures comes { IfOk result (λ outcome. (w : World) → IsReachedBy layout.now w → Shows layout.now self.old w → Notes self.old.ledger w
-            → Comes layout.now w (disks_of self.old.bricks.items) self.new (Deliver message fault) outcome) }
-        ensures contents { OnErr result (map content_of (disks_of self.new.bricks.items) ≡ map content_of (disks_of self.old.bricks.items)) }
-        ensures kept { OnErr result ((w : World) → Notes self.old.ledger w → Notes self.new.ledger w) }
-        ensures err { OnErr result ((w : World) → Shows layout.now self.old w → Shows layout.now self.new w) }
+        ensures ok { IfOk result (RunsLine layout.now self.old self.new (Deliver message fault)) }
+        ensures err { OnErr result (StaysAs layout.now self.old self.new) }
     {
         self.history.make_room()?;
         let sent = &self.history.sent;
@@ -218,15 +195,15 @@ impl Simulation {
             Some(to) => to,
             None => return Ok(Outcome::Idle),
         };
-        self.ledger.expect_delivery(message)?;
+        self.history.delivered.expect(message)?;
         match hand_over(&mut self.bricks, alloc, to, packet, fault)? {
             Some(outs) => {
-                self.ledger.handle(message, self.history.ended(to, &outs));
+                self.history.deliver(message);
                 self.history.step(to, outs);
                 Ok(Outcome::Marks)
             }
             None => {
-                self.ledger.handle(message, None);
+                self.history.deliver(message);
                 self.history.crash(to);
                 Ok(Outcome::Marks)
             }
@@ -236,12 +213,7 @@ impl Simulation {
     /// Sets a brick's clock.
     fn set_clock(&mut self, layout: &Layout, brick: u64, time: u64) -> Outcome
         requires { vec_len self.old.bricks ≡ layout.now.bricks }
-        ensures shows { (w : World) → Shows layout.now self.old w
-            → Shows layout.now self.new (happens (coding layout.now) w (Sets (brick_of brick) time)) }
-        ensures outcome { result ≡ marks_if (is_brick layout.now (brick_of brick)) }
-        ensures history { self.new.history ≡ self.old.history }
-        ensures disks { disks_of self.new.bricks.items ≡ disks_of self.old.bricks.items }
-        ensures ledger { self.new.ledger ≡ self.old.ledger }
+        ensures { TakesEvent layout.now self.old self.new (Sets (brick_of brick) time) result }
     {
         if brick >= u64::from(layout.bricks()) {
             return Outcome::Idle;
@@ -255,13 +227,8 @@ impl Simulation {
     fn tick(&mut self, layout: &Layout, brick: u64) -> Result<Outcome, NoMem>
         requires nodes { AreNodesOf layout.now self.old.bricks.items }
         requires bricks { vec_len self.old.bricks ≡ layout.now.bricks }
-        ensures shows { OnOk result ((w : World) → Shows layout.now self.old w
-            → Shows layout.now self.new (happens (coding layout.now) w (Ticks (brick_of brick)))) }
-        ensures outcome { IfOk result (λ outcome. (w : World) → Shows layout.now self.old w
-            → outcome ≡ marks_if (is_up layout.now w (brick_of brick))) }
-        ensures err { OnErr result ((w : World) → Shows layout.now self.old w → Shows layout.now self.new w) }
-        ensures disks { disks_of self.new.bricks.items ≡ disks_of self.old.bricks.items }
-        ensures ledger { self.new.ledger ≡ self.old.ledger }
+        ensures ok { IfOk result (TakesEvent layout.now self.old self.new (Ticks (brick_of brick))) }
+        ensures err { OnErr result (StaysAs layout.now self.old self.new) }
     {
         let brick = match find_up(&self.bricks, layout, brick) {
             Some(brick) => brick,
@@ -276,13 +243,8 @@ impl Simulation {
     fn crash(&mut self, alloc: Global, layout: &Layout, brick: u64) -> Result<Outcome, NoMem>
         requires nodes { AreNodesOf layout.now self.old.bricks.items }
         requires bricks { vec_len self.old.bricks ≡ layout.now.bricks }
-        ensures shows { OnOk result ((w : World) → Shows layout.now self.old w
-            → Shows layout.now self.new (happens (coding layout.now) w (Stops (brick_of brick) None))) }
-        ensures outcome { IfOk result (λ outcome. (w : World) → Shows layout.now self.old w
-            → outcome ≡ marks_if (is_up layout.now w (brick_of brick))) }
-        ensures err { OnErr result ((w : World) → Shows layout.now self.old w → Shows layout.now self.new w) }
-        ensures disks { disks_of self.new.bricks.items ≡ disks_of self.old.bricks.items }
-        ensures ledger { self.new.ledger ≡ self.old.ledger }
+        ensures ok { IfOk result (TakesEvent layout.now self.old self.new (Stops (brick_of brick) None)) }
+        ensures err { OnErr result (StaysAs layout.now self.old self.new) }
     {
         let brick = match find_up(&self.bricks, layout, brick) {
             Some(brick) => brick,
@@ -304,11 +266,8 @@ impl Simulation {
     ) -> Result<Outcome, NoMem>
         requires nodes { AreNodesOf layout.now self.old.bricks.items }
         requires bricks { vec_len self.old.bricks ≡ layout.now.bricks }
-        ensures comes { IfOk result (λ outcome. (w : World) → IsReachedBy layout.now w → Shows layout.now self.old w → Notes self.old.ledger w
-            → Comes layout.now w (disks_of self.old.bricks.items) self.new (Start brick fault) outcome) }
-        ensures contents { OnErr result (map content_of (disks_of self.new.bricks.items) ≡ map content_of (disks_of self.old.bricks.items)) }
-        ensures err { OnErr result ((w : World) → Shows layout.now self.old w → Shows layout.now self.new w) }
-        ensures ledger { self.new.ledger ≡ self.old.ledger }
+        ensures ok { IfOk result (RunsLine layout.now self.old self.new (Start brick fault)) }
+        ensures err { OnErr result (StaysAs layout.now self.old self.new) }
     {
         if brick >= u64::from(layout.bricks()) {
             return Ok(Outcome::Idle);
@@ -334,12 +293,9 @@ impl Simulation {
         operation: u64,
         bricks: &[u64],
     ) -> Result<Outcome, NoMem>
-        requires { (w : World) × IsReachedBy layout.now w × Shows layout.now self.old w × Notes self.old.ledger w }
-        ensures calm { IfOk result (λ outcome. (w : World) → IsReachedBy layout.now w → Shows layout.now self.old w → Notes self.old.ledger w
-            → Comes layout.now w (disks_of self.old.bricks.items) self.new (Calm operation bricks.now) outcome) }
-        ensures cut { OnErr result ((w : World) → IsReachedBy layout.now w → Shows layout.now self.old w → Notes self.old.ledger w
-            → IsCalm (coding layout.now) w operation (map brick_of bricks.now)
-            × HasBegun layout.now w operation (map brick_of bricks.now) (disks_of self.old.bricks.items) self.new) }
+        requires { IsReachable layout.now self.old }
+        ensures ok { IfOk result (RunsLine layout.now self.old self.new (Calm operation bricks.now)) }
+        ensures err { OnErr result (RefusesLine layout.now self.old self.new (Calm operation bricks.now)) }
     {
         if !self.is_calm(layout, operation, bricks) {
             return Ok(Outcome::Idle);
@@ -361,20 +317,21 @@ impl Simulation {
         operation: u64,
         bricks: &[u64],
     ) -> Result<bool, NoMem>
-        requires { (w : World) × IsReachedBy layout.now w × Shows layout.now self.old w × Notes self.old.ledger w }
-        ensures run { IfOk result (λ some. (w : World) → IsReachedBy layout.now w → Shows layout.now self.old w → Notes self.old.ledger w
+        requires { IsReachable layout.now self.old }
+        ensures run { IfOk result (λ some. (w : World) → IsReachedBy layout.now w → Shows layout.now self.old w
             → IsCalm (coding layout.now) w operation (map brick_of bricks.now)
             → HasRun layout.now w operation (map brick_of bricks.now) (disks_of self.old.bricks.items) self.new some) }
-        ensures cut { OnErr result ((w : World) → IsReachedBy layout.now w → Shows layout.now self.old w → Notes self.old.ledger w
+        ensures cut { OnErr result ((w : World) → IsReachedBy layout.now w → Shows layout.now self.old w
             → IsCalm (coding layout.now) w operation (map brick_of bricks.now)
             → HasBegun layout.now w operation (map brick_of bricks.now) (disks_of self.old.bricks.items) self.new) }
     {
         let mut from: usize = 0;
         let mut some = false;
-        while let Some(origin) = self.open_origin(operation) {
+        while let Some(record) = self.open_record(operation) {
             let Some(place) = self
-                .ledger
-                .next_left(&self.history.sent, origin, bricks, from)
+                .history
+                .delivered
+                .next_left(&self.history.sent, record, bricks, from)
             else {
                 return Ok(some);
             };

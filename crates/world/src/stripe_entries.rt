@@ -1,6 +1,6 @@
 //! Who made or read which version of each stripe, gathered in one pass over the operations.
 
-use crate::histories::KeptOperation;
+use crate::histories::OperationRecord;
 use fab_base::{GroupId, NoMem, StripeNo};
 use reg_model::Entry;
 use std::alloc::Global;
@@ -20,7 +20,7 @@ impl StripeEntries {
     /// Gathers the entries of operations, number n at place n - 1.
     pub(crate) fn gather(
         alloc: Global,
-        operations: &[KeptOperation],
+        operations: &[OperationRecord],
     ) -> Result<StripeEntries, NoMem>
         ensures { IfOk result (λ gathered. (g s : ℕ)
             → entries_at gathered g s ≡ entries_to (operations_of operations.now) g s (length operations.now)) }
@@ -35,7 +35,7 @@ impl StripeEntries {
     }
 
     /// Adds the entry of the operation of a number, where it made or read a version.
-    fn note(&mut self, alloc: Global, number: u64, kept: &KeptOperation) -> Result<(), NoMem>
+    fn note(&mut self, alloc: Global, number: u64, kept: &OperationRecord) -> Result<(), NoMem>
         ensures { OnOk result ((g s : ℕ)
             → entries_at self.new g s ≡ entries_at self.old g s ++ entry_at g s number (Some (operation_of kept.now))) }
     {

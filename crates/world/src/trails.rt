@@ -50,11 +50,7 @@ impl Trail {
     ghost use Rattle.std.specs.Prelude.{◌≡◌, [], ◌∷◌, ◌++◌};
     ghost use Rattle.protocol.specs.Worlds.{Event};
     ghost use Rattle.world.specs.Runs.{world_of};
-    ghost use Rattle.world.specs.Shown.{Comes, ComesTo};
-    ghost use Rattle.world.specs.Standing.{Leaves};
-    ghost use Rattle.world.specs.Ledgers.{Notes};
-    ghost use Rattle.stripe_code.specs.Codes.{coding};
-    ghost use Rattle.protocol.specs.Worlds.{run};
+    ghost use Rattle.world.specs.Shown.{Comes, ComesTo, Leaves};
 
     /// No step yet.
     pub fn new() -> Trail
@@ -78,8 +74,6 @@ impl Trail {
         ensures { (events : List Event) × ComesTo _layout.now
             (world_of (record { layout = _layout.now; steps = _before.now.steps; disks = _shelf.now.disks }))
             _shelf.now.disks _state.now _line.now _outcome.now events
-            × Notes _state.now.ledger (run (coding _layout.now) events
-            (world_of (record { layout = _layout.now; steps = _before.now.steps; disks = _shelf.now.disks })))
             × (result.steps ≡ _before.now.steps ++ record { line = _line.now; events = events } ∷ []) }
     {
         Trail {}

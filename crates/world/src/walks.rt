@@ -7,7 +7,7 @@ ghost use Rattle.protocol.specs.Worlds.{World};
 ghost use Rattle.protocol.specs.Happenings.{entries_to, ascending, effect_of, was_answered, is_told, base_of, needs, happenings_of};
 ghost use Rattle.world.specs.Walks.{KeepsAll, BeginsAgree, BeginAsMarked, HasSwept, operation_of, operations_of, begin_at};
 
-use crate::histories::KeptOperation;
+use crate::histories::OperationRecord;
 use fab_base::{NoMem, Stamp};
 use reg_model::{Entry, Happening};
 use std::alloc::Global;
@@ -23,7 +23,7 @@ pub struct Sweep {
 }
 
 /// What is kept of the operation of a number.
-fn kept_of(operations: &[KeptOperation], number: u64) -> Option<&KeptOperation>
+fn kept_of(operations: &[OperationRecord], number: u64) -> Option<&OperationRecord>
     ensures { option_map operation_of (option_copied result) ≡ operations_of operations.now number }
 {
     let place = number.checked_sub(1)?;
@@ -31,35 +31,35 @@ fn kept_of(operations: &[KeptOperation], number: u64) -> Option<&KeptOperation>
 }
 
 /// Whether the operation of a number was answered, and not aborted.
-fn was_answered(operations: &[KeptOperation], number: u64) -> bool
+fn was_answered(operations: &[OperationRecord], number: u64) -> bool
     ensures { result ≡ was_answered (operations_of operations.now number) }
 {
     kept_of(operations, number).is_some_and(|kept| kept.answered)
 }
 
 /// Whether the operation of a number, where it is effective, is told: it was answered, or it writes.
-fn is_told(operations: &[KeptOperation], number: u64) -> bool
+fn is_told(operations: &[OperationRecord], number: u64) -> bool
     ensures { result ≡ is_told (operations_of operations.now number) }
 {
     kept_of(operations, number).is_some_and(|kept| kept.answered || kept.writes)
 }
 
 /// The version that the version of the operation of a number was made on.
-fn base_of(operations: &[KeptOperation], number: u64) -> Option<Stamp>
+fn base_of(operations: &[OperationRecord], number: u64) -> Option<Stamp>
     ensures { result ≡ base_of (operations_of operations.now number) }
 {
     kept_of(operations, number)?.base
 }
 
 /// Where the operation of a number begins.
-fn begin_of(operations: &[KeptOperation], number: u64) -> u64
+fn begin_of(operations: &[OperationRecord], number: u64) -> u64
     ensures { result ≡ begin_at (operations_of operations.now number) }
 {
     kept_of(operations, number).map_or(0, |kept| kept.begin)
 }
 
 /// The version that an effective entry makes effective: the one that it reads, or that its own was made on.
-fn needed_by(operations: &[KeptOperation], entry: Entry) -> Option<Stamp>
+fn needed_by(operations: &[OperationRecord], entry: Entry) -> Option<Stamp>
     ensures { option_to_list result ≡ needs (operations_of operations.now entry.operation) entry }
 {
     if entry.reader {
@@ -92,7 +92,7 @@ impl Sweep {
     }
 
     /// Tells an effective entry, where its operation is told.
-    fn tell(&mut self, operations: &[KeptOperation], entry: Entry) -> Result<(), NoMem>
+    fn tell(&mut self, operations: &[OperationRecord], entry: Entry) -> Result<(), NoMem>
         ensures told { OnOk result ((told : _) → self.old.told.items ≡ reverse told
             → self.new.told.items ≡ reverse (if is_told (operations_of operations.now entry.operation) then entry ∷ told else told)) }
         ensures needed { self.new.needed ≡ self.old.needed }
@@ -104,7 +104,7 @@ impl Sweep {
     }
 
     /// Notes the version that an effective entry makes effective.
-    fn need(&mut self, operations: &[KeptOperation], entry: Entry) -> Result<(), NoMem>
+    fn need(&mut self, operations: &[OperationRecord], entry: Entry) -> Result<(), NoMem>
         ensures needed { OnOk result ((needed : _) → Holds self.old.needed needed
             → Holds self.new.needed (needs (operations_of operations.now entry.operation) entry ++ needed)) }
         ensures told { self.new.told ≡ self.old.told }
@@ -120,7 +120,7 @@ impl Sweep {
 
     /// Takes the entry below those so far. It is effective where its operation was answered, or where its
     /// version is needed.
-    fn take(&mut self, operations: &[KeptOperation], entry: Entry) -> Result<(), NoMem>
+    fn take(&mut self, operations: &[OperationRecord], entry: Entry) -> Result<(), NoMem>
         ensures { OnOk result ((above : Effect) → HasSwept self.old above
             → HasSwept self.new (with_entry (operations_of operations.now entry.operation) entry above)) }
     {
@@ -144,7 +144,7 @@ fn rising(alloc: Global, entries: &[Entry]) -> Result<Vec<Entry>, NoMem>
 /// The sweep of entries that ascend, from the greatest down.
 fn sweep_down(
     alloc: Global,
-    operations: &[KeptOperation],
+    operations: &[OperationRecord],
     entries: &[Entry],
 ) -> Result<Sweep, NoMem>
     ensures { IfOk result (λ sweep. HasSwept sweep (effect_of (operations_of operations.now) entries.now)) }
@@ -157,7 +157,11 @@ fn sweep_down(
 }
 
 /// The walk along the effective versions of a stripe's entries.
-fn walk(alloc: Global, operations: &[KeptOperation], entries: &[Entry]) -> Result<Vec<Entry>, NoMem>
+fn walk(
+    alloc: Global,
+    operations: &[OperationRecord],
+    entries: &[Entry],
+) -> Result<Vec<Entry>, NoMem>
     ensures { IfOk result (λ walk. walk.items ≡ (effect_of (operations_of operations.now) (ascending entries.now)).told) }
 {
     let rising = rising(alloc, entries)?;
@@ -169,7 +173,7 @@ fn walk(alloc: Global, operations: &[KeptOperation], entries: &[Entry]) -> Resul
 /// The happenings along a walk: each at the greatest begin so far.
 fn along(
     alloc: Global,
-    operations: &[KeptOperation],
+    operations: &[OperationRecord],
     walk: &[Entry],
 ) -> Result<Vec<Happening>, NoMem>
     ensures { IfOk result (λ happenings. (marks : List Mark) → BeginAsMarked (operations_of operations.now) marks walk.now
@@ -192,7 +196,7 @@ fn along(
 /// the greatest begin so far.
 pub fn happenings(
     alloc: Global,
-    operations: &[KeptOperation],
+    operations: &[OperationRecord],
     entries: &[Entry],
 ) -> Result<Vec<Happening>, NoMem>
     ensures { IfOk result (λ happenings. (w : World) (g s : ℕ) → KeepsAll operations.now w → BeginsAgree w

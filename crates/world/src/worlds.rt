@@ -193,7 +193,7 @@ impl World {
     pub fn was_delivered(&self, number: u64) -> bool
         ensures { result ≡ (world_of self.now).reached number }
     {
-        self.simulation.ledger.was_delivered(number)
+        self.simulation.history.delivered.was_delivered(number)
     }
 
     /// A brick's part of a stripe, with its log, oldest version first. None exactly where there is no such

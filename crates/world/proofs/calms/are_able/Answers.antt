@@ -3,7 +3,7 @@ use Rattle.std.proofs.Common.{◌≡◌, ℕ, true, false, Some, refl, sym, ◌�
 use Rattle.std.specs.Prelude.{slice_get}
 use Rattle.std.proofs.lemmas.Option.{slice_get-get_or, slice_get_within, same_Some}
 use Rattle.world.specs.Shown.{IsAble}
-use Rattle.world.proofs.LedgerLists.{next_place}
+use Rattle.world.proofs.DeliveryLists.{next_place}
 use Rattle.world.proofs.calms.are_able.Goals as goal
 
 pub loop-number-init : goal.loop-number-init

@@ -1,26 +1,25 @@
 -- The operation is that of the call, and its mark has its place.
-use Rattle.std.proofs.Common.{Option, [], ◌∷◌, ◌++◌, refl, ap, subst, ◌∙◌, arith}
+use Rattle.std.proofs.Common.{Option, [], ◌∷◌, ◌++◌, refl, ap, subst, ◌∙◌}
 use Rattle.std.specs.Prelude.{option_to_list}
 use Rattle.std.proofs.lemmas.List.{with_items_is}
 use Rattle.reg_model.specs.declared.marks.Mark.TheVariants.{End}
 use Rattle.protocol.specs.declared.tellings.Answered.{Answered}
 use Rattle.world.specs.Shown.{AreAnswered}
 use Rattle.world.proofs.HistoryLemmas.{number_is, tells_one, tells_ended}
-use Rattle.world.proofs.Places.{with_room}
 use Rattle.world.proofs.histories.History.answer.Goals as goal
 
 pub returns-clause-answered : goal.returns-clause-answered
-returns-clause-answered c w tells of =
+returns-clause-answered c w tells up of =
     let brick = c.args.brick in
     let one : Answered = c.in-Some.field-0 in
     let call = subst (λ (a : Option Answered). AreAnswered (w.nodes brick.0) (option_to_list a)) c.in-Some.is of in
     tells_one _ w brick c.args.answer one c.in-Some.is
     (tells_ended c.args.self.now _ w brick one.seq c.number-operation.result one.answer c.is_answer.result c.deref_mut.result.now c.note_answer.new.operations tells
-    (number_is c.args.self.now w brick.0 one.seq c.number-operation.result tells call.0.0 call.0.1 c.number-operation.ensures)
+    (number_is c.args.self.now w brick.0 one.seq c.number-operation.result tells up call.0.0 call.0.1 c.number-operation.ensures)
     c.deref_mut.ensures.value
     (with_items_is c.args.self.now.operations c.note_answer.new.operations (c.note_answer.auto.operations ∙ c.deref_mut.ensures.len))
     c.is_answer.ensures refl
-    (with_room c.args.self.now.marks.items c.push.new.self.items (End c.len-position.result c.number-operation.result one.answer ∷ []) c.push.result c.push.ensures.items (c.push.ensures.succeeds (omega arith))
+    (c.push_reserved.ensures.items
     ∙ ap (λ p. c.args.self.now.marks.items ++ End p c.number-operation.result one.answer ∷ [])
     (c.len-position.ensures ∙ c.args.self.now.marks.ok.0))
-    c.note_answer.ensures c.note_answer.auto.operations refl)
+    c.note_answer.ensures c.note_answer.auto.operations refl refl)

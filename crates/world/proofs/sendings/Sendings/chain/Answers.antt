@@ -5,7 +5,7 @@ use Rattle.std.specs.BTreeMap.{BTreeMap, is_at, Updates}
 use Rattle.std.specs.Map.{lookup}
 use Rattle.std.proofs.lemmas.Option.{slice_get-get_or}
 use Rattle.messages.specs.declared.packets.Packet.{Packet}
-use Rattle.world.specs.Sendings.{CallKey, IsChained, call_cmp, call_of}
+use Rattle.world.specs.Sendings.{CallKey, IsChained, call_cmp}
 use Rattle.world.proofs.Chains.{chained_call, chained_none, chained_same}
 use Rattle.world.proofs.sendings.Sendings.chain.Goals as goal
 use Rattle.world.proofs.sendings.Sendings.chain.Goals.{in-Some+in-Ok, in-None}

@@ -12,19 +12,10 @@ use Rattle.world.proofs.MachineBegins.{happens_unstopped}
 use Rattle.world.proofs.SimulationLemmas.{on_err_always, shows_crashed, shows_still, done_here, done_nowhere}
 use Rattle.world.proofs.simulations.Simulation.crash.Goals as goal
 
-pub returns-in-None-clause-shows : goal.returns-in-None-clause-shows
-returns-in-None-clause-shows c w shows =
-    shows_still c.args.layout.now c.args.self.now w _ (happens_unstopped (coding c.args.layout.now) w (brick_of c.args.brick)
-    (down_at c.args.layout.now _ _ c.args.brick (brick_of c.args.brick) c.deref.ensures.value refl c.in-None.ensures w shows.bricks)) shows
-
-pub returns-in-None-clause-outcome : goal.returns-in-None-clause-outcome
-returns-in-None-clause-outcome c w shows =
-    done_nowhere c.args.layout.now w (brick_of c.args.brick)
-    (down_at c.args.layout.now _ _ c.args.brick (brick_of c.args.brick) c.deref.ensures.value refl c.in-None.ensures w shows.bricks)
-
 pub returns-in_err-make_room-clause-err : goal.returns-in_err-make_room-clause-err
 returns-in_err-make_room-clause-err c =
-    on_err_always c.from_residual.result (λ w shows. record { bricks = shows.bricks; history = c.make_room.ensures.same w shows.history })
+    on_err_always c.from_residual.result
+    (record { shows = λ w shows. record { bricks = shows.bricks; history = c.make_room.ensures.same w shows.history }; contents = refl })
 
 pub stop_brick-requires : goal.stop_brick-requires
 stop_brick-requires c =
@@ -34,21 +25,33 @@ stop_brick-requires c =
     let within = found.1.within in
     omega (arith, c.args.self.now.bricks.ok.0)
 
-pub returns-clause-shows : goal.returns-clause-shows
-returns-clause-shows c w shows =
-    let found =
-    up_at c.args.layout.now _ _ c.args.brick (brick_of c.args.brick) c.in-Some.brick c.deref.ensures.value refl c.in-Some.ensures
-    in
-    let state : Simulation = record { bricks = c.stop_brick.new.bricks; history = c.crash.new.self; ledger = c.args.self.now.ledger } in
-    subst (λ (brick : BrickId). Shows c.args.layout.now state (happens (coding c.args.layout.now) w (Stops brick None))) found.0
-    (shows_crashed c.args.layout.now state w c.in-Some.brick (found.1.up w shows.bricks) (c.stop_brick.ensures.shows c.args.layout.now w shows.bricks
-    (and_parts (is_brick c.args.layout.now c.in-Some.brick) (w.up c.in-Some.brick.0) (found.1.up w shows.bricks)).1)
-    (c.crash.ensures (coding c.args.layout.now) w (c.make_room.ensures.same w shows.history)))
+pub returns-in-None-clause-ok : goal.returns-in-None-clause-ok
+returns-in-None-clause-ok c = record {
+  shows = λ w shows.
+      (shows_still c.args.layout.now c.args.self.now w _ (happens_unstopped (coding c.args.layout.now) w (brick_of c.args.brick)
+      (down_at c.args.layout.now _ _ c.args.brick (brick_of c.args.brick) c.deref.ensures.value refl c.in-None.ensures w shows.bricks)) shows);
+  outcome_is = λ w shows.
+      (done_nowhere c.args.layout.now w (brick_of c.args.brick)
+      (down_at c.args.layout.now _ _ c.args.brick (brick_of c.args.brick) c.deref.ensures.value refl c.in-None.ensures w shows.bricks));
+  disks = refl;
+}
 
-pub returns-clause-outcome : goal.returns-clause-outcome
-returns-clause-outcome c w shows =
-    let found =
-    up_at c.args.layout.now _ _ c.args.brick (brick_of c.args.brick) c.in-Some.brick c.deref.ensures.value refl c.in-Some.ensures
-    in
-    done_here c.args.layout.now w (brick_of c.args.brick)
-    (subst (λ (brick : BrickId). is_up c.args.layout.now w brick ≡ true) found.0 (found.1.up w shows.bricks))
+pub returns-clause-ok : goal.returns-clause-ok
+returns-clause-ok c = record {
+  shows = λ w shows.
+      (let found =
+      up_at c.args.layout.now _ _ c.args.brick (brick_of c.args.brick) c.in-Some.brick c.deref.ensures.value refl c.in-Some.ensures
+      in
+      let state : Simulation = record { bricks = c.stop_brick.new.bricks; history = c.crash.new.self } in
+      subst (λ (brick : BrickId). Shows c.args.layout.now state (happens (coding c.args.layout.now) w (Stops brick None))) found.0
+      (shows_crashed c.args.layout.now state w c.in-Some.brick (found.1.up w shows.bricks) (c.stop_brick.ensures.shows c.args.layout.now w shows.bricks
+      (and_parts (is_brick c.args.layout.now c.in-Some.brick) (w.up c.in-Some.brick.0) (found.1.up w shows.bricks)).1)
+      (c.crash.ensures (coding c.args.layout.now) w (c.make_room.ensures.same w shows.history))));
+  outcome_is = λ w shows.
+      (let found =
+      up_at c.args.layout.now _ _ c.args.brick (brick_of c.args.brick) c.in-Some.brick c.deref.ensures.value refl c.in-Some.ensures
+      in
+      done_here c.args.layout.now w (brick_of c.args.brick)
+      (subst (λ (brick : BrickId). is_up c.args.layout.now w brick ≡ true) found.0 (found.1.up w shows.bricks)));
+  disks = c.stop_brick.ensures.disks;
+}

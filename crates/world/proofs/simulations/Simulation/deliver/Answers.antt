@@ -1,22 +1,22 @@
 -- The message is the machine's, and its brick handles it as the machine's does.
-use Rattle.std.proofs.Common.{◌≡◌, ℕ, true, List, Vec, Option, Some, None, Ok, refl, sym, ap, ◌∙◌, subst}
+use Rattle.std.proofs.Common.{◌≡◌, ◌≤◌, ℕ, zero, suc, true, false, get_or, List, Option, Some, None, Ok, refl, sym, ap, ◌∙◌, subst, arith}
+use Rattle.std.proofs.lemmas.Bool.{and_parts}
 use Rattle.fab_base.specs.declared.identities.BrickId.{BrickId}
 use Rattle.messages.specs.declared.packets.Packet.{Packet}
 use Rattle.node.specs.Outcomes.{Outcome as Sent}
 use Rattle.stripe_code.specs.Codes.{coding}
 use Rattle.protocol.specs.Nodes.{NodeStep, put, received}
-use Rattle.protocol.specs.Worlds.{is_up, packet_of, replies_with, world_stepped, world_stopped}
+use Rattle.protocol.specs.Worlds.{World, is_brick, is_up, packet_of, replies_with, world_stepped, world_stopped}
 use Rattle.world.specs.Disks.{KeepsOthers}
-use Rattle.world.specs.Shown.{HandledAs, HandledWhole, HandledPart, Tells, AreAnswered, disks_of}
+use Rattle.world.specs.Shown.{HandledAs, HandledWhole, HandledPart, Tells, disks_of}
+use Rattle.world.specs.declared.deliveries.Deliveries.{Deliveries}
+use Rattle.world.specs.declared.histories.History.{History}
 use Rattle.world.specs.declared.simulations.Simulation.{Simulation}
 use Rattle.world.proofs.BrickListLemmas.{down_at, up_at}
 use Rattle.world.proofs.DeliveryLemmas.{unsent_comes, astray_comes, whole_comes, part_comes}
+use Rattle.world.proofs.HistoryLemmas.{tells_same}
 use Rattle.world.proofs.MachineSteps.{received_opens_none}
-use Rattle.world.proofs.LedgerLemmas.{notes_handled, notes_cut}
-use Rattle.world.proofs.RunLaws.{reached_numbered, reached_knows}
-use Rattle.world.specs.Ledgers.{Notes}
-use Rattle.world.specs.declared.ledgers.Origin.{Origin}
-use Rattle.protocol.specs.declared.tellings.Answered.{Answered}
+use Rattle.world.proofs.RunLaws.{reached_numbered}
 use Rattle.world.proofs.SimulationLemmas.{on_err_always, tells_replies}
 use Rattle.world.proofs.simulations.Simulation.deliver.Goals as goal
 
@@ -25,31 +25,56 @@ the_packet : (slice sent packets : List Packet) (k : ℕ) (found : Option Packet
     → packet_of packets k ≡ found
 the_packet slice sent packets k found same are is = sym (ap (λ (xs : List Packet). packet_of xs k) (same ∙ are)) ∙ sym is
 
+-- there is no message of number 0
+some_number : (packets : List Packet) (k : ℕ) (packet : Packet) → Some packet ≡ packet_of packets k → 1 ≤ k
+some_number packets zero packet is = absurd (let never : Some packet ≡ None = is in cc)
+some_number packets (suc k) packet is = omega arith
+
+-- the room that was made, and the notes that no message was delivered, tell nothing
+still : (old new : History) (w : World) → ((w : World) → Tells old w → Tells new w) → (d : Deliveries)
+    → ((k : ℕ) → get_or d.reached.items k false ≡ get_or new.delivered.reached.items k false) → Tells old w → Tells (record new { delivered = d }) w
+still old new w same d reached tells = tells_same new (record new { delivered = d }) w refl reached refl refl (λ i. refl) (same w tells)
+
 pub returns-in_err-make_room-clause-err : goal.returns-in_err-make_room-clause-err
 returns-in_err-make_room-clause-err c =
-    on_err_always c.from_residual.result (λ w shows. record { bricks = shows.bricks; history = c.make_room.ensures.same w shows.history })
+    on_err_always c.from_residual.result
+    (record { shows = λ w shows. record { bricks = shows.bricks; history = c.make_room.ensures.same w shows.history }; contents = refl })
 
-pub returns-in_err-make_room-clause-contents : goal.returns-in_err-make_room-clause-contents
-returns-in_err-make_room-clause-contents c = on_err_always c.from_residual.result refl
+pub returns-in_err-expect-clause-err : goal.returns-in_err-expect-clause-err
+returns-in_err-expect-clause-err c =
+    on_err_always c.from_residual-in_err-expect.result
+    (record {
+      shows = λ w shows. record {
+        bricks = shows.bricks;
+        history = still c.args.self.now.history c.make_room.new.self w c.make_room.ensures.same _ c.in_err-expect.ensures.same shows.history;
+      };
+      contents = refl;
+    })
 
-pub returns-in_err-expect_delivery-clause-err : goal.returns-in_err-expect_delivery-clause-err
-returns-in_err-expect_delivery-clause-err c =
-    on_err_always c.from_residual-in_err-expect_delivery.result
-    (λ w shows. record { bricks = shows.bricks; history = c.make_room.ensures.same w shows.history })
+pub returns-in_err-outs-clause-err : goal.returns-in_err-outs-clause-err
+returns-in_err-outs-clause-err c =
+    on_err_always c.from_residual-in_err-outs.result
+    (record {
+      shows = λ w shows. record {
+        bricks = c.in_err-outs.ensures.handled c.args.layout.now w shows.bricks;
+        history = still c.args.self.now.history c.make_room.new.self w c.make_room.ensures.same _ c.expect.ensures.same shows.history;
+      };
+      contents = c.in_err-outs.ensures.contents;
+    })
 
-pub returns-in-None-clause-comes : goal.returns-in-None-clause-comes
-returns-in-None-clause-comes c w reached shows notes =
-    unsent_comes c.args.layout.now w (record { bricks = c.args.self.now.bricks; history = c.make_room.new.self; ledger = c.args.self.now.ledger }) c.args.message c.args.fault
+pub returns-in-None-clause-ok : goal.returns-in-None-clause-ok
+returns-in-None-clause-ok c w reached shows =
+    unsent_comes c.args.layout.now w (record { bricks = c.args.self.now.bricks; history = c.make_room.new.self }) c.args.message c.args.fault
     (the_packet _ _ _ c.args.message _ c.deref.ensures.value (c.make_room.ensures.same w shows.history).packets c.in-None.ensures)
-    (record { bricks = shows.bricks; history = c.make_room.ensures.same w shows.history }) notes
+    (record { bricks = shows.bricks; history = c.make_room.ensures.same w shows.history })
 
-pub returns-in-None-find_up-clause-comes : goal.returns-in-None-find_up-clause-comes
-returns-in-None-find_up-clause-comes c w reached shows notes =
-    astray_comes c.args.layout.now w (record { bricks = c.args.self.now.bricks; history = c.make_room.new.self; ledger = c.args.self.now.ledger }) c.args.message c.args.fault
+pub returns-in-None-find_up-clause-ok : goal.returns-in-None-find_up-clause-ok
+returns-in-None-find_up-clause-ok c w reached shows =
+    astray_comes c.args.layout.now w (record { bricks = c.args.self.now.bricks; history = c.make_room.new.self }) c.args.message c.args.fault
     c.in-Some.packet.now
     (the_packet _ _ _ c.args.message _ c.deref.ensures.value (c.make_room.ensures.same w shows.history).packets c.in-Some.ensures)
     (down_at c.args.layout.now _ _ c.from.result c.in-Some.packet.now.to c.deref-2.ensures.value c.from.ensures c.in-None-find_up.ensures w shows.bricks)
-    (record { bricks = shows.bricks; history = c.make_room.ensures.same w shows.history }) notes
+    (record { bricks = shows.bricks; history = c.make_room.ensures.same w shows.history })
 
 pub hand_over-requires : goal.hand_over-requires
 hand_over-requires c =
@@ -58,22 +83,21 @@ hand_over-requires c =
     in
     (c.args.layout.now, found.1)
 
-pub returns-in_err-outs-clause-err : goal.returns-in_err-outs-clause-err
-returns-in_err-outs-clause-err c =
-    on_err_always c.from_residual-in_err-outs.result
-    (λ w shows. record { bricks = c.in_err-outs.ensures.handled c.args.layout.now w shows.bricks; history = c.make_room.ensures.same w shows.history })
+pub deliver-requires-clause-some : goal.deliver-requires-clause-some
+deliver-requires-clause-some c = some_number _ c.args.message c.in-Some.packet.now c.in-Some.ensures
 
-pub returns-in_err-outs-clause-contents : goal.returns-in_err-outs-clause-contents
-returns-in_err-outs-clause-contents c = on_err_always c.from_residual-in_err-outs.result c.in_err-outs.ensures.contents
+pub deliver-requires-in-None-2-clause-some : goal.deliver-requires-in-None-2-clause-some
+deliver-requires-in-None-2-clause-some c = some_number _ c.args.message c.in-Some.packet.now c.in-Some.ensures
 
-pub returns-in-Some-2-clause-comes : goal.returns-in-Some-2-clause-comes
-returns-in-Some-2-clause-comes c w reached shows notes =
+pub returns-in-Some-2-clause-ok : goal.returns-in-Some-2-clause-ok
+returns-in-Some-2-clause-ok c w reached shows =
     let to : BrickId = c.in-Some-find_up.to in
     let packet : Packet = c.in-Some.packet.now in
-    let new : Simulation = record { bricks = c.hand_over.new.bricks; history = c.step.new.self; ledger = c.handle.new.self } in
+    let new : Simulation = record { bricks = c.hand_over.new.bricks; history = c.step.new.self } in
     let found =
     up_at c.args.layout.now _ _ c.from.result c.in-Some.packet.now.to c.in-Some-find_up.to c.deref-2.ensures.value c.from.ensures c.in-Some-find_up.ensures
     in
+    let v : World = record w { replies = replies_with (coding c.args.layout.now) w packet; reached = put w.reached c.args.message true } in
     let step : NodeStep = received (coding c.args.layout.now) to (w.clocks to.0) (w.nodes to.0) packet in
     let did : HandledWhole c.args.layout.now w to packet c.args.fault c.args.self.now.bricks.items c.hand_over.new.bricks.items c.in-Some-2.outs =
     subst (λ (outs : Option Sent). HandledAs c.args.layout.now w to packet c.args.fault c.args.self.now.bricks.items c.hand_over.new.bricks.items (Ok outs))
@@ -81,33 +105,27 @@ returns-in-Some-2-clause-comes c w reached shows notes =
     in
     let opens = received_opens_none (coding c.args.layout.now) to (w.clocks to.0) (w.nodes to.0) packet
     (λ k call open_at. reached_numbered c.args.layout.now w reached to.0 k call open_at) in
+    let told = c.make_room.ensures.same w shows.history in
+    let up = found.1.up w shows.bricks in
     whole_comes c.args.layout.now w c.args.self.now new c.args.message c.args.fault packet
-    (the_packet _ _ _ c.args.message _ c.deref.ensures.value (c.make_room.ensures.same w shows.history).packets c.in-Some.ensures)
-    (subst (λ (b : BrickId). is_up c.args.layout.now w b ≡ true) found.0 (found.1.up w shows.bricks))
+    (the_packet _ _ _ c.args.message _ c.deref.ensures.value told.packets c.in-Some.ensures)
+    (subst (λ (b : BrickId). is_up c.args.layout.now w b ≡ true) found.0 up)
     (subst (λ (b : BrickId). KeepsOthers (Some b) (disks_of c.args.self.now.bricks.items) (disks_of c.hand_over.new.bricks.items)) found.0 c.hand_over.ensures.others)
     c.in-Some-2.outs
     (subst (λ (b : BrickId). HandledWhole c.args.layout.now w b packet c.args.fault c.args.self.now.bricks.items c.hand_over.new.bricks.items c.in-Some-2.outs) found.0 did)
-    (subst (λ (b : BrickId). Tells c.step.new.self (world_stepped (coding c.args.layout.now)
-    (record w { replies = replies_with (coding c.args.layout.now) w packet; reached = put w.reached c.args.message true }) b
+    (subst (λ (b : BrickId). Tells c.step.new.self (world_stepped (coding c.args.layout.now) v b
     (received (coding c.args.layout.now) b (w.clocks b.0) (w.nodes b.0) packet))) found.0
-    (c.step.ensures (coding c.args.layout.now) (record w { replies = replies_with (coding c.args.layout.now) w packet; reached = put w.reached c.args.message true }) step
-    (tells_replies c.args.layout.now _ w c.args.message packet (c.make_room.ensures.same w shows.history)) did.packets did.told did.answers opens.boot opens.seq opens.told opens.answers))
-    (subst (λ (b : BrickId). Notes c.handle.new.self (world_stepped (coding c.args.layout.now)
-    (record w { replies = replies_with (coding c.args.layout.now) w packet; reached = put w.reached c.args.message true }) b
-    (received (coding c.args.layout.now) b (w.clocks b.0) (w.nodes b.0) packet))) found.0
-    (notes_handled c.args.layout.now c.args.self.now.ledger c.expect_delivery.new.self c.handle.new.self w c.args.message packet to c.in-Some-2.outs.answers
-    c.ended.result (reached_knows c.args.layout.now w reached)
-    (λ k call open_at. reached_numbered c.args.layout.now w reached to.0 k call open_at)
-    (ap (λ (v : Vec Origin _). v.items) c.expect_delivery.ensures.origins) c.expect_delivery.ensures.reached c.handle.ensures.origins c.handle.ensures.reached
-    did.answers
-    (c.ended.ensures w (c.make_room.ensures.same w shows.history)
-    (subst (λ (l : List Answered). AreAnswered (w.nodes to.0) l) (sym did.answers) opens.answers)) notes))
+    (c.step.ensures (coding c.args.layout.now) v step
+    (tells_replies c.args.layout.now _ w c.args.message packet
+    (c.deliver.ensures.delivered w (still c.args.self.now.history c.make_room.new.self w c.make_room.ensures.same _ c.expect.ensures.same shows.history)))
+    (and_parts (is_brick c.args.layout.now to) (w.up to.0) up).1
+    did.packets did.told did.answers opens.boot opens.seq opens.told opens.answers))
 
-pub returns-in-None-2-clause-comes : goal.returns-in-None-2-clause-comes
-returns-in-None-2-clause-comes c w reached shows notes =
+pub returns-in-None-2-clause-ok : goal.returns-in-None-2-clause-ok
+returns-in-None-2-clause-ok c w reached shows =
     let to : BrickId = c.in-Some-find_up.to in
     let packet : Packet = c.in-Some.packet.now in
-    let new : Simulation = record { bricks = c.hand_over.new.bricks; history = c.crash.new.self; ledger = c.handle-in-None-2.new.self } in
+    let new : Simulation = record { bricks = c.hand_over.new.bricks; history = c.crash.new.self } in
     let found =
     up_at c.args.layout.now _ _ c.from.result c.in-Some.packet.now.to c.in-Some-find_up.to c.deref-2.ensures.value c.from.ensures c.in-Some-find_up.ensures
     in
@@ -115,14 +133,13 @@ returns-in-None-2-clause-comes c w reached shows notes =
     subst (λ (outs : Option Sent). HandledAs c.args.layout.now w to packet c.args.fault c.args.self.now.bricks.items c.hand_over.new.bricks.items (Ok outs))
     c.in-None-2.is (c.in_ok-outs.ensures.handled c.args.layout.now w shows.bricks)
     in
+    let told = c.make_room.ensures.same w shows.history in
     part_comes c.args.layout.now w c.args.self.now new c.args.message c.args.fault packet
-    (the_packet _ _ _ c.args.message _ c.deref.ensures.value (c.make_room.ensures.same w shows.history).packets c.in-Some.ensures)
+    (the_packet _ _ _ c.args.message _ c.deref.ensures.value told.packets c.in-Some.ensures)
     (subst (λ (b : BrickId). is_up c.args.layout.now w b ≡ true) found.0 (found.1.up w shows.bricks))
     (subst (λ (b : BrickId). KeepsOthers (Some b) (disks_of c.args.self.now.bricks.items) (disks_of c.hand_over.new.bricks.items)) found.0 c.hand_over.ensures.others)
     (subst (λ (b : BrickId). HandledPart c.args.layout.now w b packet c.args.fault c.args.self.now.bricks.items c.hand_over.new.bricks.items) found.0 did)
-    (subst (λ (b : BrickId). Tells c.crash.new.self (world_stopped (coding c.args.layout.now) w b None)) found.0
-    (c.crash.ensures (coding c.args.layout.now) w (c.make_room.ensures.same w shows.history)))
-    (notes_cut c.args.layout.now c.args.self.now.ledger c.expect_delivery.new.self c.handle-in-None-2.new.self w c.args.message packet
-    (the_packet _ _ _ c.args.message _ c.deref.ensures.value (c.make_room.ensures.same w shows.history).packets c.in-Some.ensures)
-    (ap (λ (v : Vec Origin _). v.items) c.expect_delivery.ensures.origins) c.expect_delivery.ensures.reached c.handle-in-None-2.ensures.origins
-    c.handle-in-None-2.ensures.reached notes)
+    (subst (λ (b : BrickId). Tells c.crash.new.self (world_stopped (coding c.args.layout.now)
+    (record w { reached = put w.reached c.args.message true }) b None)) found.0
+    (c.crash.ensures (coding c.args.layout.now) (record w { reached = put w.reached c.args.message true })
+    (c.deliver-in-None-2.ensures.delivered w (still c.args.self.now.history c.make_room.new.self w c.make_room.ensures.same _ c.expect.ensures.same shows.history))))

@@ -1,42 +1,41 @@
 -- The numbers name a brick that is up and a stripe, or the machine refuses them too.
 use Rattle.std.proofs.Common.{◌≡◌, true, refl, sym, ap, ◌∙◌, subst}
-use Rattle.std.specs.Prelude.{IfOk, OnOk}
+use Rattle.std.specs.Prelude.{IfOk}
 use Rattle.fab_base.specs.declared.asks.Ask.{Ask}
 use Rattle.fab_base.specs.declared.identities.BrickId.{BrickId}
 use Rattle.stripe_code.specs.Codes.{coding}
-use Rattle.protocol.specs.Worlds.{World, Invokes, is_up, happens}
-use Rattle.world.specs.Runs.{brick_of, ask_of, op_of, refusal_at}
-use Rattle.world.specs.Ledgers.{Notes}
-use Rattle.world.specs.Shown.{Shows, IsReachedBy}
+use Rattle.protocol.specs.Worlds.{Invokes, is_up}
+use Rattle.world.specs.Runs.{brick_of, ask_of, op_of}
+use Rattle.world.specs.Shown.{TakesEvent}
 use Rattle.world.specs.Texts.{refused_or_begun}
 use Rattle.world.proofs.MachineBegins.{refusal_down, refusal_here, happens_down, happens_refused}
 use Rattle.world.proofs.BrickListLemmas.{down_at, up_at}
 use Rattle.world.proofs.SimulationLemmas.{ask_is, shows_still}
 use Rattle.world.proofs.simulations.Simulation.invoke.Goals as goal
 
-pub returns-in-None-clause-shows : goal.returns-in-None-clause-shows
-returns-in-None-clause-shows c w shows =
-    shows_still c.args.layout.now c.args.self.now w _ (happens_down (coding c.args.layout.now) w _ _
-    (down_at c.args.layout.now _ _ c.args.brick (brick_of c.args.brick) c.deref.ensures.value refl c.in-None.ensures w shows.bricks)) shows
+pub returns-in-None-clause-ok : goal.returns-in-None-clause-ok
+returns-in-None-clause-ok c = record {
+  shows = λ w shows. shows_still c.args.layout.now c.args.self.now w _ (happens_down (coding c.args.layout.now) w _ _
+      (down_at c.args.layout.now _ _ c.args.brick (brick_of c.args.brick) c.deref.ensures.value refl c.in-None.ensures w shows.bricks)) shows;
+  outcome_is = λ w shows.
+      sym (ap refused_or_begun (refusal_down (coding c.args.layout.now) w (brick_of c.args.brick) (ask_of c.args.group c.args.stripe (op_of c.args.access.now))
+      (down_at c.args.layout.now _ _ c.args.brick (brick_of c.args.brick) c.deref.ensures.value refl c.in-None.ensures w shows.bricks)));
+  disks = refl;
+}
 
-pub returns-in-None-clause-outcome : goal.returns-in-None-clause-outcome
-returns-in-None-clause-outcome c w shows =
-    sym (ap refused_or_begun (refusal_down (coding c.args.layout.now) w (brick_of c.args.brick) (ask_of c.args.group c.args.stripe (op_of c.args.access.now))
-    (down_at c.args.layout.now _ _ c.args.brick (brick_of c.args.brick) c.deref.ensures.value refl c.in-None.ensures w shows.bricks)))
-
-pub returns-in-None-place_of-clause-shows : goal.returns-in-None-place_of-clause-shows
-returns-in-None-place_of-clause-shows c w shows =
-    shows_still c.args.layout.now c.args.self.now w _
-    (happens_refused (coding c.args.layout.now) w _ _ _ (c.in-None-place_of.ensures.none _ _)) shows
-
-pub returns-in-None-place_of-clause-outcome : goal.returns-in-None-place_of-clause-outcome
-returns-in-None-place_of-clause-outcome c w shows =
-    let found =
-    up_at c.args.layout.now _ _ c.args.brick (brick_of c.args.brick) c.in-Some.brick c.deref.ensures.value refl c.in-Some.ensures
-    in
-    let up = subst (λ (brick : BrickId). is_up c.args.layout.now w brick ≡ true) found.0 (found.1.up w shows.bricks) in
-    sym (ap refused_or_begun (refusal_here (coding c.args.layout.now) w (brick_of c.args.brick) (ask_of c.args.group c.args.stripe (op_of c.args.access.now)) up
-    ∙ c.in-None-place_of.ensures.none (w.nodes c.args.brick) (op_of c.args.access.now)))
+pub returns-in-None-place_of-clause-ok : goal.returns-in-None-place_of-clause-ok
+returns-in-None-place_of-clause-ok c = record {
+  shows = λ w shows.
+      shows_still c.args.layout.now c.args.self.now w _ (happens_refused (coding c.args.layout.now) w _ _ _ (c.in-None-place_of.ensures.none _ _)) shows;
+  outcome_is = λ w shows.
+      (let found =
+      up_at c.args.layout.now _ _ c.args.brick (brick_of c.args.brick) c.in-Some.brick c.deref.ensures.value refl c.in-Some.ensures
+      in
+      let up = subst (λ (brick : BrickId). is_up c.args.layout.now w brick ≡ true) found.0 (found.1.up w shows.bricks) in
+      sym (ap refused_or_begun (refusal_here (coding c.args.layout.now) w (brick_of c.args.brick) (ask_of c.args.group c.args.stripe (op_of c.args.access.now)) up
+      ∙ c.in-None-place_of.ensures.none (w.nodes c.args.brick) (op_of c.args.access.now))));
+  disks = refl;
+}
 
 pub begin-requires : goal.begin-requires
 begin-requires c =
@@ -45,51 +44,13 @@ begin-requires c =
     in
     found.1
 
-pub returns-clause-shows : goal.returns-clause-shows
-returns-clause-shows c =
+pub returns-clause-ok : goal.returns-clause-ok
+returns-clause-ok c =
     let found =
     up_at c.args.layout.now _ _ c.args.brick (brick_of c.args.brick) c.in-Some.brick c.deref.ensures.value refl c.in-Some.ensures
     in
     let ask : Ask = record { group = c.in-Some-place_of.place.0; stripe = c.in-Some-place_of.place.1; op = c.in_ok-op.op } in
-    subst (λ (x : Ask). OnOk c.begin.result ((w : World) → Shows c.args.layout.now c.args.self.now w
-    → Shows c.args.layout.now c.begin.new.self (happens (coding c.args.layout.now) w (Invokes (brick_of c.args.brick) x))))
+    subst (λ (x : Ask). IfOk c.begin.result (TakesEvent c.args.layout.now c.args.self.now c.begin.new.self (Invokes (brick_of c.args.brick) x)))
     (ask_is ask c.args.group c.args.stripe (op_of c.args.access.now) c.in-Some-place_of.ensures.some.0 c.in-Some-place_of.ensures.some.1 c.in_ok-op.ensures.value)
-    (subst (λ (brick : BrickId). OnOk c.begin.result ((w : World) → Shows c.args.layout.now c.args.self.now w
-    → Shows c.args.layout.now c.begin.new.self (happens (coding c.args.layout.now) w (Invokes brick ask)))) found.0
-    c.begin.ensures.shows)
-
-pub returns-clause-notes : goal.returns-clause-notes
-returns-clause-notes c =
-    let found =
-    up_at c.args.layout.now _ _ c.args.brick (brick_of c.args.brick) c.in-Some.brick c.deref.ensures.value refl c.in-Some.ensures
-    in
-    let ask : Ask = record { group = c.in-Some-place_of.place.0; stripe = c.in-Some-place_of.place.1; op = c.in_ok-op.op } in
-    subst (λ (x : Ask). OnOk c.begin.result ((w : World) → IsReachedBy c.args.layout.now w → Shows c.args.layout.now c.args.self.now w → Notes c.args.self.now.ledger w
-    → Notes c.begin.new.self.ledger (happens (coding c.args.layout.now) w (Invokes (brick_of c.args.brick) x))))
-    (ask_is ask c.args.group c.args.stripe (op_of c.args.access.now) c.in-Some-place_of.ensures.some.0 c.in-Some-place_of.ensures.some.1 c.in_ok-op.ensures.value)
-    (subst (λ (brick : BrickId). OnOk c.begin.result ((w : World) → IsReachedBy c.args.layout.now w → Shows c.args.layout.now c.args.self.now w → Notes c.args.self.now.ledger w
-    → Notes c.begin.new.self.ledger (happens (coding c.args.layout.now) w (Invokes brick ask)))) found.0
-    c.begin.ensures.notes)
-
-pub returns-in-None-clause-notes : goal.returns-in-None-clause-notes
-returns-in-None-clause-notes c w reached shows notes =
-    subst (λ (v : World). Notes c.args.self.now.ledger v) (sym (happens_down (coding c.args.layout.now) w _ _
-    (down_at c.args.layout.now _ _ c.args.brick (brick_of c.args.brick) c.deref.ensures.value refl c.in-None.ensures w shows.bricks))) notes
-
-pub returns-in-None-place_of-clause-notes : goal.returns-in-None-place_of-clause-notes
-returns-in-None-place_of-clause-notes c w reached shows notes =
-    subst (λ (v : World). Notes c.args.self.now.ledger v)
-    (sym (happens_refused (coding c.args.layout.now) w _ _ _ (c.in-None-place_of.ensures.none _ _))) notes
-
-pub returns-clause-outcome : goal.returns-clause-outcome
-returns-clause-outcome c =
-    let found =
-    up_at c.args.layout.now _ _ c.args.brick (brick_of c.args.brick) c.in-Some.brick c.deref.ensures.value refl c.in-Some.ensures
-    in
-    let ask : Ask = record { group = c.in-Some-place_of.place.0; stripe = c.in-Some-place_of.place.1; op = c.in_ok-op.op } in
-    subst (λ (x : Ask). IfOk c.begin.result (λ outcome. (w : World) → Shows c.args.layout.now c.args.self.now w
-    → outcome ≡ refused_or_begun (refusal_at (coding c.args.layout.now) w (brick_of c.args.brick) x)))
-    (ask_is ask c.args.group c.args.stripe (op_of c.args.access.now) c.in-Some-place_of.ensures.some.0 c.in-Some-place_of.ensures.some.1 c.in_ok-op.ensures.value)
-    (subst (λ (brick : BrickId). IfOk c.begin.result (λ outcome. (w : World) → Shows c.args.layout.now c.args.self.now w
-    → outcome ≡ refused_or_begun (refusal_at (coding c.args.layout.now) w brick ask))) found.0
-    c.begin.ensures.outcome)
+    (subst (λ (brick : BrickId). IfOk c.begin.result (TakesEvent c.args.layout.now c.args.self.now c.begin.new.self (Invokes brick ask))) found.0
+    c.begin.ensures.ok)

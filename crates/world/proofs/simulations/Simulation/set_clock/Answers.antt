@@ -8,24 +8,24 @@ use Rattle.world.proofs.MachineBegins.{happens_unset}
 use Rattle.world.proofs.SimulationLemmas.{shows_set, shows_still, set_here, set_nowhere}
 use Rattle.world.proofs.simulations.Simulation.set_clock.Goals as goal
 
-pub returns-then-brick-from-clause-shows : goal.returns-then-brick-from-clause-shows
-returns-then-brick-from-clause-shows c w shows =
-    shows_still c.args.layout.now c.args.self.now w _
-    (happens_unset (coding c.args.layout.now) w (brick_of c.args.brick) c.args.time (omega arith)) shows
+pub returns-then-brick-from : goal.returns-then-brick-from
+returns-then-brick-from c = record {
+  shows = λ w shows.
+      (shows_still c.args.layout.now c.args.self.now w _
+      (happens_unset (coding c.args.layout.now) w (brick_of c.args.brick) c.args.time (omega arith)) shows);
+  outcome_is = λ w shows.
+      (set_nowhere c.args.layout.now (brick_of c.args.brick) (omega arith));
+  disks = refl;
+}
 
-pub returns-then-brick-from-clause-outcome : goal.returns-then-brick-from-clause-outcome
-returns-then-brick-from-clause-outcome c = set_nowhere c.args.layout.now (brick_of c.args.brick) (omega arith)
-
-pub returns-clause-outcome : goal.returns-clause-outcome
-returns-clause-outcome c = set_here c.args.layout.now (brick_of c.args.brick) (omega arith)
-
-pub returns-clause-shows : goal.returns-clause-shows
-returns-clause-shows c w shows =
-    shows_set c.args.layout.now c.args.self.now _ w (brick_of c.args.brick) c.args.time (omega arith)
-    (shows_clock c.args.layout.now c.args.self.now.bricks.items c.args.brick c.index_mut-brick.result.now c.args.time w
-    (omega (arith, c.args.self.now.bricks.ok.0, c.requires)) c.index_mut-brick.ensures.value shows.bricks)
-    refl shows
-
-pub returns-clause-disks : goal.returns-clause-disks
-returns-clause-disks c =
-    disks_same c.args.self.now.bricks.items c.args.brick c.index_mut-brick.result.now _ c.index_mut-brick.ensures.value refl
+pub returns : goal.returns
+returns c = record {
+  shows = λ w shows.
+      (shows_set c.args.layout.now c.args.self.now _ w (brick_of c.args.brick) c.args.time (omega arith)
+      (shows_clock c.args.layout.now c.args.self.now.bricks.items c.args.brick c.index_mut-brick.result.now c.args.time w
+      (omega (arith, c.args.self.now.bricks.ok.0, c.requires)) c.index_mut-brick.ensures.value shows.bricks)
+      refl shows);
+  outcome_is = λ w shows.
+      (set_here c.args.layout.now (brick_of c.args.brick) (omega arith));
+  disks = (disks_same c.args.self.now.bricks.items c.args.brick c.index_mut-brick.result.now _ c.index_mut-brick.ensures.value refl);
+}

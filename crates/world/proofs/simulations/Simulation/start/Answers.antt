@@ -10,22 +10,22 @@ use Rattle.world.proofs.DeliveryLemmas.{start_comes}
 use Rattle.world.proofs.StartLemmas.{starts_nowhere}
 use Rattle.world.proofs.simulations.Simulation.start.Goals as goal
 
-pub returns-then-brick-from-clause-comes : goal.returns-then-brick-from-clause-comes
-returns-then-brick-from-clause-comes c w reached shows notes =
-    start_comes c.args.layout.now w c.args.self.now c.args.self.now (brick_of c.args.brick) c.args.fault false refl refl reached shows notes
+pub returns-then-brick-from-clause-ok : goal.returns-then-brick-from-clause-ok
+returns-then-brick-from-clause-ok c w reached shows =
+    start_comes c.args.layout.now w c.args.self.now c.args.self.now (brick_of c.args.brick) c.args.fault false refl shows
     (starts_nowhere c.args.layout.now c.args.self.now.bricks.items (brick_of c.args.brick) c.args.fault w (omega arith) shows.bricks)
 
-pub returns-then-branch-clause-comes : goal.returns-then-branch-clause-comes
-returns-then-branch-clause-comes c w reached shows notes =
-    start_comes c.args.layout.now w c.args.self.now (record { bricks = c.start_brick.new.bricks; history = c.args.self.now.history; ledger = c.args.self.now.ledger })
-    (brick_of c.args.brick) c.args.fault true refl refl reached shows notes
+pub returns-then-branch-clause-ok : goal.returns-then-branch-clause-ok
+returns-then-branch-clause-ok c w reached shows =
+    start_comes c.args.layout.now w c.args.self.now (record { bricks = c.start_brick.new.bricks; history = c.args.self.now.history })
+    (brick_of c.args.brick) c.args.fault true refl shows
     (subst (λ (b : Bool). (events : List Event) × StartsAs c.args.layout.now w (brick_of c.args.brick) c.args.fault c.args.self.now.bricks.items
     c.start_brick.new.bricks.items b events) c.if-branch.true (c.in_ok-start_brick.ensures.started w shows.bricks))
 
-pub returns-else-branch-clause-comes : goal.returns-else-branch-clause-comes
-returns-else-branch-clause-comes c w reached shows notes =
-    start_comes c.args.layout.now w c.args.self.now (record { bricks = c.start_brick.new.bricks; history = c.args.self.now.history; ledger = c.args.self.now.ledger })
-    (brick_of c.args.brick) c.args.fault false refl refl reached shows notes
+pub returns-else-branch-clause-ok : goal.returns-else-branch-clause-ok
+returns-else-branch-clause-ok c w reached shows =
+    start_comes c.args.layout.now w c.args.self.now (record { bricks = c.start_brick.new.bricks; history = c.args.self.now.history })
+    (brick_of c.args.brick) c.args.fault false refl shows
     (subst (λ (b : Bool). (events : List Event) × StartsAs c.args.layout.now w (brick_of c.args.brick) c.args.fault c.args.self.now.bricks.items
     c.start_brick.new.bricks.items b events) c.if-branch.false (c.in_ok-start_brick.ensures.started w shows.bricks))
 
@@ -36,7 +36,8 @@ of_err (Err refused) P holds = holds
 
 pub returns-in_err-start_brick-clause-err : goal.returns-in_err-start_brick-clause-err
 returns-in_err-start_brick-clause-err c =
-    of_err c.from_residual.result _ (λ w shows. record { bricks = c.in_err-start_brick.ensures.err w shows.bricks; history = shows.history })
-
-pub returns-in_err-start_brick-clause-contents : goal.returns-in_err-start_brick-clause-contents
-returns-in_err-start_brick-clause-contents c = of_err c.from_residual.result _ c.in_err-start_brick.ensures.contents
+    of_err c.from_residual.result _
+    (record {
+      shows = λ w shows. record { bricks = c.in_err-start_brick.ensures.err w shows.bricks; history = shows.history };
+      contents = c.in_err-start_brick.ensures.contents;
+    })

@@ -13,16 +13,6 @@ use Rattle.world.proofs.MachineBegins.{happens_unticked}
 use Rattle.world.proofs.SimulationLemmas.{on_err_always, shows_ticked, shows_still, done_here, done_nowhere}
 use Rattle.world.proofs.simulations.Simulation.tick.Goals as goal
 
-pub returns-in-None-clause-shows : goal.returns-in-None-clause-shows
-returns-in-None-clause-shows c w shows =
-    shows_still c.args.layout.now c.args.self.now w _ (happens_unticked (coding c.args.layout.now) w (brick_of c.args.brick)
-    (down_at c.args.layout.now _ _ c.args.brick (brick_of c.args.brick) c.deref.ensures.value refl c.in-None.ensures w shows.bricks)) shows
-
-pub returns-in-None-clause-outcome : goal.returns-in-None-clause-outcome
-returns-in-None-clause-outcome c w shows =
-    done_nowhere c.args.layout.now w (brick_of c.args.brick)
-    (down_at c.args.layout.now _ _ c.args.brick (brick_of c.args.brick) c.deref.ensures.value refl c.in-None.ensures w shows.bricks)
-
 pub tick_brick-requires : goal.tick_brick-requires
 tick_brick-requires c =
     let found =
@@ -33,25 +23,37 @@ tick_brick-requires c =
 pub returns-in_err-send_more-clause-err : goal.returns-in_err-send_more-clause-err
 returns-in_err-send_more-clause-err c =
     on_err_always c.from_residual-in_err-send_more.result
-    (λ w shows. record { bricks = shows.bricks; history = c.in_err-send_more.ensures.err w shows.history })
+    (record { shows = λ w shows. record { bricks = shows.bricks; history = c.in_err-send_more.ensures.err w shows.history }; contents = refl })
 
-pub returns-clause-shows : goal.returns-clause-shows
-returns-clause-shows c w shows =
-    let found =
-    up_at c.args.layout.now _ _ c.args.brick (brick_of c.args.brick) c.in-Some.brick c.deref.ensures.value refl c.in-Some.ensures
-    in
-    let state : Simulation = record { bricks = c.args.self.now.bricks; history = c.send_more.new.self; ledger = c.args.self.now.ledger } in
-    subst (λ (brick : BrickId). Shows c.args.layout.now state (happens (coding c.args.layout.now) w (Ticks brick))) found.0
-    (shows_ticked c.args.layout.now state w c.in-Some.brick (found.1.up w shows.bricks) shows.bricks
-    (subst (λ (sent : List Packet). Tells c.send_more.new.self (record w { packets = w.packets ++ sent }))
-    (c.in_ok-messages.ensures c.args.layout.now w
-    (subst (λ (bricks : List Brick). ShowsBricks c.args.layout.now bricks w.nodes w.after w.up w.clocks) (sym c.deref-2.ensures.value) shows.bricks))
-    (c.in_ok-send_more.ensures.sent w shows.history)))
+pub returns-in-None-clause-ok : goal.returns-in-None-clause-ok
+returns-in-None-clause-ok c = record {
+  shows = λ w shows.
+      (shows_still c.args.layout.now c.args.self.now w _ (happens_unticked (coding c.args.layout.now) w (brick_of c.args.brick)
+      (down_at c.args.layout.now _ _ c.args.brick (brick_of c.args.brick) c.deref.ensures.value refl c.in-None.ensures w shows.bricks)) shows);
+  outcome_is = λ w shows.
+      (done_nowhere c.args.layout.now w (brick_of c.args.brick)
+      (down_at c.args.layout.now _ _ c.args.brick (brick_of c.args.brick) c.deref.ensures.value refl c.in-None.ensures w shows.bricks));
+  disks = refl;
+}
 
-pub returns-clause-outcome : goal.returns-clause-outcome
-returns-clause-outcome c w shows =
-    let found =
-    up_at c.args.layout.now _ _ c.args.brick (brick_of c.args.brick) c.in-Some.brick c.deref.ensures.value refl c.in-Some.ensures
-    in
-    done_here c.args.layout.now w (brick_of c.args.brick)
-    (subst (λ (brick : BrickId). is_up c.args.layout.now w brick ≡ true) found.0 (found.1.up w shows.bricks))
+pub returns-clause-ok : goal.returns-clause-ok
+returns-clause-ok c = record {
+  shows = λ w shows.
+      (let found =
+      up_at c.args.layout.now _ _ c.args.brick (brick_of c.args.brick) c.in-Some.brick c.deref.ensures.value refl c.in-Some.ensures
+      in
+      let state : Simulation = record { bricks = c.args.self.now.bricks; history = c.send_more.new.self } in
+      subst (λ (brick : BrickId). Shows c.args.layout.now state (happens (coding c.args.layout.now) w (Ticks brick))) found.0
+      (shows_ticked c.args.layout.now state w c.in-Some.brick (found.1.up w shows.bricks) shows.bricks
+      (subst (λ (sent : List Packet). Tells c.send_more.new.self (record w { packets = w.packets ++ sent }))
+      (c.in_ok-messages.ensures c.args.layout.now w
+      (subst (λ (bricks : List Brick). ShowsBricks c.args.layout.now bricks w.nodes w.after w.up w.clocks) (sym c.deref-2.ensures.value) shows.bricks))
+      (c.in_ok-send_more.ensures.sent w shows.history))));
+  outcome_is = λ w shows.
+      (let found =
+      up_at c.args.layout.now _ _ c.args.brick (brick_of c.args.brick) c.in-Some.brick c.deref.ensures.value refl c.in-Some.ensures
+      in
+      done_here c.args.layout.now w (brick_of c.args.brick)
+      (subst (λ (brick : BrickId). is_up c.args.layout.now w brick ≡ true) found.0 (found.1.up w shows.bricks)));
+  disks = refl;
+}

@@ -39,7 +39,7 @@ use Rattle.layout.specs.contracts.layouts.Layout as layout
 use Rattle.lines.specs.contracts.forms.Line as line
 use Rattle.world.specs.contracts.simulations.Simulation as state
 use Rattle.world.specs.Runs.{Step, world_of}
-use Rattle.world.specs.Standing.{Leaves}
+use Rattle.world.specs.Shown.{Leaves}
 
 abbrev stayed : Stays (f.ended).signature.params (f.ended).kept
 stayed = (stay_none_ref (0 ∷ []) tt (plain (λ _. made.the_row)) yes, (stay_none_ref (1 ∷ []) tt (plain (λ _. shelf.the_row)) yes, (stay_none_ref (2 ∷ []) tt (plain (λ _. layout.the_row)) yes, (stay_none_ref (3 ∷ []) tt (plain (λ _. line.the_row)) yes, (stay_none_ref (4 ∷ []) tt (plain (λ _. state.the_row)) yes, tt)))))

@@ -78,12 +78,12 @@ module _ {M : Type 1} {𝓤 : Ura M} (𝓛 : Logic 𝓤) (mem : Memory → SProp
 
     walk : wanted → ent 𝓤 (on_entry 𝓛 f.signature κs qs a (p0 ∷ [], (p1 ∷ [], (p2 ∷ [], (p3 ∷ [], (p4 ∷ [], (p5 ∷ [], tt)))))))
         (WpFn 𝓤 H C Λ code.function (p0 ∷ p1 ∷ p2 ∷ p3 ∷ p4 ∷ p5 ∷ []) ((walk_of 𝓛 f.ended stayed (f.clauses 𝓛 mem run)).post bound))
-    walk (events, comes, notes) =
+    walk (events, comes) =
         qed 𝓛 (raw (alive 𝓛 f.signature κs qs) ∷ ‵ passed ∷ []) ∵ enter ! C Λ code.function (p0 ∷ p1 ∷ p2 ∷ p3 ∷ p4 ∷ p5 ∷ []) _ $
         alloc_all ! (λ l. pass_all ! refl ((tt, tt), ((tt, tt), ((tt, tt), ((tt, tt), ((tt, tt), ((tt, tt), tt)))))) $ sets ! (agg ! (no_more !)) refl (tt, tt) $
         returns ! (look_at ! 0 refl) $ free_all ! refl $
         suffices ! _ (ends_at 𝓛 f.ended stayed (f.clauses 𝓛 mem run) bound (vstruct vnil) (record { steps = a.0.now.steps ++ record { line = a.1.1.1.0.now; events = events } ∷ [] }) (tt, (tt, (tt, (tt, (tt, (tt, tt)))))) (tt, (tt, (tt, (tt, (tt, (tt, tt))))))) $
-        says ! (events, comes, notes, refl) $ pure_i ! (made.the_row.own_val (record { steps = a.0.now.steps ++ record { line = a.1.1.1.0.now; events = events } ∷ [] }) (vstruct vnil ∷ [])) ((λ vss. (tt, tt)), tt) ((tt, (refl, tt)), tt) $
+        says ! (events, comes, refl) $ pure_i ! (made.the_row.own_val (record { steps = a.0.now.steps ++ record { line = a.1.1.1.0.now; events = events } ∷ [] }) (vstruct vnil ∷ [])) ((λ vss. (tt, tt)), tt) ((tt, (refl, tt)), tt) $
         move ! (1 ∷ 2 ∷ 0 ∷ []) $ done !)
 
   walks : Walks 𝓛 f.ended stayed (WpFn 𝓤 H C Λ code.function) (f.clauses 𝓛 mem run)

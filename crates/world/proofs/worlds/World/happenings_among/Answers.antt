@@ -6,14 +6,14 @@ use Rattle.protocol.specs.Happenings.{happenings_of}
 use Rattle.world.specs.Runs.{Run, world_of}
 use Rattle.world.specs.Standing.{run_of}
 use Rattle.world.specs.Walks.{KeepsAll, AreEntriesOf}
-use Rattle.world.specs.declared.histories.KeptOperation.{KeptOperation}
+use Rattle.world.specs.declared.histories.OperationRecord.{OperationRecord}
 use Rattle.world.proofs.RunLaws.{begins_agree}
 use Rattle.world.proofs.worlds.World.happenings_among.Goals as goal
 
 pub returns : goal.returns
 returns c =
     let keeps : KeepsAll c.as_slice.result.now (world_of (run_of c.self.inside)) =
-    subst (λ (kept : List KeptOperation). KeepsAll kept (world_of (run_of c.self.inside))) (sym c.as_slice.ensures.value)
+    subst (λ (kept : List OperationRecord). KeepsAll kept (world_of (run_of c.self.inside))) (sym c.as_slice.ensures.value)
     (record {
       begun = c.self.invariant.shows.history.begun;
       own = c.self.invariant.shows.history.own;

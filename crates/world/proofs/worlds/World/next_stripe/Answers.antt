@@ -1,5 +1,5 @@
 -- A stripe without entries has no happenings.
-use Rattle.std.proofs.Common.{ℕ, ◌∙◌, sym}
+use Rattle.std.proofs.Common.{◌∙◌, sym}
 use Rattle.std.proofs.lemmas.Option.{IfSome_then}
 use Rattle.world.specs.Runs.{world_of}
 use Rattle.world.proofs.StripeRanges.{no_happenings, none_happens}

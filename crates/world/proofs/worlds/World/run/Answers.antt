@@ -1,16 +1,14 @@
--- The state shows the world that the run leaves, and its ledger notes it, with or without the step.
+-- The state shows the world that the run leaves, with or without the step.
 use Rattle.std.proofs.Common.{◌≡◌, ◌≤◌, List, [], ◌∷◌, ◌++◌, length, refl, sym, subst}
 use Rattle.fab_disk.specs.declared.mem_disk.MemDisk.{MemDisk}
-use Rattle.protocol.specs.Worlds.{Event, run}
-use Rattle.stripe_code.specs.Codes.{coding}
-use Rattle.world.specs.Ledgers.{Notes}
+use Rattle.protocol.specs.Worlds.{Event}
 use Rattle.world.specs.Runs.{Run, Step, world_of}
-use Rattle.world.specs.Shown.{Comes, ComesTo, disks_of}
-use Rattle.world.specs.Standing.{Leaves, run_of}
+use Rattle.world.specs.Shown.{Comes, ComesTo, Leaves, disks_of}
+use Rattle.world.specs.Standing.{run_of}
 use Rattle.world.specs.Steps.{RunsTo, LeavesSome}
 use Rattle.world.proofs.BrickListLemmas.{nodes_of}
 use Rattle.world.proofs.RunLaws.{run_reached}
-use Rattle.world.proofs.RunLemmas.{runs_to, stands_run, refused_leaves, leaves_some, stands_left, disks_shown, marks_grow}
+use Rattle.world.proofs.RunLemmas.{runs_to, stands_run, leaves_some, stands_left, disks_shown, marks_grow}
 use Rattle.world.proofs.worlds.World.run.Goals as goal
 
 pub run-requires-clause-nodes : goal.run-requires-clause-nodes
@@ -18,37 +16,35 @@ run-requires-clause-nodes c = nodes_of _ _ _ _ _ _ c.self.invariant.shows.bricks
 
 pub run-requires-clause-shows : goal.run-requires-clause-shows
 run-requires-clause-shows c =
-    (world_of (run_of c.self.inside), run_reached (run_of c.self.inside), c.self.invariant.shows, c.self.invariant.notes)
+    (world_of (run_of c.self.inside), run_reached (run_of c.self.inside), c.self.invariant.shows)
 
 pub with-self-inside-requires : goal.with-self-inside-requires
 with-self-inside-requires c =
     subst (λ (disks : List MemDisk). Comes c.self.inside.layout
     (world_of (record { layout = c.self.inside.layout; steps = c.self.inside.trail.steps; disks = disks })) disks c.run.new.self c.args.line.now
     c.in-Ok.outcome) (sym c.of-shelf.ensures)
-    (c.in-Ok.ensures.comes (world_of (run_of c.self.inside)) (run_reached (run_of c.self.inside)) c.self.invariant.shows c.self.invariant.notes)
+    (c.in-Ok.ensures.ok (world_of (run_of c.self.inside)) (run_reached (run_of c.self.inside)) c.self.invariant.shows)
 
 pub invariant_of-self : goal.invariant_of-self
 invariant_of-self c =
-    let stands = stands_run c.self.inside.layout c.self.inside.trail.steps c.with-self-inside.result.steps c.of-shelf.result.disks
-    (disks_of c.run.new.self.bricks.items) c.run.new.self c.args.line.now c.in-Ok.outcome c.with-self-inside.ensures
-    in
-    record { shows = stands.0; notes = stands.1 }
+    record {
+      shows = stands_run c.self.inside.layout c.self.inside.trail.steps c.with-self-inside.result.steps c.of-shelf.result.disks
+          (disks_of c.run.new.self.bricks.items) c.run.new.self c.args.line.now c.in-Ok.outcome c.with-self-inside.ensures;
+    }
 
 pub left-self-inside-requires : goal.left-self-inside-requires
 left-self-inside-requires c =
     subst (λ (disks : List MemDisk). (steps : List Step) × Leaves c.self.inside.layout
     (world_of (record { layout = c.self.inside.layout; steps = c.self.inside.trail.steps; disks = disks })) disks c.run.new.self c.args.line.now steps)
     (sym c.of-shelf.ensures)
-    (refused_leaves c.self.inside.layout (world_of (run_of c.self.inside)) c.self.inside.simulation c.run.new.self c.args.line.now
-    c.self.invariant.notes
-    (c.in-Err.ensures.err (world_of (run_of c.self.inside)) (run_reached (run_of c.self.inside)) c.self.invariant.shows c.self.invariant.notes))
+    (c.in-Err.ensures.err (world_of (run_of c.self.inside)) (run_reached (run_of c.self.inside)) c.self.invariant.shows)
 
 pub invariant_of-self-in-Err : goal.invariant_of-self-in-Err
 invariant_of-self-in-Err c =
-    let stands = stands_left c.self.inside.layout c.self.inside.trail.steps c.left-self-inside.result.steps c.of-shelf.result.disks
-    (disks_of c.run.new.self.bricks.items) c.run.new.self c.args.line.now c.left-self-inside.ensures
-    in
-    record { shows = stands.0; notes = stands.1 }
+    record {
+      shows = stands_left c.self.inside.layout c.self.inside.trail.steps c.left-self-inside.result.steps c.of-shelf.result.disks
+          (disks_of c.run.new.self.bricks.items) c.run.new.self c.args.line.now c.left-self-inside.ensures;
+    }
 
 pub returns-in-Ok-clause-ok : goal.returns-in-Ok-clause-ok
 returns-in-Ok-clause-ok c =
@@ -63,8 +59,6 @@ returns-in-Ok-clause-ok c =
     (subst (λ (disks : List MemDisk). (events : List Event) × ComesTo c.self.inside.layout
     (world_of (record { layout = c.self.inside.layout; steps = c.self.inside.trail.steps; disks = disks })) disks c.run.new.self c.args.line.now
     c.in-Ok.outcome events
-    × Notes c.run.new.self.ledger (run (coding c.self.inside.layout) events
-    (world_of (record { layout = c.self.inside.layout; steps = c.self.inside.trail.steps; disks = disks })))
     × (c.with-self-inside.result.steps ≡ c.self.inside.trail.steps ++ record { line = c.args.line.now; events = events } ∷ []))
     c.of-shelf.ensures c.with-self-inside.ensures))
 
@@ -73,11 +67,11 @@ returns-in-Ok-clause-disks c =
     let stands = stands_run c.self.inside.layout c.self.inside.trail.steps c.with-self-inside.result.steps c.of-shelf.result.disks
     (disks_of c.run.new.self.bricks.items) c.run.new.self c.args.line.now c.in-Ok.outcome c.with-self-inside.ensures
     in
-    disks_shown c.self.inside.layout c.run.new.self c.with-self-inside.result.steps stands.0
+    disks_shown c.self.inside.layout c.run.new.self c.with-self-inside.result.steps stands
 
 pub returns-in-Ok-clause-marks : goal.returns-in-Ok-clause-marks
 returns-in-Ok-clause-marks c =
-    let (events, comes, notes, grown) = c.with-self-inside.ensures in
+    let (events, comes, grown) = c.with-self-inside.ensures in
     subst (λ (r : Run). length (world_of r).marks
     ≤ length (world_of (record { layout = c.self.inside.layout; steps = c.with-self-inside.result.steps; disks = [] })).marks) c.self.view_is
     (marks_grow c.self.inside.layout c.self.inside.trail.steps c.with-self-inside.result.steps
@@ -103,4 +97,4 @@ returns-in-Err-clause-disks c =
     let stands = stands_left c.self.inside.layout c.self.inside.trail.steps c.left-self-inside.result.steps c.of-shelf.result.disks
     (disks_of c.run.new.self.bricks.items) c.run.new.self c.args.line.now c.left-self-inside.ensures
     in
-    disks_shown c.self.inside.layout c.run.new.self c.left-self-inside.result.steps stands.0
+    disks_shown c.self.inside.layout c.run.new.self c.left-self-inside.result.steps stands

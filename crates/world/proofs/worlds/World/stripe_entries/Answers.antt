@@ -5,14 +5,14 @@ use Rattle.std.proofs.lemmas.Result.{IfOk-weaker}
 use Rattle.world.specs.Runs.{Run, world_of}
 use Rattle.world.specs.Standing.{run_of}
 use Rattle.world.specs.Walks.{KeepsAll, AreEntriesOf}
-use Rattle.world.specs.declared.histories.KeptOperation.{KeptOperation}
+use Rattle.world.specs.declared.histories.OperationRecord.{OperationRecord}
 use Rattle.world.proofs.KeptOperations.{kept_entries}
 use Rattle.world.proofs.worlds.World.stripe_entries.Goals as goal
 
 pub returns : goal.returns
 returns c =
     let keeps : KeepsAll c.as_slice.result.now (world_of (run_of c.self.inside)) =
-    subst (λ (kept : List KeptOperation). KeepsAll kept (world_of (run_of c.self.inside))) (sym c.as_slice.ensures.value)
+    subst (λ (kept : List OperationRecord). KeepsAll kept (world_of (run_of c.self.inside))) (sym c.as_slice.ensures.value)
     (record {
       begun = c.self.invariant.shows.history.begun;
       own = c.self.invariant.shows.history.own;

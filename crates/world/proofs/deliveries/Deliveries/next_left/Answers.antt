@@ -3,17 +3,17 @@ use Rattle.std.proofs.Common.{◌≡◌, ℕ, ◌+◌, ◌-◌, ◌<◌, Bool, L
 use Rattle.std.specs.Prelude.{slice_get}
 use Rattle.std.proofs.lemmas.Option.{slice_get-get_or, same_Some}
 use Rattle.messages.specs.declared.packets.Packet.{Packet}
-use Rattle.world.specs.Ledgers.{FindsLeft}
+use Rattle.world.specs.Deliveries.{FindsLeft}
 use Rattle.world.specs.Sendings.{CallKey, IsBehind}
 use Rattle.world.proofs.ChainWalks.{none_behind, found_below, found_here, found_least}
-use Rattle.world.proofs.ledgers.Ledger.next_left.Goals as goal
-use Rattle.world.proofs.ledgers.Ledger.next_left.Goals.{then-is_left, else-is_left}
+use Rattle.world.proofs.deliveries.Deliveries.next_left.Goals as goal
+use Rattle.world.proofs.deliveries.Deliveries.next_left.Goals.{then-is_left, else-is_left}
 
 pub loop-end-init : goal.loop-end-init
 loop-end-init c = record {
   within = omega (arith, c.end_of-end.ensures.within, c.args.sent.now.packets.ok.0);
-  finds = none_behind c.args.self.now.reached.items c.args.origin c.args.bricks.now c.args.sent.now.packets.items c.end_of-end.result
-      (subst (λ (call : CallKey). IsBehind c.args.sent.now.packets.items call c.end_of-end.result) c.call.ensures c.end_of-end.ensures.behind);
+  finds = none_behind c.args.self.now.reached.items c.args.operation c.args.bricks.now c.args.sent.now.packets.items c.end_of-end.result
+      (subst (λ (call : CallKey). IsBehind c.args.sent.now.packets.items call c.end_of-end.result) c.call_of.ensures c.end_of-end.ensures.behind);
   least = λ k none. absurd (let never : None ≡ Some k = none in cc);
 }
 
@@ -30,12 +30,12 @@ loop-end-preserved c =
       within = omega (arith, c.end_before-end.ensures.before, within);
       finds = elim c.if-is_left.branch [
         | then-is_left w ↦
-            subst (λ (found : Option ℕ). FindsLeft reached c.args.origin c.args.bricks.now c.end_before-end.result packets found) (sym w.found-is)
-            (found_here reached c.args.origin c.args.bricks.now packets c.end_before-end.result place c.index.result.now c.end_before-end.ensures.before at
+            subst (λ (found : Option ℕ). FindsLeft reached c.args.operation c.args.bricks.now c.end_before-end.result packets found) (sym w.found-is)
+            (found_here reached c.args.operation c.args.bricks.now packets c.end_before-end.result place c.index.result.now c.end_before-end.ensures.before at
             (sym c.is_left.ensures ∙ w.if-is_left.true) c.end_before-end.ensures.between)
         | else-is_left w ↦
-            subst (λ (found : Option ℕ). FindsLeft reached c.args.origin c.args.bricks.now c.end_before-end.result packets found) (sym w.found-is)
-            (found_below reached c.args.origin c.args.bricks.now packets c.loop-end.end c.end_before-end.result place c.index.result.now next
+            subst (λ (found : Option ℕ). FindsLeft reached c.args.operation c.args.bricks.now c.end_before-end.result packets found) (sym w.found-is)
+            (found_below reached c.args.operation c.args.bricks.now packets c.loop-end.end c.end_before-end.result place c.index.result.now next
             c.end_before-end.ensures.before at (sym c.is_left.ensures ∙ w.if-is_left.false) c.end_before-end.ensures.between c.loop-end.found
             c.loop-end.invariant.finds)
       ];
@@ -48,5 +48,5 @@ loop-end-preserved c =
 
 pub returns : goal.returns
 returns c =
-    found_least c.args.self.now.reached.items c.args.origin c.args.bricks.now c.args.sent.now.packets.items c.loop-end.end c.args.from
+    found_least c.args.self.now.reached.items c.args.operation c.args.bricks.now c.args.sent.now.packets.items c.loop-end.end c.args.from
     (omega (arith, c.loop-end-test.false)) c.loop-end.found c.loop-end.invariant.least c.loop-end.invariant.finds

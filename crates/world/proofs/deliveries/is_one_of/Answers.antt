@@ -4,7 +4,7 @@ use Rattle.std.specs.List.{list_any}
 use Rattle.fab_base.specs.declared.identities.BrickId.{BrickId}
 use Rattle.protocol.specs.Calms.{is_one_of}
 use Rattle.world.specs.Runs.{brick_of}
-use Rattle.world.proofs.ledgers.is_one_of.Goals as goal
+use Rattle.world.proofs.deliveries.is_one_of.Goals as goal
 
 among : (numbers : List ℕ) (brick : BrickId) → list_any (λ one. nat_eq one brick.0) numbers ≡ is_one_of (map brick_of numbers) brick
 among [] brick = refl

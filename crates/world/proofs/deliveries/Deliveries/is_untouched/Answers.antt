@@ -1,21 +1,21 @@
 -- Each message of the operation is looked at, from the last one down.
-use Rattle.std.proofs.Common.{◌≡◌, ℕ, ◌+◌, ◌-◌, ◌<◌, ◌≤◌, true, false, List, length, Some, get_or, ⊎_elim, sym, ap, ◌∙◌, subst, arith}
+use Rattle.std.proofs.Common.{◌≡◌, ℕ, ◌-◌, ◌<◌, ◌≤◌, true, false, List, length, Some, get_or, ⊎_elim, sym, ap, ◌∙◌, subst, arith}
 use Rattle.std.specs.Prelude.{slice_get}
 use Rattle.std.proofs.lemmas.Bool.{cases_lt}
 use Rattle.std.proofs.lemmas.Option.{slice_get-get_or, same_Some}
 use Rattle.messages.specs.declared.packets.Packet.{Packet}
-use Rattle.world.specs.Ledgers.{is_of}
+use Rattle.world.specs.Deliveries.{is_of}
 use Rattle.world.specs.Sendings.{CallKey, IsBehind}
 use Rattle.world.proofs.ChainWalks.{of_call}
-use Rattle.world.proofs.ledgers.Ledger.is_untouched.Goals as goal
-use Rattle.world.proofs.ledgers.Ledger.is_untouched.Goals.{else-is_of-via-then-is_of+else-is_reached, else-is_of-via-else-is_of}
+use Rattle.world.proofs.deliveries.Deliveries.is_untouched.Goals as goal
+use Rattle.world.proofs.deliveries.Deliveries.is_untouched.Goals.{else-is_of-via-then-is_of+else-is_reached, else-is_of-via-else-is_of}
 
 pub loop-end-init : goal.loop-end-init
 loop-end-init c = record {
   within = omega (arith, c.end_of-end.ensures.within, c.args.sent.now.packets.ok.0);
   none = λ k packet least at of.
-      (let behind : IsBehind c.args.sent.now.packets.items (c.args.origin.brick.0, c.args.origin.boot, c.args.origin.seq) c.end_of-end.result =
-      subst (λ (call : CallKey). IsBehind c.args.sent.now.packets.items call c.end_of-end.result) c.call.ensures c.end_of-end.ensures.behind in
+      (let behind : IsBehind c.args.sent.now.packets.items (c.args.operation.brick.0, c.args.operation.boot, c.args.operation.seq) c.end_of-end.result =
+      subst (λ (call : CallKey). IsBehind c.args.sent.now.packets.items call c.end_of-end.result) c.call_of.ensures c.end_of-end.ensures.behind in
       let less : k < c.end_of-end.result = behind k packet at (of_call _ _ _ packet of) in
       absurd (omega (arith, less, least)));
 }
@@ -52,7 +52,7 @@ loop-end-preserved c =
             | else-is_of-via-then-is_of+else-is_reached w ↦ sym w.is_reached.ensures ∙ w.if-is_reached.false
             | else-is_of-via-else-is_of w ↦
                 absurd (let never : true ≡ false =
-                sym of ∙ ap (is_of c.args.origin.brick.0 c.args.origin.boot c.args.origin.seq) this ∙ sym c.is_of.ensures ∙ w.if-is_of.false in cc)
+                sym of ∙ ap (is_of c.args.operation.brick.0 c.args.operation.boot c.args.operation.seq) this ∙ sym c.is_of.ensures ∙ w.if-is_of.false in cc)
           ])
           (λ (later : c.loop-end.end ≤ k). c.loop-end.invariant.none k packet later found of) (cases_lt k c.loop-end.end)) (cases_lt k place);
     }

@@ -1,0 +1,10 @@
+-- The message is noted.
+use Rattle.std.proofs.Common.{refl}
+use Rattle.world.proofs.HistoryLemmas.{tells_delivered}
+use Rattle.world.proofs.histories.History.deliver.Goals as goal
+
+pub returns-clause-delivered : goal.returns-clause-delivered
+returns-clause-delivered c w tells = tells_delivered c.args.self.now _ w c.args.number refl c.note.ensures tells
+
+pub returns-clause-room : goal.returns-clause-room
+returns-clause-room c = record { sent = c.requires.room.sent; marks = c.requires.room.marks; operations = c.requires.room.operations }
