@@ -100,8 +100,7 @@ fn happened_text(
     Ok(text)
 }
 
-/// The lines of a group's stripes.
-#[tactic(auto, using(crate::proofs::StripeTexts::stripes_rules))]
+/// The lines of a group's stripes. Those of which no operation was are passed over.
 fn stripes_text(
     alloc: Global,
     world: &World,
@@ -113,11 +112,12 @@ fn stripes_text(
     ensures { IfOk result (λ text. string_bytes text ≡ stripes_text (world_of world.now) group.0 stripes) }
 {
     let mut text = String::new(alloc);
-    for number in 0..stripes {
-        let stripe = StripeNo(number);
+    let mut next = 0;
+    while let Some(stripe) = world.next_stripe(entries, group, next, stripes) {
         let happenings = world.happenings_among(entries, group, stripe)?;
         let line = happened_text(alloc, group, stripe, happenings.as_slice())?;
         text.push_str(line.as_str())?;
+        next = stripe.0 + 1;
     }
     Ok(text)
 }
