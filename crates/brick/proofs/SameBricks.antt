@@ -1,5 +1,5 @@
 -- The bricks that a process hosts stay the same bricks, in order, whatever turns they take, and none is halted unless its disk failed.
-use Rattle.std.proofs.Common.{◌≡◌, ◌≤◌, ℕ, ◌<◌, arith, true, false, List, [], ◌∷◌, ◌++◌, length, Option, Err, inl, inr, refl, sym, ap, ◌∙◌, subst}
+use Rattle.std.proofs.Common.{◌≡◌, ◌⊎◌, ◌≤◌, ℕ, ◌<◌, arith, true, false, List, [], ◌∷◌, ◌++◌, length, Option, Err, inl, inr, refl, sym, ap, ◌∙◌, subst}
 use Rattle.std.specs.List.{AllByRecursion}
 use Rattle.node.specs.Running.{IsSameBrick}
 use Rattle.fab_base.specs.Faults.{Rose}
