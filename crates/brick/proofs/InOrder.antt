@@ -334,7 +334,7 @@ unfound told failed before after source Worn f = absurd f.gives
 
 -- at any end
 going_on : {S D L N C : Type 0} (e : Streams S N) (v : Views D L C) (before between after : HostSeen S D L N C) (w : Wanted)
-    (out said : Option (List ℕ)) (found : Result Layout Ending) (ending : Ending) → FindsLayout told failed before between w.layout found
+    (out said : Option (List ℕ)) (found : Result Layout Ending) (ending : Ending) → FindsLayout e.told e.failed before between w.layout found
     → GoesOn e v w found between after out said ending → Asks before.asked after.asked (calls_of w found) ending
 going_on e v before between after w out said (Ok layout) ending finds goes =
     asks_more _ _ _ _ _ ending finds.asks.asked (working e v layout w.name w.work between after out said ending goes)

@@ -1,5 +1,5 @@
 -- A session is lent, and its client is served.
-use Rattle.std.proofs.Common.{Err, inl, inr, refl, sym, ap, ◌∙◌, subst}
+use Rattle.std.proofs.Common.{Err, inl, inr, refl, sym, ap, subst}
 use Rattle.fab_host.specs.declared.hosts.Asked.TheVariants as calls
 use Rattle.brick.specs.Endings.{IsDone}
 use Rattle.brick.specs.Hosts.{host_seen, IsRefused}

@@ -2,13 +2,13 @@
 use Rattle.std.proofs.Common.{Ok, Err, refl, sym, ap, subst}
 use Rattle.fab_base.proofs.Keeping.{Kept-refl, Kept-narrower}
 use Rattle.brick.specs.declared.words.Work.{Work}
-use Rattle.brick.specs.declared.endings.Ending.{Ending}
 use Rattle.brick.specs.Bricks.{DoesWork, FailsAt}
 use Rattle.brick.specs.Hosts.{host_seen}
 use Rattle.brick.specs.Views.{views, streams}
 use Rattle.brick.proofs.Completing.{found_done, format_done, serve_goes}
 use Rattle.brick.proofs.Found.{found_not_sink}
 use Rattle.brick.proofs.MayHosting.{all_goes}
+use Rattle.brick.proofs.Refusing.{not_at}
 use Rattle.brick.proofs.programs.work.Goals as goal
 
 pub returns-in-Err : goal.returns-in-Err
@@ -22,7 +22,8 @@ returns-in-Err g c =
     record {
       works = record { found = Err c.in-Err.ending; between = after; finds = said.found; goes_on = (refl, refl, refl) };
       stays = said.stays;
-      sink = Kept-narrower (λ e. found_not_sink source.told source.faults before after c.args.words.layout.now c.in-Err.ending said.found e) (Kept-refl _ _);
+      sink = Kept-narrower (λ e. absurd (not_at c.args.words.work c.in-Err.ending
+          (found_not_sink source.told source.faults before after c.args.words.layout.now c.in-Err.ending said.found) e)) (Kept-refl _ _);
       done = λ s sink may. found_done source.told disk.tells disk.seen source.faults before after c.args.words.layout.now c.args.words.name.now
           c.args.words.work c.in-Err.ending said.found may (λ e. said.source s (ap (λ z. Err z) e)) (λ e. said.missing s (ap (λ z. Err z) e));
     }
