@@ -1,5 +1,5 @@
 #!/usr/bin/env python3
-"""Whole-stripe operations a second of `brick local`, next to a bare UDP echo.
+"""Whole-stripe operations a second of `brick local`, next to a bare UDP echo, and bytes a second of `brick nbd`, next to those of `brick local`.
 
     bench/local/run.py PROGRAM [FOLDER]
 
@@ -9,10 +9,15 @@ one: with pipes, what is measured would be in part how fast this harness fills a
 layout it writes and reads whole stripes, and sends datagrams of the same number and sizes over a bare UDP socket, in turn, five times, and prints
 the median of both rates, their ratio, and the ratio of the median processor times, which other work on the machine hardly changes. The project asks
 for at least a fifth.
+
+For m = 4, n = 6 and a block of 4,096 it also copies 16 MiB to and from the disk by `nbdcopy --requests=1`, of Debian's libnbd-bin, over `brick nbd`, in the same five
+turns, and prints the bytes a second of both and their ratio. nbdcopy asks for 256 KiB a request; its start is counted. The project asks for at least as many
+bytes a second as `brick local` has, and would like 1.3 times as many. Without nbdcopy these rows are left out.
 """
 
 import os
 import resource
+import shutil
 import statistics
 import subprocess
 import sys
@@ -24,6 +29,8 @@ ROUNDS = 5
 HEAD = 6
 CALL, STAMP = 28, 18
 CLIENT, REPLY = HEAD + 22, HEAD + 9
+COPIED = 16 * 2**20
+COPIES = (4, 6, 4096)
 
 LAYOUT = """block = {block}
 bricks = {n}
@@ -32,10 +39,10 @@ port = {port}
 [[group]]
 m = {m}
 members = [{members}]
-stripes = 64
+stripes = {stripes}
 [[volume]]
 name = "v"
-segments = [[0, 0, 64]]
+segments = [[0, 0, {stripes}]]
 """
 
 
@@ -64,15 +71,55 @@ def run_timed(words, **options):
     return ended, seconds, after.ru_utime + after.ru_stime - before.ru_utime - before.ru_stime
 
 
-def local(program, folder, write, m, n, block):
-    """Seconds and processor seconds for the operations by `brick local`, the start of the program left out."""
+def make(program, folder, m, n, block, stripes):
+    """The layout of a disk in a folder, what the names of its stores begin with, and a TCP port."""
     port = 20000 + 64 * (os.getpid() % 512)
     layout = os.path.join(folder, "layout")
     with open(layout, "w") as text:
-        text.write(LAYOUT.format(block=block, n=n, m=m, port=port, members=", ".join(map(str, range(n)))))
+        text.write(LAYOUT.format(block=block, n=n, m=m, port=port, members=", ".join(map(str, range(n))), stripes=stripes))
     stores = os.path.join(folder, "store")
     for brick in range(n):
         subprocess.run([program, "format", layout, f"{stores}.{brick}", str(brick)], check=True, stdout=subprocess.DEVNULL)
+    return layout, stores, port + n
+
+
+def listens(port):
+    """Whether a socket of this machine listens at a TCP port of 127.0.0.1."""
+    with open("/proc/net/tcp") as table:
+        rows = [line.split() for line in table.readlines()[1:]]
+    return any(row[1] == f"0100007F:{port:04X}" and row[3] == "0A" for row in rows)
+
+
+def nbd(program, folder, write, m, n, block):
+    """Seconds of nbdcopy for so many bytes to the disk, or from it, once they are there."""
+    layout, stores, port = make(program, folder, m, n, block, COPIED // (m * block))
+    there, back = os.path.join(folder, "there"), os.path.join(folder, "back")
+    with open(there, "wb") as file:
+        file.write(os.urandom(COPIED))
+
+    def copy(*words):
+        served = subprocess.Popen([program, "nbd", layout, stores, str(port), str(10**15)], stdout=subprocess.PIPE, text=True)
+        while not listens(port):
+            if served.poll() is not None:
+                raise SystemExit(f"nbd ended with {served.returncode}")
+            time.sleep(0.005)
+        _, seconds, _ = run_timed(["nbdcopy", "--requests=1", "--connections=1", *words], check=True)
+        if served.communicate(timeout=60)[0] != "nbd disc\n":
+            raise SystemExit(f"nbd ended with {served.returncode}")
+        return seconds
+
+    seconds = copy(there, f"nbd://127.0.0.1:{port}/v")
+    if not write:
+        seconds = copy(f"nbd://127.0.0.1:{port}/v", back)
+        with open(there, "rb") as one, open(back, "rb") as other:
+            if one.read() != other.read():
+                raise SystemExit("other bytes came back")
+    return seconds
+
+
+def local(program, folder, write, m, n, block):
+    """Seconds and processor seconds for the operations by `brick local`, the start of the program left out."""
+    layout, stores, _ = make(program, folder, m, n, block, 64)
     data = m * block
 
     commands, answers = os.path.join(folder, "commands"), os.path.join(folder, "answers")
@@ -101,20 +148,32 @@ def main(words):
     with tempfile.TemporaryDirectory() as built:
         echo = os.path.join(built, "echo")
         subprocess.run(["rustc", "-O", "-o", echo, os.path.join(here, "echo.rs")], check=True)
+        copies = COPIES if shutil.which("nbdcopy") else None
+        rows = []
         print("operation m n block | local/s | echo/s | ratio | by processor time")
         for m, n in ((1, 3), (4, 6)):
             for block in (1024, 4096):
                 for write in (True, False):
                     datagrams = [str(size) for size in sizes(write, m, n, block)]
-                    ours, bare = [], []
+                    ours, bare, copied = [], [], []
+                    place = words[1] if len(words) == 2 else "/dev/shm"
                     for _ in range(ROUNDS):
-                        with tempfile.TemporaryDirectory(dir=words[1] if len(words) == 2 else "/dev/shm") as folder:
+                        with tempfile.TemporaryDirectory(dir=place) as folder:
                             ours.append(local(words[0], folder, write, m, n, block))
+                        if (m, n, block) == copies:
+                            with tempfile.TemporaryDirectory(dir=place) as folder:
+                                copied.append(nbd(words[0], folder, write, m, n, block))
                         told, _, processor = run_timed([echo, str(OPERATIONS), *datagrams], text=True, stdout=subprocess.PIPE, check=True)
                         bare.append((float(told.stdout), processor))
                     (wall, busy), (bare_wall, bare_busy) = (map(statistics.median, zip(*them)) for them in (ours, bare))
                     print(f"{'write' if write else 'read'} {m} {n} {block} | {OPERATIONS / wall:.0f} | {OPERATIONS / bare_wall:.0f} | {bare_wall / wall:.2f}"
                           f" | {bare_busy / busy:.2f}")
+                    if copied:
+                        mine, theirs = COPIED / statistics.median(copied) / 1e6, OPERATIONS * m * block / wall / 1e6
+                        rows.append(f"{'write' if write else 'read'} {m} {n} {block} | {mine:.0f} | {theirs:.0f} | {mine / theirs:.2f}")
+        if rows:
+            print("operation m n block | MB/s of nbd | MB/s of local | ratio")
+            print(*rows, sep="\n")
     return 0
 
 

@@ -11,9 +11,9 @@ use Rattle.fab_host.specs.Holdings.{Holdings, with_disk, with_link, IsFree}
 use Rattle.fab_host.specs.Opening.{WhereTold}
 use Rattle.serving.specs.Ports.{ports_of, port_of}
 use Rattle.brick.specs.declared.endings.Ending.{Ending}
-use Rattle.brick.specs.declared.endings.Ending.TheVariants.{Formatted, Ended, Commanded, Usage, BadLayout, LongLayout, Source, Sink, Memory, Disk, Host, NotAStore, Worn}
+use Rattle.brick.specs.declared.endings.Ending.TheVariants.{Formatted, Ended, Commanded, Served, Usage, BadLayout, LongLayout, Source, Sink, Memory, Disk, Host, NotAStore, Worn}
 use Rattle.brick.specs.declared.words.Work.{Work}
-use Rattle.brick.specs.declared.words.Work.TheVariants.{Format, Serve, Local}
+use Rattle.brick.specs.declared.words.Work.TheVariants.{Format, Serve, HostAll}
 use Rattle.brick.specs.Bricks.{MayDo, MayRun}
 use Rattle.brick.specs.Endings.{IsDone}
 use Rattle.brick.specs.Formats.{FormatsBrick}
@@ -86,7 +86,7 @@ held_by : {S D L N C : Type 0} (told : S → Option (List ℕ)) (tells : Type 0)
     → MayDo told tells seen h source name work → IsHeld told source h
 held_by told tells seen h source name (Format id) m = (m.layout, m.holds)
 held_by told tells seen h source name (Serve id turns) m = (m.layout, m.holds)
-held_by told tells seen h source name (Local turns) m = (m.layout, m.holds)
+held_by told tells seen h source name (HostAll task) m = (m.layout, m.holds)
 
 has_held : {S D L N C : Type 0} (told : S → Option (List ℕ)) (tells : Type 0) (seen : D → List ℕ) (holds : Option (Holdings S D L N C)) (source name : List ℕ)
     (work : Work) → MayRun told tells seen holds (Some (record { layout = source; name = name; work = work })) → Has holds (IsHeld told source)
@@ -115,6 +115,7 @@ found_done told tells seen failed before after source name work ending f m not_s
     ends (Formatted me) f has not_source missing = tt
     ends (Ended turns malformed) f has not_source missing = tt
     ends Commanded f has not_source missing = tt
+    ends (Served end) f has not_source missing = tt
     ends Usage f has not_source missing = absurd f.gives
     ends (BadLayout fault) f has not_source missing =
         absurd (no_fault told before.holds after.holds source f.opened f.back (Says (Err fault)) f.asks.told has f.gives.1
@@ -147,6 +148,7 @@ made_done tells seen may_leave failed layout None before after name ending f som
 made_done tells seen may_leave failed layout (Some me) before after name (Formatted made) f some not_disk taken free = tt
 made_done tells seen may_leave failed layout (Some me) before after name (Ended turns malformed) f some not_disk taken free = tt
 made_done tells seen may_leave failed layout (Some me) before after name Commanded f some not_disk taken free = tt
+made_done tells seen may_leave failed layout (Some me) before after name (Served end) f some not_disk taken free = tt
 made_done tells seen may_leave failed layout (Some me) before after name Usage f some not_disk taken free = absurd f
 made_done tells seen may_leave failed layout (Some me) before after name (BadLayout fault) f some not_disk taken free = absurd f
 made_done tells seen may_leave failed layout (Some me) before after name LongLayout f some not_disk taken free = absurd f

@@ -6,7 +6,7 @@ use Rattle.std.proofs.lemmas.Option.{same_Some}
 use Rattle.fab_base.specs.declared.identities.BrickId.{BrickId}
 use Rattle.fab_base.specs.Layouts.{Layout}
 use Rattle.brick.specs.declared.endings.Ending.{Ending}
-use Rattle.brick.specs.declared.endings.Ending.TheVariants.{Formatted, Ended, Commanded, Usage, BadLayout, LongLayout, Source, Sink, Memory, Disk, Host, NotAStore, Worn}
+use Rattle.brick.specs.declared.endings.Ending.TheVariants.{Formatted, Ended, Commanded, Served, Usage, BadLayout, LongLayout, Source, Sink, Memory, Disk, Host, NotAStore, Worn}
 use Rattle.brick.specs.Endings.{status_of}
 use Rattle.brick.specs.Hosts.{HostSeen}
 use Rattle.frame_store.specs.Layouts.{shape_of}
@@ -22,6 +22,7 @@ found told failed before after name (Ok layout) r = r
 found told failed before after name (Err (Formatted me)) r = r
 found told failed before after name (Err (Ended turns malformed)) r = r
 found told failed before after name (Err Commanded) r = r
+found told failed before after name (Err (Served end)) r = r
 found told failed before after name (Err Usage) r = r
 found told failed before after name (Err (BadLayout fault)) r = r
 found told failed before after name (Err LongLayout) r = r
@@ -50,6 +51,7 @@ pub found_not_sink : {S D L N C : Type 0} (told : S → Option (List ℕ)) (fail
 found_not_sink told failed before after name (Formatted me) f e = absurd f.gives
 found_not_sink told failed before after name (Ended turns malformed) f e = absurd f.gives
 found_not_sink told failed before after name Commanded f e = absurd f.gives
+found_not_sink told failed before after name (Served end) f e = absurd f.gives
 found_not_sink told failed before after name Usage f e = absurd f.gives
 found_not_sink told failed before after name (BadLayout fault) f e = absurd (omega arith)
 found_not_sink told failed before after name LongLayout f e = absurd (omega arith)

@@ -3,38 +3,39 @@ use Rattle.std.proofs.Common.{◌≡◌, ℕ, suc, ◌+◌, ◌-◌, ◌<◌, �
 use Rattle.fab_base.specs.Layouts.{Layout}
 use Rattle.hosting.specs.Hosted.{Hosted}
 use Rattle.brick.specs.declared.endings.Ending.{Ending}
+use Rattle.brick.specs.declared.words.Task.{Task}
 use Rattle.brick.specs.Hosts.{HostSeen}
 use Rattle.brick.specs.Locals.{disk_name, HostsByClock, HostsByDisk, HostsBricks, HostsFrom}
-use Rattle.brick.specs.Views.{Views}
+use Rattle.brick.specs.Views.{Views, Streams}
 
-module _ {S D L N C : Type 0} (told : S → Option (List ℕ)) (failed : S → ℕ) (v : Views D L C) (layout : Layout) (prefix : List ℕ) (turns : ℕ)
+module _ {S D L N C : Type 0} (e : Streams S N) (v : Views D L C) (layout : Layout) (prefix : List ℕ) (task : Task)
     (out said : Option (List ℕ)) (ending : Ending) (id : ℕ) (bricks bricks_after : List (Hosted D L)) (before after : HostSeen S D L N C) where
   -- one that is there, and those behind it
   pub from_next : id < layout.bricks → HostsByDisk v layout (record { 0 = id }) (disk_name prefix (record { 0 = id }))
-      (HostsFrom told failed v layout prefix turns out said ending (id + 1)) before after bricks bricks_after out said ending
-      → HostsFrom told failed v layout prefix turns out said ending id bricks bricks_after before after
+      (HostsFrom e v layout prefix task out said ending (id + 1)) before after bricks bricks_after out said ending
+      → HostsFrom e v layout prefix task out said ending id bricks bricks_after before after
   from_next within done =
-      subst (λ n. HostsBricks told failed v layout prefix turns out said ending n id bricks bricks_after before after) (sym count) done
+      subst (λ n. HostsBricks e v layout prefix task out said ending n id bricks bricks_after before after) (sym count) done
     where
       count : layout.bricks - id ≡ suc (layout.bricks - (id + 1))
       count = omega (arith, within)
 
   -- none
-  pub from_last : layout.bricks ≤ id → HostsByClock told failed v layout turns before after bricks bricks_after out said ending
-      → HostsFrom told failed v layout prefix turns out said ending id bricks bricks_after before after
+  pub from_last : layout.bricks ≤ id → HostsByClock e v layout task before after bricks bricks_after out said ending
+      → HostsFrom e v layout prefix task out said ending id bricks bricks_after before after
   from_last past done =
-      subst (λ n. HostsBricks told failed v layout prefix turns out said ending n id bricks bricks_after before after) (sym count) done
+      subst (λ n. HostsBricks e v layout prefix task out said ending n id bricks bricks_after before after) (sym count) done
     where
       count : layout.bricks - id ≡ 0
       count = omega (arith, past)
 
 -- all
-pub from_first : {S D L N C : Type 0} (told : S → Option (List ℕ)) (failed : S → ℕ) (v : Views D L C) (layout : Layout) (prefix : List ℕ) (turns : ℕ)
+pub from_first : {S D L N C : Type 0} (e : Streams S N) (v : Views D L C) (layout : Layout) (prefix : List ℕ) (task : Task)
     (out said : Option (List ℕ)) (ending : Ending) (bricks bricks_after : List (Hosted D L)) (before after : HostSeen S D L N C)
-    → HostsFrom told failed v layout prefix turns out said ending 0 bricks bricks_after before after
-    → HostsBricks told failed v layout prefix turns out said ending layout.bricks 0 bricks bricks_after before after
-from_first told failed v layout prefix turns out said ending bricks bricks_after before after done =
-    subst (λ n. HostsBricks told failed v layout prefix turns out said ending n 0 bricks bricks_after before after) count done
+    → HostsFrom e v layout prefix task out said ending 0 bricks bricks_after before after
+    → HostsBricks e v layout prefix task out said ending layout.bricks 0 bricks bricks_after before after
+from_first e v layout prefix task out said ending bricks bricks_after before after done =
+    subst (λ n. HostsBricks e v layout prefix task out said ending n 0 bricks bricks_after before after) count done
   where
     count : layout.bricks - 0 ≡ layout.bricks
     count = omega arith

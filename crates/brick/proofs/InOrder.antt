@@ -9,17 +9,19 @@ use Rattle.hosting.specs.Hosted.{Hosted}
 use Rattle.node.specs.Running.{Running}
 use Rattle.serving.specs.Ports.{ports_of, port_of}
 use Rattle.brick.specs.declared.endings.Ending.{Ending}
-use Rattle.brick.specs.declared.endings.Ending.TheVariants.{Formatted, Ended, Commanded, Usage, BadLayout, LongLayout, Source, Sink, Memory, Disk, Host, NotAStore, Worn}
+use Rattle.brick.specs.declared.endings.Ending.TheVariants.{Formatted, Ended, Commanded, Served, Usage, BadLayout, LongLayout, Source, Sink, Memory, Disk, Host, NotAStore, Worn}
+use Rattle.brick.specs.declared.words.Task.{Task}
+use Rattle.brick.specs.declared.words.Task.TheVariants.{Commands, Session}
 use Rattle.brick.specs.declared.words.Work.{Work}
-use Rattle.brick.specs.declared.words.Work.TheVariants.{Format, Serve, Local}
-use Rattle.brick.specs.Bricks.{AsksInOrder, command_calls, brick_calls, calls_by, calls_of, DoesWork, GoesOn, Works}
+use Rattle.brick.specs.declared.words.Work.TheVariants.{Format, Serve, HostAll}
+use Rattle.brick.specs.Bricks.{AsksInOrder, task_call, task_calls, brick_calls, calls_by, calls_of, DoesWork, GoesOn, Works}
 use Rattle.brick.specs.Endings.{status_of, Prints}
 use Rattle.brick.specs.Formats.{FormatsBrick, MakesStore}
 use Rattle.brick.specs.Hosts.{HostSeen, IsRefused}
 use Rattle.brick.specs.Layouts.{FindsLayout, brick_of}
-use Rattle.brick.specs.Locals.{standard_input, timed, disk_name, HostsBySource, HostsByClient, HostsByClock, HostsByLink, HostsOver, HostsBricks, HostsLayout}
+use Rattle.brick.specs.Locals.{standard_input, timed, disk_name, HostsBySource, HostsBySession, DoesTask, HostsByClient, HostsByClock, HostsByLink, HostsOver, HostsBricks, HostsLayout}
 use Rattle.brick.specs.Serves.{ServesByClock, ServesByLink, ServesOver, ServesByDisk, ServesBrick, RefusesStore}
-use Rattle.brick.specs.Views.{Views}
+use Rattle.brick.specs.Views.{Views, Streams, SessionView}
 use Rattle.brick.specs.Words.{Wanted}
 use Rattle.brick.proofs.Found.{brick_has}
 use Rattle.brick.proofs.FromBrick.{from_first}
@@ -64,6 +66,7 @@ refused : {S D L N C : Type 0} (before after : HostSeen S D L N C) (call : Asked
 refused before after call wants (Formatted me) r = absurd r
 refused before after call wants (Ended turns malformed) r = absurd r
 refused before after call wants Commanded r = absurd r
+refused before after call wants (Served end) r = absurd r
 refused before after call wants Usage r = absurd r
 refused before after call wants (BadLayout fault) r = absurd r
 refused before after call wants LongLayout r = absurd r
@@ -81,6 +84,7 @@ unopened : {D L C : Type 0} (v : Views D L C) (layout : Layout) (me : BrickId) (
 unopened v layout me disk back (Formatted made) r = absurd r
 unopened v layout me disk back (Ended turns malformed) r = absurd r
 unopened v layout me disk back Commanded r = absurd r
+unopened v layout me disk back (Served end) r = absurd r
 unopened v layout me disk back Usage r = absurd r
 unopened v layout me disk back (BadLayout fault) r = absurd r
 unopened v layout me disk back LongLayout r = absurd r
@@ -134,54 +138,75 @@ by_disk v layout me turns before after name out said ending s =
           (asks_same _ _ _ _ ending b.2.asked (over v layout me turns b.0 b.1 b.2.began b.2.ended out said ending b.2.does))
     ]
 
--- ---- commands
+-- ---- tasks
 
--- by their source
-by_commands : {S D L N C : Type 0} (told : S → Option (List ℕ)) (failed : S → ℕ) (v : Views D L C) (layout : Layout) (turns : ℕ) (before after : HostSeen S D L N C)
+-- the commands, by their source
+by_commands : {S D L N C : Type 0} (e : Streams S N) (v : Views D L C) (layout : Layout) (turns : ℕ) (before after : HostSeen S D L N C)
     (bricks bricks_after : TimedBricks D L C) (link link_after : L) (out said : Option (List ℕ)) (ending : Ending)
-    → HostsBySource told failed v layout turns before after bricks bricks_after link link_after out said ending
+    → HostsBySource e v layout turns before after bricks bricks_after link link_after out said ending
     → Asks before.asked after.asked (calls.Source standard_input ∷ []) ending
-by_commands told failed v layout turns before after bricks bricks_after link link_after out said ending s =
+by_commands e v layout turns before after bricks bricks_after link link_after out said ending s =
     elim s [
       | inl r ↦ refused before after (calls.Source standard_input) [] ending r.0
       | inr b ↦ asks_more _ _ _ _ _ ending b.2.lends.asked (asks_all _ _ ending (b.2.asked ∙ ap (λ h. h.asked) b.2.does.0))
     ]
 
--- by the client's link
-by_client : {S D L N C : Type 0} (told : S → Option (List ℕ)) (failed : S → ℕ) (v : Views D L C) (layout : Layout) (turns : ℕ) (before after : HostSeen S D L N C)
-    (bricks bricks_after : TimedBricks D L C) (out said : Option (List ℕ)) (ending : Ending)
-    → HostsByClient told failed v layout turns before after bricks bricks_after out said ending
-    → Asks before.asked after.asked (calls.Link 0 ∷ calls.Source standard_input ∷ []) ending
-by_client told failed v layout turns before after bricks bricks_after out said ending s =
+-- the session
+by_session : {S D L N C : Type 0} (n : SessionView N) (v : Views D L C) (layout : Layout) (port turns : ℕ) (before after : HostSeen S D L N C)
+    (bricks bricks_after : TimedBricks D L C) (link link_after : L) (ending : Ending)
+    → HostsBySession n v layout port turns before after bricks bricks_after link link_after ending
+    → Asks before.asked after.asked (calls.Session port ∷ []) ending
+by_session n v layout port turns before after bricks bricks_after link link_after ending s =
     elim s [
-      | inl r ↦ refused before after (calls.Link 0) (calls.Source standard_input ∷ []) ending r.0
+      | inl r ↦ refused before after (calls.Session port) [] ending r.0
+      | inr b ↦ asks_more _ _ _ _ _ ending b.2.lends.asked (asks_all _ _ ending (b.2.asked ∙ ap (λ h. h.asked) b.2.does.0))
+    ]
+
+-- by the task
+by_task : {S D L N C : Type 0} (e : Streams S N) (v : Views D L C) (layout : Layout) (task : Task) (before after : HostSeen S D L N C)
+    (bricks bricks_after : TimedBricks D L C) (link link_after : L) (out said : Option (List ℕ)) (ending : Ending)
+    → DoesTask e v layout task before after bricks bricks_after link link_after out said ending
+    → Asks before.asked after.asked (task_call task ∷ []) ending
+by_task e v layout (Commands turns) before after bricks bricks_after link link_after out said ending s =
+    by_commands e v layout turns before after bricks bricks_after link link_after out said ending s
+by_task e v layout (Session port turns) before after bricks bricks_after link link_after out said ending s =
+    by_session e.session v layout port turns before after bricks bricks_after link link_after ending s.0
+
+-- by the client's link
+by_client : {S D L N C : Type 0} (e : Streams S N) (v : Views D L C) (layout : Layout) (task : Task) (before after : HostSeen S D L N C)
+    (bricks bricks_after : TimedBricks D L C) (out said : Option (List ℕ)) (ending : Ending)
+    → HostsByClient e v layout task before after bricks bricks_after out said ending
+    → Asks before.asked after.asked (calls.Link 0 ∷ task_call task ∷ []) ending
+by_client e v layout task before after bricks bricks_after out said ending s =
+    elim s [
+      | inl r ↦ refused before after (calls.Link 0) (task_call task ∷ []) ending r.0
       | inr b ↦ asks_more _ _ _ _ _ ending b.2.lends.asked
-          (asks_same _ _ _ _ ending b.2.asked (by_commands told failed v layout turns b.2.began b.2.ended bricks bricks_after b.0 b.1 out said ending b.2.does))
+          (asks_same _ _ _ _ ending b.2.asked (by_task e v layout task b.2.began b.2.ended bricks bricks_after b.0 b.1 out said ending b.2.does))
     ]
 
 -- by the clock
-by_hosting : {S D L N C : Type 0} (told : S → Option (List ℕ)) (failed : S → ℕ) (v : Views D L C) (layout : Layout) (turns : ℕ) (before after : HostSeen S D L N C)
+by_hosting : {S D L N C : Type 0} (e : Streams S N) (v : Views D L C) (layout : Layout) (task : Task) (before after : HostSeen S D L N C)
     (bricks bricks_after : List (Hosted D L)) (out said : Option (List ℕ)) (ending : Ending)
-    → HostsByClock told failed v layout turns before after bricks bricks_after out said ending → Asks before.asked after.asked command_calls ending
-by_hosting told failed v layout turns before after bricks bricks_after out said ending s =
+    → HostsByClock e v layout task before after bricks bricks_after out said ending → Asks before.asked after.asked (task_calls task) ending
+by_hosting e v layout task before after bricks bricks_after out said ending s =
     elim s [
-      | inl r ↦ refused before after calls.Clock (calls.Link 0 ∷ calls.Source standard_input ∷ []) ending r.0
+      | inl r ↦ refused before after calls.Clock (calls.Link 0 ∷ task_call task ∷ []) ending r.0
       | inr b ↦ asks_more _ _ _ _ _ ending b.3.lends.asked
-          (asks_same _ _ _ _ ending b.3.asked (by_client told failed v layout turns b.3.began b.3.ended (timed layout bricks b.0) b.1 out said ending b.3.does))
+          (asks_same _ _ _ _ ending b.3.asked (by_client e v layout task b.3.began b.3.ended (timed layout bricks b.0) b.1 out said ending b.3.does))
     ]
 
 -- by the bricks that are left
-by_bricks : {S D L N C : Type 0} (told : S → Option (List ℕ)) (failed : S → ℕ) (v : Views D L C) (layout : Layout) (prefix : List ℕ) (turns : ℕ)
+by_bricks : {S D L N C : Type 0} (e : Streams S N) (v : Views D L C) (layout : Layout) (prefix : List ℕ) (task : Task)
     (out said : Option (List ℕ)) (ending : Ending) (left id : ℕ) (bricks bricks_after : List (Hosted D L)) (before after : HostSeen S D L N C)
-    → HostsBricks told failed v layout prefix turns out said ending left id bricks bricks_after before after
-    → Asks before.asked after.asked (brick_calls layout prefix left id) ending
-by_bricks told failed v layout prefix turns out said ending zero id bricks bricks_after before after s =
-    by_hosting told failed v layout turns before after bricks bricks_after out said ending s
-by_bricks {S} {D} {L} {N} {C} told failed v layout prefix turns out said ending (suc left) id bricks bricks_after before after s =
+    → HostsBricks e v layout prefix task out said ending left id bricks bricks_after before after
+    → Asks before.asked after.asked (brick_calls layout prefix task left id) ending
+by_bricks e v layout prefix task out said ending zero id bricks bricks_after before after s =
+    by_hosting e v layout task before after bricks bricks_after out said ending s
+by_bricks {S} {D} {L} {N} {C} e v layout prefix task out said ending (suc left) id bricks bricks_after before after s =
     elim s [
       | inl r ↦ refused before after (calls.Disk name false) (calls.Link port ∷ rest) ending r.0
       | inr b ↦ asks_more _ _ _ _ _ ending b.2.lends.asked (asks_same _ _ _ _ ending b.2.asked
-          (opened (λ more more_after began ended done. by_bricks told failed v layout prefix turns out said ending left (id + 1) more more_after began ended done)
+          (opened (λ more more_after began ended done. by_bricks e v layout prefix task out said ending left (id + 1) more more_after began ended done)
           b.0 b.1 b.2.began b.2.ended b.2.does))
     ]
   where
@@ -195,10 +220,10 @@ by_bricks {S} {D} {L} {N} {C} told failed v layout prefix turns out said ending 
     port = port_of (ports_of layout) me
 
     rest : List Asked
-    rest = brick_calls layout prefix left (id + 1)
+    rest = brick_calls layout prefix task left (id + 1)
 
     next : List (Hosted D L) → List (Hosted D L) → HostSeen S D L N C → HostSeen S D L N C → Type 0
-    next = HostsBricks told failed v layout prefix turns out said ending left (id + 1)
+    next = HostsBricks e v layout prefix task out said ending left (id + 1)
 
     -- what is done next asks for the rest
     AsksRest : Type 0
@@ -221,14 +246,14 @@ by_bricks {S} {D} {L} {N} {C} told failed v layout prefix turns out said ending 
         ]
 
 -- of all bricks
-by_layout : {S D L N C : Type 0} (told : S → Option (List ℕ)) (failed : S → ℕ) (v : Views D L C) (layout : Layout) (prefix : List ℕ) (turns : ℕ)
-    (before after : HostSeen S D L N C) (out said : Option (List ℕ)) (ending : Ending) → HostsLayout told failed v layout prefix turns before after out said ending
-    → Asks before.asked after.asked (brick_calls layout prefix layout.bricks 0) ending
-by_layout told failed v layout prefix turns before after out said ending s =
+by_layout : {S D L N C : Type 0} (e : Streams S N) (v : Views D L C) (layout : Layout) (prefix : List ℕ) (task : Task)
+    (before after : HostSeen S D L N C) (out said : Option (List ℕ)) (ending : Ending) → HostsLayout e v layout prefix task before after out said ending
+    → Asks before.asked after.asked (brick_calls layout prefix task layout.bricks 0) ending
+by_layout e v layout prefix task before after out said ending s =
     elim s [
       | inl r ↦ asks_none _ _ _ ending (ap (λ h. h.asked) r.1) (λ none. apart 7 (omega arith) (sym (ap status_of r.0) ∙ none))
-      | inr b ↦ by_bricks told failed v layout prefix turns out said ending layout.bricks 0 [] [] before after
-          (from_first told failed v layout prefix turns out said ending [] [] before after b)
+      | inr b ↦ by_bricks e v layout prefix task out said ending layout.bricks 0 [] [] before after
+          (from_first e v layout prefix task out said ending [] [] before after b)
     ]
 
 -- ---- by the work
@@ -241,6 +266,7 @@ making tells seen may_leave failed layout me before after name (Formatted made) 
     asks_more _ _ _ _ _ (Formatted made) f.1.1.asked (asks_all _ _ (Formatted made) refl)
 making tells seen may_leave failed layout me before after name (Ended turns malformed) f = absurd f
 making tells seen may_leave failed layout me before after name Commanded f = absurd f
+making tells seen may_leave failed layout me before after name (Served end) f = absurd f
 making tells seen may_leave failed layout me before after name Usage f = absurd f
 making tells seen may_leave failed layout me before after name (BadLayout fault) f = absurd f
 making tells seen may_leave failed layout me before after name LongLayout f = absurd f
@@ -275,14 +301,14 @@ by_brick v layout id (Some me) turns before after name out said ending is s =
     (by_disk v layout me turns before after name out said ending s)
 
 -- by the work
-working : {S D L N C : Type 0} (told : S → Option (List ℕ)) (failed : S → ℕ) (v : Views D L C) (layout : Layout) (name : List ℕ) (work : Work) (before after : HostSeen S D L N C) (out said : Option (List ℕ))
-    (ending : Ending) → DoesWork told failed v layout name work before after out said ending → Asks before.asked after.asked (calls_by layout name work) ending
-working told failed v layout name (Format id) before after out said ending d =
+working : {S D L N C : Type 0} (e : Streams S N) (v : Views D L C) (layout : Layout) (name : List ℕ) (work : Work) (before after : HostSeen S D L N C) (out said : Option (List ℕ))
+    (ending : Ending) → DoesWork e v layout name work before after out said ending → Asks before.asked after.asked (calls_by layout name work) ending
+working e v layout name (Format id) before after out said ending d =
     formatting v.disk.tells v.disk.seen v.disk.may_leave v.disk.faults layout (brick_of layout id) before after name ending d.0
-working told failed v layout name (Serve id turns) before after out said ending d =
+working e v layout name (Serve id turns) before after out said ending d =
     by_brick v layout id (brick_of layout id) turns before after name out said ending (λ me is. sym (brick_has layout id me is).1) d
-working told failed v layout prefix (Local turns) before after out said ending d =
-    by_layout told failed v layout prefix turns before after out said ending d
+working e v layout prefix (HostAll task) before after out said ending d =
+    by_layout e v layout prefix task before after out said ending d
 
 -- where no layout was found
 unfound : {S D L N C : Type 0} (told : S → Option (List ℕ)) (failed : S → ℕ) (before after : HostSeen S D L N C) (source : List ℕ) (ending : Ending)
@@ -290,6 +316,7 @@ unfound : {S D L N C : Type 0} (told : S → Option (List ℕ)) (failed : S → 
 unfound told failed before after source (Formatted me) f = absurd f.gives
 unfound told failed before after source (Ended turns malformed) f = absurd f.gives
 unfound told failed before after source Commanded f = absurd f.gives
+unfound told failed before after source (Served end) f = absurd f.gives
 unfound told failed before after source Usage f = absurd f.gives
 unfound told failed before after source (BadLayout fault) f = asks_one _ _ _ _ (BadLayout fault) f.asks.asked (apart 3 (omega arith))
 unfound told failed before after source LongLayout f = asks_one _ _ _ _ LongLayout f.asks.asked (apart 3 (omega arith))
@@ -306,14 +333,14 @@ unfound told failed before after source NotAStore f = absurd f.gives
 unfound told failed before after source Worn f = absurd f.gives
 
 -- at any end
-going_on : {S D L N C : Type 0} (told : S → Option (List ℕ)) (failed : S → ℕ) (v : Views D L C) (before between after : HostSeen S D L N C) (w : Wanted)
-    (out said : Option (List ℕ)) (found : Result Layout Ending) (ending : Ending) → FindsLayout told failed before between w.layout found
-    → GoesOn told failed v w found between after out said ending → Asks before.asked after.asked (calls_of w found) ending
-going_on told failed v before between after w out said (Ok layout) ending finds goes =
-    asks_more _ _ _ _ _ ending finds.asks.asked (working told failed v layout w.name w.work between after out said ending goes)
-going_on told failed v before between after w out said (Err found) ending finds goes =
+going_on : {S D L N C : Type 0} (e : Streams S N) (v : Views D L C) (before between after : HostSeen S D L N C) (w : Wanted)
+    (out said : Option (List ℕ)) (found : Result Layout Ending) (ending : Ending) → FindsLayout e.told e.failed before between w.layout found
+    → GoesOn e v w found between after out said ending → Asks before.asked after.asked (calls_of w found) ending
+going_on e v before between after w out said (Ok layout) ending finds goes =
+    asks_more _ _ _ _ _ ending finds.asks.asked (working e v layout w.name w.work between after out said ending goes)
+going_on e v before between after w out said (Err found) ending finds goes =
     subst (λ (e : Ending). Asks before.asked after.asked (calls.Source w.layout ∷ []) e) (sym goes.0)
-    (asks_same _ _ _ _ found (ap (λ h. h.asked) goes.1) (unfound told failed before between w.layout found finds))
+    (asks_same _ _ _ _ found (ap (λ h. h.asked) goes.1) (unfound e.told e.failed before between w.layout found finds))
 
 -- status 0 is that of a program that ended as it was to
 of_status : (old new : Option (List ℕ)) (text : List ℕ) (wanted status : ℕ) → Prints old new text wanted status → status ≡ 0 → wanted ≡ 0
@@ -321,10 +348,10 @@ of_status old new text wanted status (inl (same, all)) none = sym same ∙ none
 of_status old new text wanted status (inr (inl (six, some))) none = cc
 of_status old new text wanted status (inr (inr (seven, kept))) none = cc
 
-pub in_order : {S D L N C : Type 0} (told : S → Option (List ℕ)) (failed : S → ℕ) (v : Views D L C) (before after : HostSeen S D L N C) (w : Wanted)
+pub in_order : {S D L N C : Type 0} (e : Streams S N) (v : Views D L C) (before after : HostSeen S D L N C) (w : Wanted)
     (out said : Option (List ℕ)) (ending : Ending) (new : Option (List ℕ)) (text : List ℕ) (status : ℕ)
-    (works : Works told failed v before after w out said ending) → Prints said new text (status_of ending) status
+    (works : Works e v before after w out said ending) → Prints said new text (status_of ending) status
     → AsksInOrder before.asked after.asked (calls_of w works.found) status
-in_order told failed v before after w out said ending new text status works prints =
-    let asks = going_on told failed v before works.between after w out said works.found ending works.finds works.goes_on in
+in_order e v before after w out said ending new text status works prints =
+    let asks = going_on e v before works.between after w out said works.found ending works.finds works.goes_on in
     record { some = asks.0; all = λ none. asks.1 (of_status said new text (status_of ending) status prints none) }

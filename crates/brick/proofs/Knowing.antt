@@ -2,7 +2,7 @@
 use Rattle.std.proofs.Common.{◌≡◌, ℕ, List, Option, nat_eq, sym, subst}
 use Rattle.std.specs.Str.{bytes_eq}
 use Rattle.fab_host.specs.Held.{Held, lent, here, IsKnown}
-use Rattle.fab_host.specs.Holdings.{Holdings, with_source, with_disk, with_link, with_clock}
+use Rattle.fab_host.specs.Holdings.{Holdings, with_source, with_disk, with_link, with_session, with_clock}
 use Rattle.fab_host.specs.Opening.{WhereTold}
 use Rattle.fab_host.proofs.Known.{at_name-own, at_port-own, known_after}
 use Rattle.brick.specs.Hosts.{Told, KnowsStill}
@@ -35,6 +35,10 @@ knows_link port h now known =
 knows_clock : {S D L N C : Type 0} (h : Holdings S D L N C) (now : Held C) → IsKnown now → KnowsStill h (with_clock h now)
 knows_clock h now known = record { sources = λ n k. k; disks = λ n k. k; links = λ port k. k; sessions = λ port k. k; clock = λ k. known }
 
+knows_session : {S D L N C : Type 0} (port : ℕ) (h : Holdings S D L N C) (now : Held N) → IsKnown now → KnowsStill h (with_session h port now)
+knows_session port h now known =
+    record { sources = λ n k. k; disks = λ n k. k; links = λ other k. k; sessions = λ other k. known_after nat_eq h.sessions port other now known k; clock = λ k. k }
+
 -- a thing was lent, what is known was known still, and the thing was given back
 module _ {S D L N C T : Type 0} (P : Holdings S D L N C → Type 0) (with : Holdings S D L N C → Held T → Holdings S D L N C) (back : T)
     (knows : (h : Holdings S D L N C) (now : Held T) → IsKnown now → KnowsStill h (with h now)) (before began ended after : Option (Holdings S D L N C))
@@ -66,7 +70,7 @@ module _ {S D L N C T : Type 0} (P : Holdings S D L N C → Type 0) (with : Hold
       (where_lent {P = λ (h now : Holdings S D L N C). P h × (now ≡ with h lent)} {R = λ h. IsKnown (at h)} before began lends
       (λ h now p. subst (λ (z : Holdings S D L N C). IsKnown (at z)) (sym p.1) (own h))) keeps
 
--- the same of a source, a disk, a link and the clock
+-- the same of a source, a disk, a link, a session and the clock
 pub source_borrowed : {S D L N C : Type 0} (P : Holdings S D L N C → Type 0) (name : List ℕ) (back : S) (before began ended after : Option (Holdings S D L N C))
     → Told before began (λ h now. P h × (now ≡ with_source h name lent)) → Told began ended KnowsStill
     → Told ended after (λ h now. now ≡ with_source h name (here back)) → Told before after KnowsStill
@@ -85,6 +89,12 @@ pub link_borrowed : {S D L N C : Type 0} (P : Holdings S D L N C → Type 0) (po
 link_borrowed P port back before began ended after lends meanwhile =
     knows_borrowed P (λ h. with_link h port) back (knows_link port) before began ended after lends meanwhile
 
+pub session_borrowed : {S D L N C : Type 0} (P : Holdings S D L N C → Type 0) (port : ℕ) (back : N) (before began ended after : Option (Holdings S D L N C))
+    → Told before began (λ h now. P h × (now ≡ with_session h port lent)) → Told began ended KnowsStill
+    → Told ended after (λ h now. now ≡ with_session h port (here back)) → Told before after KnowsStill
+session_borrowed P port back before began ended after lends meanwhile =
+    knows_borrowed P (λ h. with_session h port) back (knows_session port) before began ended after lends meanwhile
+
 pub clock_borrowed : {S D L N C : Type 0} (P : Holdings S D L N C → Type 0) (back : C) (before began ended after : Option (Holdings S D L N C))
     → Told before began (λ h now. P h × (now ≡ with_clock h lent)) → Told began ended KnowsStill
     → Told ended after (λ h now. now ≡ with_clock h (here back)) → Told before after KnowsStill
@@ -96,6 +106,12 @@ pub source_known : {S D L N C : Type 0} (P : Holdings S D L N C → Type 0) (nam
 source_known {S} {D} {L} {N} {C} P name before began lends =
     where_lent {P = λ (h now : Holdings S D L N C). P h × (now ≡ with_source h name lent)} {R = λ h. IsKnown (h.sources name)} before began lends
     (λ h now p. subst (λ (z : Holdings S D L N C). IsKnown (z.sources name)) (sym p.1) (subst IsKnown (sym (at_name-own h.sources name lent)) tt))
+
+pub session_known : {S D L N C : Type 0} (P : Holdings S D L N C → Type 0) (port : ℕ) (before began : Option (Holdings S D L N C))
+    → Told before began (λ h now. P h × (now ≡ with_session h port lent)) → WhereTold began (λ h. IsKnown (h.sessions port))
+session_known {S} {D} {L} {N} {C} P port before began lends =
+    where_lent {P = λ (h now : Holdings S D L N C). P h × (now ≡ with_session h port lent)} {R = λ h. IsKnown (h.sessions port)} before began lends
+    (λ h now p. subst (λ (z : Holdings S D L N C). IsKnown (z.sessions port)) (sym p.1) (subst IsKnown (sym (at_port-own h.sessions port lent)) tt))
 
 pub disk_lent : {S D L N C : Type 0} (P : Holdings S D L N C → Type 0) (name : List ℕ) (back : D) (before began ended : Option (Holdings S D L N C))
     → Told before began (λ h now. P h × (now ≡ with_disk h name lent)) → Told began ended KnowsStill → WhereTold ended (λ h. IsKnown (h.disks name))

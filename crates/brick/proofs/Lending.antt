@@ -63,6 +63,11 @@ where_after None (Some now) p has joins = absurd p
 where_after (Some h) None p has joins = absurd p
 where_after (Some h) (Some now) p has joins = joins h now p has
 
+-- what is so of what is held is so in weaker words
+pub has_as : {H : Type 0} {P Q : H → Type 0} (held : Option H) → Has held P → ((h : H) → P h → Q h) → Has held Q
+has_as None has weaker = has
+has_as (Some h) has weaker = weaker h has
+
 -- what is held can't be so and not so
 pub has_apart : {H : Type 0} {P Q : H → Type 0} (held : Option H) → Has held P → WhereTold held Q → ((h : H) → P h → Q h → ⊥) → ⊥
 has_apart None has told apart = has

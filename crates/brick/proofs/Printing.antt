@@ -4,7 +4,11 @@ use Rattle.std.proofs.lemmas.Bool.{cases_lt}
 use Rattle.fab_io.specs.Ends.{Rose, Kept}
 use Rattle.fab_base.proofs.Keeping.{Rose-later}
 use Rattle.brick.specs.declared.endings.Ending.{Ending}
-use Rattle.brick.specs.declared.endings.Ending.TheVariants.{Formatted, Ended, Commanded, Usage, BadLayout, LongLayout, Source, Sink, Memory, Disk, Host, NotAStore, Worn}
+use Rattle.brick.specs.declared.endings.Ending.TheVariants.{Formatted, Ended, Commanded, Served, Usage, BadLayout, LongLayout, Source, Sink, Memory, Disk, Host, NotAStore, Worn}
+use Rattle.brick.specs.declared.words.Task.TheVariants.{Commands, Session}
+use Rattle.brick.specs.declared.words.Work.{Work}
+use Rattle.brick.specs.declared.words.Work.TheVariants.{Format, Serve, HostAll}
+use Rattle.brick.specs.Bricks.{FailsAt, OutFailed}
 use Rattle.brick.specs.Endings.{status_of, Prints, IsDone}
 
 -- a count that rose, and later
@@ -19,23 +23,38 @@ six_or_not n =
     ]
 
 -- the sink failed before the last text, or at it
-pub kept_six : {a b c : ℕ} {S T U : Type 0} (wanted status : ℕ) → Kept a b S T (wanted ≡ 6) → Kept b c T U ((status ≡ 6) × (wanted ≢ 6))
-    → Kept a c S U (status ≡ 6)
-kept_six wanted status first then = record {
+kept_six : {a b c : ℕ} {S T U F G : Type 0} (wanted status : ℕ) → (G → (status ≡ 6) × (wanted ≡ 6 → F)) → Kept a b S T F
+    → Kept b c T U ((status ≡ 6) × (wanted ≢ 6)) → Kept a c S U G
+kept_six wanted status says first then = record {
   later = let p = first.later in let q = then.later in omega arith;
   rose = λ e. elim (six_or_not wanted) [
-    | inl six ↦ rose_then (first.rose six) then.later
-    | inr other ↦ Rose-later first.later (then.rose (e, other))
+    | inl six ↦ rose_then (first.rose ((says e).1 six)) then.later
+    | inr other ↦ Rose-later first.later (then.rose ((says e).0, other))
   ];
   stays = λ s. then.stays (first.stays s);
-  never = λ s e. elim (six_or_not wanted) [ inl six ↦ first.never s six | inr other ↦ then.never (first.stays s) (e, other) ];
+  never = λ s e. elim (six_or_not wanted) [
+    | inl six ↦ first.never s ((says e).1 six)
+    | inr other ↦ then.never (first.stays s) ((says e).0, other)
+  ];
 }
+
+-- what the program's sink has failed at, by the work
+out_failed : (work : Work) (ending : Ending) (status : ℕ) → OutFailed work ending status → (status ≡ 6) × (status_of ending ≡ 6 → FailsAt work ending)
+out_failed (Format id) ending status six = (six, λ e. e)
+out_failed (Serve id turns) ending status six = (six, λ e. e)
+out_failed (HostAll (Commands turns)) ending status six = (six, λ e. e)
+out_failed (HostAll (Session port turns)) ending status six = (six.0, λ e. absurd (six.1 e))
+
+pub kept_out : {a b c : ℕ} {S T U : Type 0} (work : Work) (ending : Ending) (status : ℕ) → Kept a b S T (FailsAt work ending)
+    → Kept b c T U ((status ≡ 6) × (status_of ending ≢ 6)) → Kept a c S U (OutFailed work ending status)
+kept_out work ending status first then = kept_six (status_of ending) status (out_failed work ending status) first then
 
 -- the work was done at status 0, and at 7 no memory was left
 done_status : (ending : Ending) → IsDone ending → (status_of ending ≡ 0) ⊎ (status_of ending ≡ 7)
 done_status (Formatted me) done = inl refl
 done_status (Ended turns malformed) done = inl refl
 done_status Commanded done = inl refl
+done_status (Served end) done = inl refl
 done_status Usage done = absurd done
 done_status (BadLayout fault) done = absurd done
 done_status LongLayout done = absurd done

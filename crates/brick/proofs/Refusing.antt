@@ -7,8 +7,15 @@ use Rattle.fab_host.specs.declared.hosts.Asked.{Asked}
 use Rattle.fab_host.specs.Asking.{Asks}
 use Rattle.fab_host.specs.Holdings.{Holdings}
 use Rattle.fab_host.specs.Opening.{Lends, WhereTold}
+use Rattle.brick.specs.declared.endings.Ending.{Ending}
+use Rattle.brick.specs.declared.words.Task.{Task}
+use Rattle.brick.specs.declared.words.Task.TheVariants.{Commands, Session}
+use Rattle.brick.specs.declared.words.Work.{Work}
+use Rattle.brick.specs.declared.words.Work.TheVariants.{Format, Serve, HostAll}
+use Rattle.brick.specs.Bricks.{FailsAt}
 use Rattle.brick.specs.Endings.{status_of, IsDone}
 use Rattle.brick.specs.Hosts.{HostSeen, Told, Has, KnowsStill, IsRefused, refusal_by}
+use Rattle.brick.specs.Locals.{FailsOut}
 use Rattle.brick.proofs.Knowing.{knows_equal}
 use Rattle.brick.proofs.Lending.{has_apart}
 
@@ -44,3 +51,14 @@ refused_done held io.NoMemory has wrong apart = tt
 pub refused_not_sink : (fault : IoFault) → status_of (refusal_by fault) ≡ 6 → ⊥
 refused_not_sink io.Failed e = absurd (omega arith)
 refused_not_sink io.NoMemory e = absurd (omega arith)
+
+-- an ending that is no fault of the sink is none of the program's own sink, whatever the task is
+pub not_out : (task : Task) (ending : Ending) → (status_of ending ≡ 6 → ⊥) → FailsOut task ending → ⊥
+not_out (Commands turns) ending not e = not e
+not_out (Session port turns) ending not e = e
+
+-- nor of a work
+pub not_at : (work : Work) (ending : Ending) → (status_of ending ≡ 6 → ⊥) → FailsAt work ending → ⊥
+not_at (Format id) ending not e = not e
+not_at (Serve id turns) ending not e = not e
+not_at (HostAll task) ending not e = not_out task ending not e

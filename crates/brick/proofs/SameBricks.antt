@@ -1,5 +1,5 @@
 -- The bricks that a process hosts stay the same bricks, in order, whatever turns they take, and none is halted unless its disk failed.
-use Rattle.std.proofs.Common.{◌≡◌, ◌≤◌, ℕ, ◌<◌, arith, true, false, List, [], ◌∷◌, ◌++◌, length, Option, Err, inl, inr, refl, sym, ap, ◌∙◌, subst}
+use Rattle.std.proofs.Common.{◌≡◌, ◌⊎◌, ◌≤◌, ℕ, ◌<◌, arith, true, false, List, [], ◌∷◌, ◌++◌, length, Option, Err, inl, inr, refl, sym, ap, ◌∙◌, subst}
 use Rattle.std.specs.List.{AllByRecursion}
 use Rattle.node.specs.Running.{IsSameBrick}
 use Rattle.fab_base.specs.Faults.{Rose}
@@ -9,7 +9,10 @@ use Rattle.serving.specs.declared.faults.ServeFault.{ServeFault}
 use Rattle.serving.specs.declared.faults.ServeFault.TheVariants as serving
 use Rattle.hosting.specs.declared.faults.HostFault.{HostFault}
 use Rattle.hosting.specs.declared.faults.HostFault.TheVariants as faults
-use Rattle.hosting.specs.Faults.{AtSource, IsOther, fault_of}
+use Rattle.hosting.specs.Faults.{AtSource, AtSink, IsOther, fault_of}
+use Rattle.nbd_front.specs.declared.steps.End.{End}
+use Rattle.nbd_front.specs.declared.steps.End.TheVariants.{Disc, Abort, Eof, Dropped, NoExport, Turns}
+use Rattle.nbd_hosting.specs.Serving as nbd
 use Rattle.hosting.specs.declared.hosted_bricks.TimedBricks.{TimedBricks}
 use Rattle.hosting.specs.Hosted.{Hosted, IsTurn, TakeTurns, StopTurns}
 use Rattle.hosting.specs.Hosting.{Hosts, HostsUntil, rounds_of}
@@ -259,4 +262,86 @@ module _ {D L C : Type 0} (v : Views D L C) where
             rose_since before.bricks.bricks h.bricks_then.bricks.bricks after.bricks.bricks (later_took (rounds_of h.played) before h.bricks_then h.took)
             (rose_since h.bricks_then.bricks.bricks stop.1.mid.bricks.bricks after.bricks.bricks (later_took stop.1.rounds h.bricks_then stop.1.mid stop.1.took)
             (rose_end stop.1.mid after fault is (run_took v stop.1.rounds h.bricks_then stop.1.mid then stop.1.took) stop.1.stopped))
+      ]
+
+-- ---- where a session was served
+
+module _ {D L C : Type 0} (v : Views D L C) (layout : Layout) (turns : ℕ) (before after : nbd.Outside (TimedBricks D L C)) where
+  -- what is outside is as it was
+  bricks_kept : (now : nbd.Outside (TimedBricks D L C)) → after ≡ now → after.bricks ≡ now.bricks
+  bricks_kept now is = ap (λ (o : nbd.Outside (TimedBricks D L C)). o.bricks) is
+
+  -- the rounds of a session, and those of a command that was left open as it ended
+  abbrev EndRounds : TimedBricks D L C → Type 0
+  EndRounds mid = (rounds : List Heard) × Took (Takes v) rounds mid after.bricks
+
+  end_rounds : (standing : nbd.Standing) (now : nbd.Outside (TimedBricks D L C)) (end : End) → nbd.EndsAs (Takes v) layout standing now after end
+      → EndRounds now.bricks
+  end_rounds standing now Disc ends = ([], bricks_kept now ends.0)
+  end_rounds standing now Abort ends = ([], bricks_kept now ends.0)
+  end_rounds standing now Eof ends = ([], bricks_kept now ends.0)
+  end_rounds standing now Dropped ends = ([], bricks_kept now ends.0)
+  end_rounds standing now NoExport ends = ([], bricks_kept now ends.0)
+  end_rounds standing now Turns ends = elim ends [ inl over ↦ ([], bricks_kept now over.0) | inr command ↦ (command.rounds, command.took) ]
+
+  pub same_session : (end : End) → nbd.ServesSession (Takes v) layout turns before after end → AreSame before.bricks.bricks.bricks after.bricks.bricks.bricks
+  same_session end s =
+      let last = end_rounds s.standing s.now end s.over in
+      same_then before.bricks.bricks.bricks s.now.bricks.bricks.bricks after.bricks.bricks.bricks
+      (same_took v s.standing.rounds before.bricks s.now.bricks s.served.took) (same_took v last.0 s.now.bricks after.bricks last.1)
+
+  pub run_session : (end : End) → AreRunning before.bricks.bricks.bricks → nbd.ServesSession (Takes v) layout turns before after end
+      → AreRunning after.bricks.bricks.bricks
+  run_session end run s =
+      let last = end_rounds s.standing s.now end s.over in
+      run_took v last.0 s.now.bricks after.bricks (run_took v s.standing.rounds before.bricks s.now.bricks run s.served.took) last.1
+
+  -- the bricks stayed as a session left them, or they were stopped in a command of it
+  abbrev StopRounds : TimedBricks D L C → HostFault → Type 0
+  StopRounds mid fault =
+      ((after.bricks ≡ mid) × (fault ≡ faults.Disk → ⊥))
+      ⊎ ((rounds : List Heard) × (late : TimedBricks D L C) × Took (Takes v) rounds mid late × AreStopped (Takes v) (Stops v) late after.bricks fault)
+
+  stop_rounds : (fault : HostFault) (s : nbd.ServesUntil (Takes v) (Stops v) layout turns before after fault) → StopRounds s.now.bricks fault
+  stop_rounds fault s =
+      elim s.stopped [
+        | inl read ↦ inl (bricks_kept s.now read.1, λ is. subst AtSource is read.0)
+        | inr other ↦ elim other [
+          | inl sent ↦ inl (sent.rest_is.2, λ is. subst AtSink is sent.at)
+          | inr ran ↦ inr (ran.stopped.rounds, ran.stopped.mid, ran.stopped.took, ran.stopped.stopped)
+        ]
+      ]
+
+  pub same_session_until : (fault : HostFault) → nbd.ServesUntil (Takes v) (Stops v) layout turns before after fault
+      → AreSame before.bricks.bricks.bricks after.bricks.bricks.bricks
+  same_session_until fault s =
+      same_then before.bricks.bricks.bricks s.now.bricks.bricks.bricks after.bricks.bricks.bricks
+      (same_took v s.standing.rounds before.bricks s.now.bricks s.served.took)
+      (elim (stop_rounds fault s) [
+        | inl kept ↦ same_equal s.now.bricks.bricks.bricks after.bricks.bricks.bricks (ap (λ (b : TimedBricks D L C). b.bricks.bricks) kept.0)
+        | inr ran ↦
+            same_then s.now.bricks.bricks.bricks ran.1.bricks.bricks after.bricks.bricks.bricks (same_took v ran.0 s.now.bricks ran.1 ran.2)
+            (same_end v ran.1 after.bricks fault ran.3)
+      ])
+
+  pub run_session_until : (fault : HostFault) → AreRunning before.bricks.bricks.bricks → (fault ≡ faults.Disk → ⊥)
+      → nbd.ServesUntil (Takes v) (Stops v) layout turns before after fault → AreRunning after.bricks.bricks.bricks
+  run_session_until fault run not s =
+      let then = run_took v s.standing.rounds before.bricks s.now.bricks run s.served.took in
+      elim (stop_rounds fault s) [
+        | inl kept ↦ subst (λ (b : TimedBricks D L C). AreRunning b.bricks.bricks) (sym kept.0) then
+        | inr ran ↦ run_end v ran.1 after.bricks fault not (run_took v ran.0 s.now.bricks ran.1 then ran.2) ran.3
+      ]
+
+  pub rose_session : (fault : HostFault) → fault ≡ faults.Disk → AreRunning before.bricks.bricks.bricks
+      → nbd.ServesUntil (Takes v) (Stops v) layout turns before after fault → RoseIn v before.bricks.bricks.bricks after.bricks.bricks.bricks
+  rose_session fault is run s =
+      let then = run_took v s.standing.rounds before.bricks s.now.bricks run s.served.took in
+      elim (stop_rounds fault s) [
+        | inl kept ↦ absurd (kept.1 is)
+        | inr ran ↦
+            rose_since v before.bricks.bricks.bricks s.now.bricks.bricks.bricks after.bricks.bricks.bricks
+            (later_took v s.standing.rounds before.bricks s.now.bricks s.served.took)
+            (rose_since v s.now.bricks.bricks.bricks ran.1.bricks.bricks after.bricks.bricks.bricks (later_took v ran.0 s.now.bricks ran.1 ran.2)
+            (rose_end v ran.1 after.bricks fault is (run_took v ran.0 s.now.bricks ran.1 then ran.2) ran.3))
       ]

@@ -16,7 +16,7 @@ use Rattle.node.specs.Running.{shape_at}
 use Rattle.serving.specs.declared.faults.ServeFault.{ServeFault}
 use Rattle.serving.specs.declared.faults.ServeFault.TheVariants as faults
 use Rattle.brick.specs.declared.endings.Ending.{Ending}
-use Rattle.brick.specs.declared.endings.Ending.TheVariants.{Formatted, Ended, Commanded, Usage, BadLayout, LongLayout, Source, Sink, Memory, Disk, Host, NotAStore, Worn}
+use Rattle.brick.specs.declared.endings.Ending.TheVariants.{Formatted, Ended, Commanded, Served, Usage, BadLayout, LongLayout, Source, Sink, Memory, Disk, Host, NotAStore, Worn}
 use Rattle.brick.specs.Endings.{status_of, IsDone}
 use Rattle.brick.specs.Serves.{ending_of, refusal_of, RoseAt, IsUnharmed, RefusesStore}
 use Rattle.brick.specs.Views.{Views}
@@ -102,6 +102,7 @@ disk_or_not Disk = inl refl
 disk_or_not (Formatted me) = inr (λ e. cc)
 disk_or_not (Ended turns malformed) = inr (λ e. cc)
 disk_or_not Commanded = inr (λ e. cc)
+disk_or_not (Served end) = inr (λ e. cc)
 disk_or_not Usage = inr (λ e. cc)
 disk_or_not (BadLayout fault) = inr (λ e. cc)
 disk_or_not LongLayout = inr (λ e. cc)

@@ -1,11 +1,12 @@
 -- What the words of a command line ask for.
-use Rattle.std.specs.Prelude.{ℕ, nat_eq, not, ◌&&◌, Bool, if◌then◌else◌, List, [], ◌∷◌, codes, Option, None, option_map, option_and_then}
+use Rattle.std.specs.Prelude.{ℕ, nat_eq, nat_le, not, ◌&&◌, Bool, if◌then◌else◌, List, [], ◌∷◌, codes, Option, Some, None, option_map, option_and_then}
 use Rattle.std.specs.List.{starts_with}
 use Rattle.std.specs.Str.{bytes_eq}
 use Rattle.lines.specs.Tokens.{number}
+use Rattle.brick.specs.declared.words.Task.TheVariants.{Commands, Session}
 use Rattle.brick.specs.declared.words.Words.{Words}
 use Rattle.brick.specs.declared.words.Work.{Work}
-use Rattle.brick.specs.declared.words.Work.TheVariants.{Format, Serve, Local}
+use Rattle.brick.specs.declared.words.Work.TheVariants.{Format, Serve, HostAll}
 
 -- the name of the layout's source, that of the disk, or what those of the bricks' disks begin with, and what is to be done
 pub record Wanted : Type 0 where
@@ -27,7 +28,15 @@ serve_work id turns = option_and_then (λ brick. option_map (Serve brick) (numbe
 
 -- to run commands over all bricks, by TURNS turns
 abbrev pub local_work : List ℕ → Option Work
-local_work turns = option_map Local (number turns)
+local_work turns = option_map (λ n. HostAll (Commands n)) (number turns)
+
+-- the TCP port that a word spells: a number that is not 0 and has 16 bits
+abbrev pub tcp_port : List ℕ → Option ℕ
+tcp_port word = option_and_then (λ port. if nat_le 1 port && nat_le port 65_535 then Some port else None) (number word)
+
+-- to serve the client of the session at TCPPORT over all bricks, by TURNS turns
+abbrev pub session_work : List ℕ → List ℕ → Option Work
+session_work port turns = option_and_then (λ at. option_map (λ n. HostAll (Session at n)) (number turns)) (tcp_port port)
 
 -- this work on the disk of this name, or those of this prefix
 abbrev pub wants : List ℕ → List ℕ → Option Work → Option Wanted
@@ -40,9 +49,11 @@ four_words word layout name count =
     if bytes_eq word (codes "format") then wants layout name (format_work count)
     else if bytes_eq word (codes "local") then wants layout name (local_work count) else None
 
--- `serve LAYOUT DISK ID TURNS`
+-- `serve LAYOUT DISK ID TURNS`, or `nbd LAYOUT PREFIX TCPPORT TURNS`
 abbrev pub five_words : List ℕ → List ℕ → List ℕ → List ℕ → List ℕ → Option Wanted
-five_words word layout disk id turns = if bytes_eq word (codes "serve") then wants layout disk (serve_work id turns) else None
+five_words word layout name number turns =
+    if bytes_eq word (codes "serve") then wants layout name (serve_work number turns)
+    else if bytes_eq word (codes "nbd") then wants layout name (session_work number turns) else None
 
 -- what a command line wants, if it is of one of these forms
 unfoldable pub command_of : List (List ℕ) → Option Wanted

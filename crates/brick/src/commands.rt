@@ -1,4 +1,4 @@
-//! The commands of `brick local`.
+//! The commands of `brick local`, and the session of `brick nbd`.
 
 ghost use Rattle.std.specs.Prelude.{◌≡◌, ◌≢◌};
 ghost use Rattle.std.specs.List.{AllByRecursion};
@@ -6,31 +6,33 @@ ghost use Rattle.fab_io.specs.Ends.{Kept};
 ghost use Rattle.hosting.specs.Hosted.{IsSound, AreSound};
 ghost use Rattle.brick.specs.Endings.{status_of, IsDone};
 ghost use Rattle.brick.specs.Hosts.{host_seen, Told, Has, KnowsStill};
-ghost use Rattle.brick.specs.Locals.{ending_by, AreSame, AreRunning, RunsCommands, HostsBySource, HostsByClient, HostsByClock, HasCommands, HasClient, HasEnds};
-ghost use Rattle.brick.specs.Views.{views};
+ghost use Rattle.brick.specs.Locals.{ending_by, AreSame, AreRunning, FailsOut, RunsCommands, RunsSession, HostsBySource, HostsBySession, DoesTask, HostsByClient, HostsByClock, HasCommands, HasSession, HasTask, HasClient, HasEnds};
+ghost use Rattle.brick.specs.Views.{views, session_of, session_view, streams};
 
 use crate::endings::Ending;
+use crate::words::Task;
 use fab_disk::Disk;
-use fab_host::Host;
+use fab_host::{Connection, Host};
 use fab_io::{Clock, Link, Sink, Source};
 use hosting::{HostFault, HostedBricks, TimedBricks};
 use layout::Layout;
+use nbd_hosting::serve_session;
 use std::alloc::Global;
 
 /// The name of the source of the commands.
 const STANDARD_INPUT: &str = "-";
 
-/// Runs commands over the bricks by the clock, gives the clock back, and hands the bricks back.
+/// Does a task with the bricks by the clock, gives the clock back, and hands the bricks back.
 pub(crate) fn run_by_clock<H: Host, K: Sink>(
     alloc: Global,
     host: &mut H,
     out: &mut K,
     layout: &Layout,
-    turns: u64,
+    task: Task,
     bricks: HostedBricks<H::Disk, H::Link>,
 ) -> (HostedBricks<H::Disk, H::Link>, Ending)
     requires { bricks.room ≡ layout.now.bricks }
-    ensures hosts { HostsByClock H.Source.told H.Source.faults (views H.Disk.Disk H.Link.Link H.Clock.Clock) layout.now turns
+    ensures hosts { HostsByClock (streams H.Source.Source H.Input.Source H.Output.Sink) (views H.Disk.Disk H.Link.Link H.Clock.Clock) layout.now task
         (host_seen (H.faults host.old) (H.asked host.old) (H.holds host.old)) (host_seen (H.faults host.new) (H.asked host.new) (H.holds host.new))
         bricks.bricks result.0.bricks (K.told out.old) (K.told out.new) result.1 }
     ensures same { AreSame bricks.bricks result.0.bricks }
@@ -38,31 +40,31 @@ pub(crate) fn run_by_clock<H: Host, K: Sink>(
     ensures knows { Told (H.holds host.old) (H.holds host.new) KnowsStill }
     ensures stays { H.sound host.old → AllByRecursion (IsSound H.Disk.Disk H.Link.Link H.Clock.Clock) bricks.bricks
         → H.sound host.new × AllByRecursion (IsSound H.Disk.Disk H.Link.Link H.Clock.Clock) result.0.bricks }
-    ensures sink { Kept (K.faults out.old) (K.faults out.new) (K.sound out.old) (K.sound out.new) (status_of result.1 ≡ 6) }
+    ensures sink { Kept (K.faults out.old) (K.faults out.new) (K.sound out.old) (K.sound out.new) (FailsOut task result.1) }
     ensures done { H.sound host.old → AllByRecursion (IsSound H.Disk.Disk H.Link.Link H.Clock.Clock) bricks.bricks → K.sound out.old
-        → Has (H.holds host.old) HasEnds → IsDone result.1 }
+        → Has (H.holds host.old) (HasEnds task) → IsDone result.1 }
 {
     let clock = match host.clock() {
         Ok(clock) => clock,
         Err(fault) => return (bricks, Ending::refusal(fault)),
     };
     let timed = TimedBricks { bricks, clock };
-    let (timed, ending) = run_by_client(alloc, host, out, layout, turns, timed);
+    let (timed, ending) = run_by_client(alloc, host, out, layout, task, timed);
     let TimedBricks { bricks, clock } = timed;
     host.keep_clock(clock);
     (bricks, ending)
 }
 
-/// Runs commands over the bricks for a client with a link of its own, gives the link back, and hands the bricks back.
+/// Does a task with the bricks for a client with a link of its own, gives the link back, and hands the bricks back.
 fn run_by_client<H: Host, K: Sink>(
     alloc: Global,
     host: &mut H,
     out: &mut K,
     layout: &Layout,
-    turns: u64,
+    task: Task,
     bricks: TimedBricks<H::Disk, H::Link, H::Clock>,
 ) -> (TimedBricks<H::Disk, H::Link, H::Clock>, Ending)
-    ensures hosts { HostsByClient H.Source.told H.Source.faults (views H.Disk.Disk H.Link.Link H.Clock.Clock) layout.now turns
+    ensures hosts { HostsByClient (streams H.Source.Source H.Input.Source H.Output.Sink) (views H.Disk.Disk H.Link.Link H.Clock.Clock) layout.now task
         (host_seen (H.faults host.old) (H.asked host.old) (H.holds host.old)) (host_seen (H.faults host.new) (H.asked host.new) (H.holds host.new))
         bricks result.0 (K.told out.old) (K.told out.new) result.1 }
     ensures same { AreSame bricks.bricks.bricks result.0.bricks.bricks }
@@ -70,17 +72,49 @@ fn run_by_client<H: Host, K: Sink>(
     ensures knows { Told (H.holds host.old) (H.holds host.new) KnowsStill }
     ensures stays { H.sound host.old → AreSound H.Disk.Disk H.Link.Link H.Clock.Clock bricks.bricks.bricks bricks.clock
         → H.sound host.new × AreSound H.Disk.Disk H.Link.Link H.Clock.Clock result.0.bricks.bricks result.0.clock }
-    ensures sink { Kept (K.faults out.old) (K.faults out.new) (K.sound out.old) (K.sound out.new) (status_of result.1 ≡ 6) }
+    ensures sink { Kept (K.faults out.old) (K.faults out.new) (K.sound out.old) (K.sound out.new) (FailsOut task result.1) }
     ensures done { H.sound host.old → AreSound H.Disk.Disk H.Link.Link H.Clock.Clock bricks.bricks.bricks bricks.clock → K.sound out.old
-        → Has (H.holds host.old) HasClient → IsDone result.1 }
+        → Has (H.holds host.old) (HasClient task) → IsDone result.1 }
 {
     let link = match host.link(0) {
         Ok(link) => link,
         Err(fault) => return (bricks, Ending::refusal(fault)),
     };
-    let (bricks, link, ending) = run_by_source(alloc, host, out, layout, turns, bricks, link);
+    let (bricks, link, ending) = run_task(alloc, host, out, layout, task, bricks, link);
     host.keep_link(0, link);
     (bricks, ending)
+}
+
+/// Does a task with the bricks, over the client's link, and hands them back.
+fn run_task<H: Host, K: Sink>(
+    alloc: Global,
+    host: &mut H,
+    out: &mut K,
+    layout: &Layout,
+    task: Task,
+    bricks: TimedBricks<H::Disk, H::Link, H::Clock>,
+    link: H::Link,
+) -> (TimedBricks<H::Disk, H::Link, H::Clock>, H::Link, Ending)
+    ensures hosts { DoesTask (streams H.Source.Source H.Input.Source H.Output.Sink) (views H.Disk.Disk H.Link.Link H.Clock.Clock) layout.now task
+        (host_seen (H.faults host.old) (H.asked host.old) (H.holds host.old)) (host_seen (H.faults host.new) (H.asked host.new) (H.holds host.new))
+        bricks result.0 link result.1 (K.told out.old) (K.told out.new) result.2 }
+    ensures same { AreSame bricks.bricks.bricks result.0.bricks.bricks }
+    ensures runs_still { AreRunning bricks.bricks.bricks → result.2 ≢ Ending.Disk → AreRunning result.0.bricks.bricks }
+    ensures knows { Told (H.holds host.old) (H.holds host.new) KnowsStill }
+    ensures stays { H.sound host.old → H.sound host.new }
+    ensures bricks { AreSound H.Disk.Disk H.Link.Link H.Clock.Clock bricks.bricks.bricks bricks.clock
+        → AreSound H.Disk.Disk H.Link.Link H.Clock.Clock result.0.bricks.bricks result.0.clock }
+    ensures link { H.Link.sound link → H.Link.sound result.1 }
+    ensures sink { Kept (K.faults out.old) (K.faults out.new) (K.sound out.old) (K.sound out.new) (FailsOut task result.2) }
+    ensures done { H.sound host.old → AreSound H.Disk.Disk H.Link.Link H.Clock.Clock bricks.bricks.bricks bricks.clock → H.Link.sound link
+        → K.sound out.old → Has (H.holds host.old) (HasTask task) → IsDone result.2 }
+{
+    match task {
+        Task::Commands { turns } => run_by_source(alloc, host, out, layout, turns, bricks, link),
+        Task::Session { port, turns } => {
+            run_by_session(alloc, host, layout, port, turns, bricks, link)
+        }
+    }
 }
 
 /// Runs the commands of standard input over the bricks, gives that back, and hands the bricks and the link back.
@@ -93,7 +127,7 @@ fn run_by_source<H: Host, K: Sink>(
     bricks: TimedBricks<H::Disk, H::Link, H::Clock>,
     link: H::Link,
 ) -> (TimedBricks<H::Disk, H::Link, H::Clock>, H::Link, Ending)
-    ensures hosts { HostsBySource H.Source.told H.Source.faults (views H.Disk.Disk H.Link.Link H.Clock.Clock) layout.now turns
+    ensures hosts { HostsBySource (streams H.Source.Source H.Input.Source H.Output.Sink) (views H.Disk.Disk H.Link.Link H.Clock.Clock) layout.now turns
         (host_seen (H.faults host.old) (H.asked host.old) (H.holds host.old)) (host_seen (H.faults host.new) (H.asked host.new) (H.holds host.new))
         bricks result.0 link result.1 (K.told out.old) (K.told out.new) result.2 }
     ensures same { AreSame bricks.bricks.bricks result.0.bricks.bricks }
@@ -113,6 +147,42 @@ fn run_by_source<H: Host, K: Sink>(
     };
     let (bricks, link, ending) = run(alloc, out, layout, turns, bricks, link, &mut source);
     host.keep_source(STANDARD_INPUT, source);
+    (bricks, link, ending)
+}
+
+/// Serves the client of the session at a port over the bricks, gives the session back, and hands the bricks and the link back.
+fn run_by_session<H: Host>(
+    alloc: Global,
+    host: &mut H,
+    layout: &Layout,
+    port: u16,
+    turns: u64,
+    bricks: TimedBricks<H::Disk, H::Link, H::Clock>,
+    link: H::Link,
+) -> (TimedBricks<H::Disk, H::Link, H::Clock>, H::Link, Ending)
+    ensures hosts { HostsBySession (session_view H.Input.Source H.Output.Sink) (views H.Disk.Disk H.Link.Link H.Clock.Clock) layout.now port turns
+        (host_seen (H.faults host.old) (H.asked host.old) (H.holds host.old)) (host_seen (H.faults host.new) (H.asked host.new) (H.holds host.new))
+        bricks result.0 link result.1 result.2 }
+    ensures same { AreSame bricks.bricks.bricks result.0.bricks.bricks }
+    ensures runs_still { AreRunning bricks.bricks.bricks → result.2 ≢ Ending.Disk → AreRunning result.0.bricks.bricks }
+    ensures knows { Told (H.holds host.old) (H.holds host.new) KnowsStill }
+    ensures stays { H.sound host.old → H.sound host.new }
+    ensures bricks { AreSound H.Disk.Disk H.Link.Link H.Clock.Clock bricks.bricks.bricks bricks.clock
+        → AreSound H.Disk.Disk H.Link.Link H.Clock.Clock result.0.bricks.bricks result.0.clock }
+    ensures link { H.Link.sound link → H.Link.sound result.1 }
+    ensures done { H.sound host.old → AreSound H.Disk.Disk H.Link.Link H.Clock.Clock bricks.bricks.bricks bricks.clock → H.Link.sound link
+        → Has (H.holds host.old) (HasSession port) → IsDone result.2 }
+{
+    let session = match host.session(port) {
+        Ok(session) => session,
+        Err(fault) => return (bricks, link, Ending::refusal(fault)),
+    };
+    let Connection {
+        mut source,
+        mut sink,
+    } = session;
+    let (bricks, link, ending) = serve(alloc, layout, turns, bricks, link, &mut source, &mut sink);
+    host.keep_session(port, source, sink);
     (bricks, link, ending)
 }
 
@@ -144,7 +214,35 @@ fn run<D: Disk, L: Link, C: Clock, S: Source, K: Sink>(
     }
 }
 
-/// How a fault of a run of commands ends the program.
+/// Serves the client of a session over the bricks, and hands the bricks and the link back.
+fn serve<D: Disk, L: Link, C: Clock, I: Source, O: Sink>(
+    alloc: Global,
+    layout: &Layout,
+    turns: u64,
+    bricks: TimedBricks<D, L, C>,
+    link: L,
+    source: &mut I,
+    sink: &mut O,
+) -> (TimedBricks<D, L, C>, L, Ending)
+    ensures runs { RunsSession (session_view I.Source O.Sink) (views D.Disk L.Link C.Clock) layout.now turns bricks result.0 link result.1
+        (session_of source.old sink.old) (session_of source.new sink.new) result.2 }
+    ensures same { AreSame bricks.bricks.bricks result.0.bricks.bricks }
+    ensures runs_still { AreRunning bricks.bricks.bricks → result.2 ≢ Ending.Disk → AreRunning result.0.bricks.bricks }
+    ensures bricks { AreSound D.Disk L.Link C.Clock bricks.bricks.bricks bricks.clock → AreSound D.Disk L.Link C.Clock result.0.bricks.bricks result.0.clock }
+    ensures link { L.sound link → L.sound result.1 }
+    ensures source { I.sound source.old → I.sound source.new }
+    ensures sink { O.sound sink.old → O.sound sink.new }
+    ensures done { AreSound D.Disk L.Link C.Clock bricks.bricks.bricks bricks.clock → L.sound link → I.sound source.old → O.sound sink.old
+        → IsDone result.2 }
+{
+    let (bricks, link, ended) = serve_session(alloc, layout, bricks, link, source, sink, turns);
+    match ended {
+        Ok(end) => (bricks, link, Ending::Served(end)),
+        Err(fault) => (bricks, link, ending_by(fault)),
+    }
+}
+
+/// How a fault of a run of commands, or of a session, ends the program.
 fn ending_by(fault: HostFault) -> Ending
     ensures { result ≡ ending_by fault }
 {

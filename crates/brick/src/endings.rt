@@ -3,12 +3,13 @@
 ghost use Rattle.std.specs.Prelude.{◌≡◌, ◌≢◌, IfOk, string_bytes};
 ghost use Rattle.std.specs.Io.KnownBytes.{Keeps};
 ghost use Rattle.fab_io.specs.Ends.{Kept, WriteTakes};
-ghost use Rattle.brick.specs.Endings.{status_of, serving_text, text_of, Prints};
+ghost use Rattle.brick.specs.Endings.{status_of, serving_text, session_text, text_of, Prints};
 ghost use Rattle.brick.specs.Hosts.{refusal_by};
 
 use fab_base::BrickId;
 use fab_io::{IoFault, Sink};
 use layout::LayoutFault;
+use nbd_front::End;
 use std::alloc::{AllocError, Global};
 
 /// How the program ends, but for a sink that fails at its last text.
@@ -25,15 +26,17 @@ pub enum Ending {
     },
     /// The commands were run, until their turns were used up or the source of them was at its end.
     Commanded,
+    /// The client of a session was served, until it ended so.
+    Served(End),
     /// The words are of no form, or the layout has no brick of this number.
     Usage,
     /// The source's text is no layout.
     BadLayout(LayoutFault),
     /// The source has more bytes than a layout may.
     LongLayout,
-    /// The source failed.
+    /// The source failed, or that of a session.
     Source,
-    /// The sink failed as the brick said that it serves, or at an answer to a command.
+    /// The sink failed as the brick said that it serves, or at an answer to a command; or that of a session failed.
     Sink,
     /// No memory was left.
     Memory,
@@ -73,7 +76,8 @@ impl Ending {
         ensures { result ≡ status_of self.now }
     {
         match self {
-            Ending::Formatted(_) | Ending::Ended { .. } | Ending::Commanded => 0,
+            Ending::Formatted(_) | Ending::Ended { .. } | Ending::Commanded | Ending::Served(_) =>
+                0,
             Ending::Usage => 2,
             Ending::BadLayout(_) | Ending::LongLayout => 3,
             Ending::Source => 5,
@@ -98,6 +102,7 @@ impl Ending {
             Ending::Ended { turns, malformed } => {
                 Ok(format!(in alloc; "ended {turns} malformed {malformed}\n")?)
             }
+            Ending::Served(end) => Ok(String::from_str(alloc, session_text(*end))?),
             Ending::BadLayout(fault) => Ok(format!(in alloc; "bad layout: {fault}\n")?),
             Ending::Usage => Ok(String::from_str(alloc, USAGE)?),
             Ending::LongLayout => Ok(String::from_str(alloc, "bad layout: limit layout\n")?),
@@ -114,7 +119,21 @@ impl Ending {
 
 /// The usage line.
 const USAGE: &str =
-    "usage: brick format LAYOUT DISK ID | serve LAYOUT DISK ID TURNS | local LAYOUT PREFIX TURNS\n";
+    "usage: brick format LAYOUT DISK ID | serve LAYOUT DISK ID TURNS | local LAYOUT PREFIX TURNS | nbd LAYOUT PREFIX TCPPORT TURNS\n";
+
+/// The line that says how a session ended.
+fn session_text(end: End) -> &'static str
+    ensures { result.now ≡ session_text end }
+{
+    match end {
+        End::Disc => "nbd disc\n",
+        End::Abort => "nbd abort\n",
+        End::Eof => "nbd end\n",
+        End::Dropped => "nbd dropped\n",
+        End::NoExport => "nbd noexport\n",
+        End::Turns => "nbd turns\n",
+    }
+}
 
 /// Writes the last text of a program that ends so, and answers its exit status: 6 where the sink fails, 7 where no memory is left.
 pub(crate) fn finish<K: Sink>(alloc: Global, out: &mut K, ending: &Ending) -> u8

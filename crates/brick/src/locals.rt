@@ -1,4 +1,4 @@
-//! `brick local`.
+//! `brick local` and `brick nbd`.
 
 ghost use Rattle.std.specs.Prelude.{◌≡◌, ◌≢◌, ◌<◌, ◌≤◌, ◌+◌, [], ◌∷◌, ◌++◌, Some, false, length, IfOk, string_bytes};
 ghost use Rattle.std.specs.List.{AllByRecursion};
@@ -6,15 +6,16 @@ ghost use Rattle.fab_io.specs.Ends.{Kept};
 ghost use Rattle.hosting.specs.Hosted.{Hosted, Begins, TakesLast, IsSound};
 ghost use Rattle.node.specs.Running.{IsSameBrick};
 ghost use Rattle.serving.specs.Ports.{ports_of, port_of};
-ghost use Rattle.brick.specs.Endings.{status_of, IsDone};
+ghost use Rattle.brick.specs.Endings.{IsDone};
 ghost use Rattle.brick.specs.Hosts.{host_seen, Told, Has, KnowsStill};
-ghost use Rattle.brick.specs.Locals.{disk_name, AreSame, AreRunning, HostsByLink, HostsOver, HostsFrom, HostsLayout, HasRest, HasBricks};
+ghost use Rattle.brick.specs.Locals.{disk_name, AreSame, AreRunning, FailsOut, HostsByLink, HostsOver, HostsFrom, HostsLayout, HasRest, HasBricks};
 ghost use Rattle.brick.specs.Serves.{MayStart};
-ghost use Rattle.brick.specs.Views.{views};
+ghost use Rattle.brick.specs.Views.{views, streams};
 
 use crate::commands::run_by_clock;
 use crate::endings::Ending;
 use crate::serves::{port_of, start};
+use crate::words::Task;
 use fab_base::BrickId;
 use fab_disk::Disk;
 use fab_host::Host;
@@ -24,28 +25,28 @@ use layout::Layout;
 use node::Node;
 use std::alloc::{AllocError, Global};
 
-/// Hosts all bricks of a layout, over disks whose names begin with this prefix, runs commands over them, and gives back to the host what it opened.
-pub(crate) fn local<H: Host, K: Sink>(
+/// Hosts all bricks of a layout, over disks whose names begin with this prefix, does a task with them, and gives back to the host what it opened.
+pub(crate) fn host_all<H: Host, K: Sink>(
     alloc: Global,
     host: &mut H,
     out: &mut K,
     prefix: &str,
     layout: &Layout,
-    turns: u64,
+    task: Task,
 ) -> Ending
-    ensures hosts { HostsLayout H.Source.told H.Source.faults (views H.Disk.Disk H.Link.Link H.Clock.Clock) layout.now prefix.now turns
+    ensures hosts { HostsLayout (streams H.Source.Source H.Input.Source H.Output.Sink) (views H.Disk.Disk H.Link.Link H.Clock.Clock) layout.now prefix.now task
         (host_seen (H.faults host.old) (H.asked host.old) (H.holds host.old)) (host_seen (H.faults host.new) (H.asked host.new) (H.holds host.new))
         (K.told out.old) (K.told out.new) result }
     ensures stays { H.sound host.old → H.sound host.new }
-    ensures sink { Kept (K.faults out.old) (K.faults out.new) (K.sound out.old) (K.sound out.new) (status_of result ≡ 6) }
+    ensures sink { Kept (K.faults out.old) (K.faults out.new) (K.sound out.old) (K.sound out.new) (FailsOut task result) }
     ensures done { H.sound host.old → K.sound out.old
-        → Has (H.holds host.old) (HasBricks H.Disk.tells H.Disk.seen layout.now prefix.now 0) → IsDone result }
+        → Has (H.holds host.old) (HasBricks H.Disk.tells H.Disk.seen layout.now prefix.now task 0) → IsDone result }
 {
     let bricks = match HostedBricks::new(alloc, usize::from(layout.bricks())) {
         Ok(bricks) => bricks,
         Err(_) => return Ending::Memory,
     };
-    let (_bricks, ending) = host_bricks(alloc, host, out, prefix, layout, turns, 0, bricks);
+    let (_bricks, ending) = host_bricks(alloc, host, out, prefix, layout, task, 0, bricks);
     ending
 }
 
@@ -56,7 +57,7 @@ fn disk_name(alloc: Global, prefix: &str, id: u16) -> Result<String, AllocError>
     Ok(format!(in alloc; "{prefix}.{id}")?)
 }
 
-/// Hosts the bricks from this number on, beside those that were started, and past the last one runs the commands. It gives back to the host what it
+/// Hosts the bricks from this number on, beside those that were started, and past the last one does the task. It gives back to the host what it
 /// opened, and hands back the bricks that were started, as they are then.
 #[cycle(bricks)]
 fn host_bricks<H: Host, K: Sink>(
@@ -65,14 +66,14 @@ fn host_bricks<H: Host, K: Sink>(
     out: &mut K,
     prefix: &str,
     layout: &Layout,
-    turns: u64,
+    task: Task,
     id: u16,
     bricks: HostedBricks<H::Disk, H::Link>,
 ) -> (HostedBricks<H::Disk, H::Link>, Ending)
     requires count { length bricks.bricks ≡ id }
     requires room { bricks.room ≡ layout.now.bricks }
     requires running { AreRunning bricks.bricks }
-    ensures hosts { HostsFrom H.Source.told H.Source.faults (views H.Disk.Disk H.Link.Link H.Clock.Clock) layout.now prefix.now turns
+    ensures hosts { HostsFrom (streams H.Source.Source H.Input.Source H.Output.Sink) (views H.Disk.Disk H.Link.Link H.Clock.Clock) layout.now prefix.now task
         (K.told out.old) (K.told out.new) result.1 id bricks.bricks result.0.bricks
         (host_seen (H.faults host.old) (H.asked host.old) (H.holds host.old)) (host_seen (H.faults host.new) (H.asked host.new) (H.holds host.new)) }
     ensures same { AreSame bricks.bricks result.0.bricks }
@@ -80,12 +81,12 @@ fn host_bricks<H: Host, K: Sink>(
     ensures knows { Told (H.holds host.old) (H.holds host.new) KnowsStill }
     ensures stays { H.sound host.old → AllByRecursion (IsSound H.Disk.Disk H.Link.Link H.Clock.Clock) bricks.bricks
         → H.sound host.new × AllByRecursion (IsSound H.Disk.Disk H.Link.Link H.Clock.Clock) result.0.bricks }
-    ensures sink { Kept (K.faults out.old) (K.faults out.new) (K.sound out.old) (K.sound out.new) (status_of result.1 ≡ 6) }
+    ensures sink { Kept (K.faults out.old) (K.faults out.new) (K.sound out.old) (K.sound out.new) (FailsOut task result.1) }
     ensures done { H.sound host.old → AllByRecursion (IsSound H.Disk.Disk H.Link.Link H.Clock.Clock) bricks.bricks → K.sound out.old
-        → Has (H.holds host.old) (HasBricks H.Disk.tells H.Disk.seen layout.now prefix.now id) → IsDone result.1 }
+        → Has (H.holds host.old) (HasBricks H.Disk.tells H.Disk.seen layout.now prefix.now task id) → IsDone result.1 }
 {
     if id >= layout.bricks() {
-        return run_by_clock(alloc, host, out, layout, turns, bricks);
+        return run_by_clock(alloc, host, out, layout, task, bricks);
     }
     let name = match disk_name(alloc, prefix, id) {
         Ok(name) => name,
@@ -99,7 +100,7 @@ fn host_bricks<H: Host, K: Sink>(
     };
     let me = BrickId(id);
     let (bricks, disk, ending) = host_store(
-        alloc, host, out, prefix, layout, turns, me, bricks, disk,
+        alloc, host, out, prefix, layout, task, me, bricks, disk,
     );
     host.keep_disk(name, disk);
     (bricks, ending)
@@ -113,7 +114,7 @@ fn host_store<H: Host, K: Sink>(
     out: &mut K,
     prefix: &str,
     layout: &Layout,
-    turns: u64,
+    task: Task,
     me: BrickId,
     bricks: HostedBricks<H::Disk, H::Link>,
     disk: H::Disk,
@@ -124,7 +125,7 @@ fn host_store<H: Host, K: Sink>(
     requires room { bricks.room ≡ layout.now.bricks }
     requires running { AreRunning bricks.bricks }
     ensures hosts { HostsOver (views H.Disk.Disk H.Link.Link H.Clock.Clock) layout.now me
-        (HostsFrom H.Source.told H.Source.faults (views H.Disk.Disk H.Link.Link H.Clock.Clock) layout.now prefix.now turns
+        (HostsFrom (streams H.Source.Source H.Input.Source H.Output.Sink) (views H.Disk.Disk H.Link.Link H.Clock.Clock) layout.now prefix.now task
         (K.told out.old) (K.told out.new) result.2 (me.0 + 1)) disk result.1
         (host_seen (H.faults host.old) (H.asked host.old) (H.holds host.old)) (host_seen (H.faults host.new) (H.asked host.new) (H.holds host.new))
         bricks.bricks result.0.bricks (K.told out.old) (K.told out.new) result.2 }
@@ -133,15 +134,15 @@ fn host_store<H: Host, K: Sink>(
     ensures knows { Told (H.holds host.old) (H.holds host.new) KnowsStill }
     ensures stays { H.sound host.old → AllByRecursion (IsSound H.Disk.Disk H.Link.Link H.Clock.Clock) bricks.bricks → H.Disk.sound disk
         → H.sound host.new × AllByRecursion (IsSound H.Disk.Disk H.Link.Link H.Clock.Clock) result.0.bricks × H.Disk.sound result.1 }
-    ensures sink { Kept (K.faults out.old) (K.faults out.new) (K.sound out.old) (K.sound out.new) (status_of result.2 ≡ 6) }
+    ensures sink { Kept (K.faults out.old) (K.faults out.new) (K.sound out.old) (K.sound out.new) (FailsOut task result.2) }
     ensures done { H.sound host.old → AllByRecursion (IsSound H.Disk.Disk H.Link.Link H.Clock.Clock) bricks.bricks → H.Disk.sound disk → K.sound out.old
         → MayStart H.Disk.tells H.Disk.seen layout.now me disk
-        → Has (H.holds host.old) (HasRest H.Disk.tells H.Disk.seen layout.now prefix.now me) → IsDone result.2 }
+        → Has (H.holds host.old) (HasRest H.Disk.tells H.Disk.seen layout.now prefix.now task me) → IsDone result.2 }
 {
     match start::<H>(alloc, layout, me, disk) {
         Ok(node) => {
             let (bricks, node, ending) = host_link(
-                alloc, host, out, prefix, layout, turns, me, bricks, node,
+                alloc, host, out, prefix, layout, task, me, bricks, node,
             );
             (bricks, node.into_disk(), ending)
         }
@@ -157,7 +158,7 @@ fn host_link<H: Host, K: Sink>(
     out: &mut K,
     prefix: &str,
     layout: &Layout,
-    turns: u64,
+    task: Task,
     me: BrickId,
     bricks: HostedBricks<H::Disk, H::Link>,
     node: Node<H::Disk>,
@@ -169,7 +170,7 @@ fn host_link<H: Host, K: Sink>(
     requires running { AreRunning bricks.bricks }
     requires runs { node.brick.halted ≡ false }
     ensures hosts { HostsByLink (port_of (ports_of layout.now) me)
-        (HostsFrom H.Source.told H.Source.faults (views H.Disk.Disk H.Link.Link H.Clock.Clock) layout.now prefix.now turns
+        (HostsFrom (streams H.Source.Source H.Input.Source H.Output.Sink) (views H.Disk.Disk H.Link.Link H.Clock.Clock) layout.now prefix.now task
         (K.told out.old) (K.told out.new) result.2 (me.0 + 1))
         (host_seen (H.faults host.old) (H.asked host.old) (H.holds host.old)) (host_seen (H.faults host.new) (H.asked host.new) (H.holds host.new))
         bricks.bricks result.0.bricks node result.1 (K.told out.old) (K.told out.new) result.2 }
@@ -180,9 +181,9 @@ fn host_link<H: Host, K: Sink>(
     ensures knows { Told (H.holds host.old) (H.holds host.new) KnowsStill }
     ensures stays { H.sound host.old → AllByRecursion (IsSound H.Disk.Disk H.Link.Link H.Clock.Clock) bricks.bricks → H.Disk.sound node.brick.disk
         → H.sound host.new × AllByRecursion (IsSound H.Disk.Disk H.Link.Link H.Clock.Clock) result.0.bricks × H.Disk.sound result.1.brick.disk }
-    ensures sink { Kept (K.faults out.old) (K.faults out.new) (K.sound out.old) (K.sound out.new) (status_of result.2 ≡ 6) }
+    ensures sink { Kept (K.faults out.old) (K.faults out.new) (K.sound out.old) (K.sound out.new) (FailsOut task result.2) }
     ensures done { H.sound host.old → AllByRecursion (IsSound H.Disk.Disk H.Link.Link H.Clock.Clock) bricks.bricks → H.Disk.sound node.brick.disk → K.sound out.old
-        → Has (H.holds host.old) (HasRest H.Disk.tells H.Disk.seen layout.now prefix.now me) → IsDone result.2 }
+        → Has (H.holds host.old) (HasRest H.Disk.tells H.Disk.seen layout.now prefix.now task me) → IsDone result.2 }
 {
     let port = port_of(layout, me);
     let link = match host.link(port) {
@@ -190,7 +191,7 @@ fn host_link<H: Host, K: Sink>(
         Err(fault) => return (bricks, node, Ending::refusal(fault)),
     };
     let bricks = with_brick(bricks, node, link);
-    let (bricks, ending) = host_bricks(alloc, host, out, prefix, layout, turns, me.0 + 1, bricks);
+    let (bricks, ending) = host_bricks(alloc, host, out, prefix, layout, task, me.0 + 1, bricks);
     let mut bricks = bricks;
     let (node, link) = take_last(&mut bricks);
     host.keep_link(port, link);

@@ -4,7 +4,7 @@ ghost use Rattle.std.specs.Prelude.{◌≡◌, map, string_bytes, option_map};
 ghost use Rattle.std.specs.Char.{is_ascii_digit};
 ghost use Rattle.std.specs.List.{list_all};
 ghost use Rattle.lines.specs.Tokens.{number};
-ghost use Rattle.brick.specs.Words.{wanted, is_name, format_work, serve_work, local_work, wants, four_words, five_words, command_of};
+ghost use Rattle.brick.specs.Words.{wanted, is_name, format_work, serve_work, local_work, tcp_port, session_work, wants, four_words, five_words, command_of};
 
 /// What the words of a command line ask for.
 #[derive(Clone, Copy)]
@@ -32,15 +32,35 @@ pub enum Work {
         /// How many turns it is to serve.
         turns: u64,
     },
-    /// Commands are to be run over all bricks of the layout, by so many turns.
-    Local {
+    /// All bricks of the layout are to be hosted for this.
+    HostAll {
+        /// What is to be done with them.
+        task: Task,
+    },
+}
+
+/// What is to be done with the bricks that a process hosts.
+#[derive(Clone, Copy)]
+pub enum Task {
+    /// The commands of standard input are to be run, by so many turns.
+    Commands {
         /// How many turns they may take.
+        turns: u64,
+    },
+    /// The client of a session is to be served, by so many turns.
+    Session {
+        /// The TCP port of the session.
+        port: u16,
+        /// How many turns it may take.
         turns: u64,
     },
 }
 
 /// The most digits that a number may have.
 const MOST_DIGITS: usize = 20;
+
+/// The greatest TCP port.
+const MOST_PORT: u64 = 65_535;
 
 /// What the words ask for; `None` where they are of no form.
 pub(crate) fn parse(words: &[String]) -> Option<Words<'_>>
@@ -79,18 +99,20 @@ fn four_words<'w>(word: &str, layout: &'w str, name: &'w str, count: &str) -> Op
     }
 }
 
-/// What `serve LAYOUT DISK ID TURNS` asks for.
+/// What `serve LAYOUT DISK ID TURNS` or `nbd LAYOUT PREFIX TCPPORT TURNS` asks for.
 fn five_words<'w>(
     word: &str,
     layout: &'w str,
-    disk: &'w str,
-    id: &str,
+    name: &'w str,
+    number: &str,
     turns: &str,
 ) -> Option<Words<'w>>
-    ensures { option_map wanted result ≡ five_words word.now layout.now disk.now id.now turns.now }
+    ensures { option_map wanted result ≡ five_words word.now layout.now name.now number.now turns.now }
 {
     if word == "serve" {
-        wants(layout, disk, serve_work(id, turns))
+        wants(layout, name, serve_work(number, turns))
+    } else if word == "nbd" {
+        wants(layout, name, session_work(number, turns))
     } else {
         None
     }
@@ -118,7 +140,30 @@ fn local_work(turns: &str) -> Option<Work>
     ensures { result ≡ local_work turns.now }
 {
     let turns = parse_number(turns)?;
-    Some(Work::Local { turns })
+    let task = Task::Commands { turns };
+    Some(Work::HostAll { task })
+}
+
+/// To serve the client of the session at TCPPORT by TURNS turns.
+fn session_work(port: &str, turns: &str) -> Option<Work>
+    ensures { result ≡ session_work port.now turns.now }
+{
+    let port = tcp_port(port)?;
+    let turns = parse_number(turns)?;
+    let task = Task::Session { port, turns };
+    Some(Work::HostAll { task })
+}
+
+/// The TCP port that a word spells.
+fn tcp_port(word: &str) -> Option<u16>
+    ensures { result ≡ tcp_port word.now }
+{
+    let number = parse_number(word)?;
+    if 1 <= number && number <= MOST_PORT {
+        Some(number as u16)
+    } else {
+        None
+    }
 }
 
 /// This work on the disk of this name, or those of this prefix.

@@ -1,19 +1,25 @@
 //! Runs the program `brick` over files and ports of this machine, and over things in memory, and prints how each command ends.
 //!
 //! A line of standard input is the words of a command. A word that begins with `@` is a name in a folder of this process; `@layout` is the
-//! layout of `data/` with a port of this process before it. Behind ` < ` stands the name of a file in `data/`, which is the standard input of
-//! the command. The line `empty NAME` makes an empty file.
+//! layout of `data/` with a port of this process before it, and `@port` is a TCP port of this process. Behind ` < ` stands the name of a file in
+//! `data/`, which is the standard input of the command. The line `empty NAME` makes an empty file. A line `client NAME WORDS..` runs a command
+//! while a client comes to the TCP port that it opens, and says the bytes of the file NAME in `data/`.
 //!
 //! A line `memory WORDS..` runs a command over a host in memory, which keeps what it holds from line to line, and holds the layout of `data/`
 //! as `layout`. Behind ` < ` stands the name of a file in `data/`: its lines `PORT HEX` are the datagrams that wait at the link of brick 0.
-//! After the line `fail` the next call of that host fails.
+//! After the line `fail` the next call of that host fails. The line `session PIECE NAME` puts a session into that host, whose client sends the bytes
+//! of the file NAME in `data/`, at most PIECE of them at a read, and links at which the datagrams of `data/replies` wait for the bricks' client.
 //!
-//! For each command its line, its status and what it printed are printed, and behind ` < ` the datagrams that were sent.
+//! For each command its line, its status and what it printed are printed. For one in memory the datagrams that were sent by brick 0 and by the bricks'
+//! client follow, and for both kinds of a session what was sent to its client.
 #![tactic(auto)]
 
+mod visitors;
+
+use crate::visitors::Visited;
 use brick::brick;
 use fab_base::Bytes;
-use fab_host::{MemHost, OsHost};
+use fab_host::{Connection, MemHost, OsHost};
 use fab_io::{Datagram, MemClock, MemLink, MemSink, MemSource};
 use std::alloc::Global;
 use std::env::Env;
@@ -27,8 +33,19 @@ const FIRST_PORT: u32 = 10_000;
 
 const PROCESSES: u32 = 300;
 
+/// The TCP port of a process, behind its first.
+const TCP_PORT: u32 = 63;
+
 /// The port of brick 0 of the layout in `data/`.
 const PORT: u16 = 17_000;
+
+/// The ports of the other bricks, and that of the bricks' client.
+const OTHER_PORTS: [u16; 2] = [17_001, 17_002];
+
+const CLIENT_PORT: u16 = 0;
+
+/// The port of the session.
+const SESSION_PORT: u16 = 10_809;
 
 /// What a command ends with: its status, and what it printed.
 #[derive(Drop)]
@@ -50,10 +67,11 @@ fn refused() -> io::Error {
     io::Error::from(io::ErrorKind::InvalidData)
 }
 
-/// The folder of this process.
+/// The folder of this process, and its first port.
 #[derive(Drop)]
 struct Place {
     folder: String,
+    port: u32,
 }
 
 impl Place {
@@ -63,8 +81,8 @@ impl Place {
         let above = env::temp_dir(rt)?;
         let folder = format!(in alloc; "{}/brick-cases-{number}", above.as_str())?;
         fs::create_dir(rt, folder.as_str())?;
-        let place = Place { folder };
         let port = FIRST_PORT + number % PROCESSES * 64;
+        let place = Place { folder, port };
         let rest = fs::read_to_string(rt, "layout")?;
         let layout = format!(in alloc; "port = {port}\n{rest}")?;
         let name = place.name(alloc, "@layout")?;
@@ -74,6 +92,9 @@ impl Place {
 
     /// What a word stands for.
     fn name(&self, alloc: Global, word: &str) -> io::Result<String> {
+        if word == "@port" {
+            return Ok(format!(in alloc; "{}", self.port + TCP_PORT)?);
+        }
         let Some(name) = word.strip_prefix('@') else {
             return Ok(String::from_str(alloc, word)?);
         };
@@ -89,27 +110,40 @@ impl Place {
         Ok(words)
     }
 
-    /// Runs a command over the system, with this file for its standard input.
+    /// Runs a command over a system, with these bytes for its standard input.
     fn run(
         &self,
-        rt: &(impl Files<File = File> + Net + time::Clock + Eprint + AllocGlobal),
+        system: &(impl Files<File = File> + Net + time::Clock + Eprint),
+        alloc: Global,
         command: &str,
-        input: &str,
+        input: Vec<u8>,
     ) -> io::Result<Ending> {
-        let alloc = rt.alloc();
         let words = self.words(alloc, command)?;
-        let input = if input.is_empty() {
-            Vec::new(alloc)
-        } else {
-            fs::read(rt, input)?
-        };
         let input = MemSource::new(input);
-        let Ok(mut host) = OsHost::new(alloc, rt, input) else {
+        let Ok(mut host) = OsHost::new(alloc, system, input) else {
             return Err(refused());
         };
         let mut sink = MemSink::new(alloc);
         let status = brick(alloc, words.as_slice(), &mut host, &mut sink);
         Ok(Ending { status, sink })
+    }
+
+    /// Runs a command over the system while a client comes to its TCP port and says these bytes, and prints what was said to the client.
+    fn run_visited(
+        &self,
+        rt: &(impl Files<File = File> + Net + time::Clock + Print + Eprint + AllocGlobal),
+        line: &str,
+        command: &str,
+        says: &[u8],
+    ) -> io::Result<()> {
+        let alloc = rt.alloc();
+        let system = Visited::new(rt, says);
+        self.run(&system, alloc, command, Vec::new(alloc))?
+            .print(rt, line)?;
+        let mut heard = Vec::new(alloc);
+        system.hear(&mut heard)?;
+        let digits = hex::encode(alloc, heard.as_slice())?;
+        println!(rt; "session {digits}")
     }
 
     /// Runs a command over a host in memory, with these datagrams at the link of brick 0.
@@ -158,13 +192,60 @@ fn read_datagrams(alloc: Global, text: &str) -> io::Result<Vec<Datagram>> {
     Ok(datagrams)
 }
 
-/// Prints the datagrams that were sent over the link of brick 0.
-fn print_sent(rt: &(impl Print + AllocGlobal), host: &MemHost) -> io::Result<()> {
-    if let Some(link) = host.link_at(PORT) {
-        for datagram in link.sent() {
-            let digits = hex::encode(rt.alloc(), datagram.bytes.as_slice())?;
-            println!(rt; "{} {digits}", datagram.port)?;
+/// The bytes of a file of HEX lines.
+fn read_bytes(alloc: Global, text: &str) -> io::Result<Vec<u8>> {
+    let mut bytes = Vec::new(alloc);
+    for line in text.lines() {
+        let Ok(piece) = hex::decode(alloc, line.as_bytes()) else {
+            return Err(refused());
+        };
+        bytes.extend_from_slice(&piece)?;
+    }
+    Ok(bytes)
+}
+
+/// Puts a session into a host, and the links that are missing, at that of the bricks' client with its datagrams.
+fn add_session(
+    rt: &(impl Files + AllocGlobal),
+    host: &mut MemHost,
+    piece: &str,
+    name: &str,
+) -> io::Result<()> {
+    let alloc = rt.alloc();
+    let mut source = MemSource::new(read_bytes(alloc, fs::read_to_string(rt, name)?.as_str())?);
+    match piece.parse::<usize>() {
+        Ok(piece) if piece > 0 => source.in_pieces_of(piece),
+        _ => return Err(refused()),
+    }
+    let sink = MemSink::new(alloc);
+    let replies = read_datagrams(alloc, fs::read_to_string(rt, "replies")?.as_str())?;
+    for port in OTHER_PORTS {
+        if host.add_link(port, MemLink::new(Vec::new(alloc))).is_err() {
+            return Err(refused());
         }
+    }
+    let session = Connection { source, sink };
+    if host.add_link(CLIENT_PORT, MemLink::new(replies)).is_err()
+        || host.add_session(SESSION_PORT, session).is_err()
+    {
+        return Err(refused());
+    }
+    Ok(())
+}
+
+/// Prints the datagrams that were sent over the links of brick 0 and of the bricks' client, and the bytes that were sent to the session's.
+fn print_sent(rt: &(impl Print + AllocGlobal), host: &MemHost) -> io::Result<()> {
+    for port in [PORT, CLIENT_PORT] {
+        if let Some(link) = host.link_at(port) {
+            for datagram in link.sent() {
+                let digits = hex::encode(rt.alloc(), datagram.bytes.as_slice())?;
+                println!(rt; "{} {digits}", datagram.port)?;
+            }
+        }
+    }
+    if let Some(session) = host.session_at(SESSION_PORT) {
+        let digits = hex::encode(rt.alloc(), session.sink.taken())?;
+        println!(rt; "session {digits}")?;
     }
     Ok(())
 }
@@ -181,6 +262,13 @@ fn main(rt: HostRuntime) -> io::Result<()> {
         } else if line == "fail" {
             let next = host.asked().len() as u64 + 1;
             host.fail_at(vec![in alloc; next; 1]?);
+        } else if let Some(rest) = line.strip_prefix("session ") {
+            let (piece, name) = rest.split_once(' ').unwrap_or((rest, ""));
+            add_session(&rt, &mut host, piece, name)?;
+        } else if let Some(rest) = line.strip_prefix("client ") {
+            let (name, command) = rest.split_once(' ').unwrap_or((rest, ""));
+            let says = read_bytes(alloc, fs::read_to_string(&rt, name)?.as_str())?;
+            place.run_visited(&rt, line, command, says.as_slice())?;
         } else if let Some(rest) = line.strip_prefix("memory ") {
             let (command, datagrams) = rest.split_once(" < ").unwrap_or((rest, ""));
             let ending = place.run_in_memory(&rt, &mut host, command, datagrams)?;
@@ -188,7 +276,12 @@ fn main(rt: HostRuntime) -> io::Result<()> {
             print_sent(&rt, &host)?;
         } else {
             let (command, input) = line.split_once(" < ").unwrap_or((line, ""));
-            place.run(&rt, command, input)?.print(&rt, line)?;
+            let input = if input.is_empty() {
+                Vec::new(alloc)
+            } else {
+                fs::read(&rt, input)?
+            };
+            place.run(&rt, alloc, command, input)?.print(&rt, line)?;
         }
     }
     fs::remove_dir_all(&rt, place.folder.as_str())

@@ -1,5 +1,5 @@
-//! `brick format` makes the store of a brick on a file, `brick serve` has the brick serve over it, a UDP port and the clock, and `brick local` runs
-//! the commands of standard input over all bricks of a layout.
+//! `brick format` makes the store of a brick on a file, `brick serve` has the brick serve over it, a UDP port and the clock, `brick local` runs
+//! the commands of standard input over all bricks of a layout, and `brick nbd` lets a client use a volume of them as its disk.
 #![tactic(auto)]
 
 use brick::brick;

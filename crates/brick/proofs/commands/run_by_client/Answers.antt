@@ -7,12 +7,12 @@ use Rattle.brick.specs.Hosts.{host_seen, IsRefused}
 use Rattle.brick.proofs.Knowing.{link_borrowed, link_lent}
 use Rattle.brick.proofs.Lending.{lends_told, regains_told}
 use Rattle.brick.proofs.MayHosting.{client_lends}
-use Rattle.brick.proofs.Refusing.{err_knows, refused_by, refused_done, refused_not_sink}
+use Rattle.brick.proofs.Refusing.{err_knows, refused_by, refused_done, refused_not_sink, not_out}
 use Rattle.brick.proofs.SameBricks.{same_refl}
 use Rattle.brick.proofs.commands.run_by_client.Goals as goal
 
 pub keep_link-requires : goal.keep_link-requires
-keep_link-requires g c = link_lent _ 0 c.in-Ok.link _ _ _ (lends_told _ _ _ _ _ _ c.in-Ok.ensures.lends) c.run_by_source-bricks.ensures.knows
+keep_link-requires g c = link_lent _ 0 c.in-Ok.link _ _ _ (lends_told _ _ _ _ _ _ c.in-Ok.ensures.lends) c.run_task-bricks.ensures.knows
 
 pub returns-in-Err : goal.returns-in-Err
 returns-in-Err g c =
@@ -32,14 +32,14 @@ returns-in-Err g c =
       runs_still = λ run not. run;
       knows = err_knows _ _ _ _ fault said.lends;
       stays = λ s sound. (said.kept.stays s, sound);
-      sink = Kept-narrower (λ e. absurd (refused_not_sink fault (ap status_of (sym c.refusal.ensures) ∙ e))) (Kept-refl _ _);
+      sink = Kept-narrower (λ e. absurd (not_out c.args.task c.refusal.result (λ six. refused_not_sink fault (ap status_of (sym c.refusal.ensures) ∙ six)) e)) (Kept-refl _ _);
       done = λ s sound sink has. subst IsDone (sym c.refusal.ensures)
           (refused_done (host.holds c.args.host.now) fault has (λ e. said.kept.only s (ap (λ z. Err z) e)) (λ h p q. p.0 q));
     }
 
 pub returns : goal.returns
 returns g c =
-    let ran = c.run_by_source-bricks in
+    let ran = c.run_task-bricks in
     record {
       hosts = inr (
         c.in-Ok.link,
@@ -65,5 +65,5 @@ returns g c =
       stays = λ s sound. (c.keep_link.ensures.sound (ran.ensures.link (c.in-Ok.ensures.gives s)) (ran.ensures.stays (c.in-Ok.ensures.kept.stays s)), ran.ensures.bricks sound);
       sink = ran.ensures.sink;
       done = λ s sound sink has. ran.ensures.done (c.in-Ok.ensures.kept.stays s) sound (c.in-Ok.ensures.gives s) sink
-          (client_lends c.in-Ok.link _ _ (lends_told _ _ _ _ _ _ c.in-Ok.ensures.lends) has);
+          (client_lends c.args.task c.in-Ok.link _ _ (lends_told _ _ _ _ _ _ c.in-Ok.ensures.lends) has);
     }

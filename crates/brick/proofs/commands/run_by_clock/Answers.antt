@@ -5,11 +5,11 @@ use Rattle.fab_host.specs.declared.hosts.Asked.TheVariants as calls
 use Rattle.brick.specs.Endings.{status_of, IsDone}
 use Rattle.brick.specs.Hosts.{host_seen, IsRefused}
 use Rattle.brick.specs.Locals.{HostsByClient}
-use Rattle.brick.specs.Views.{views}
+use Rattle.brick.specs.Views.{views, streams}
 use Rattle.brick.proofs.Knowing.{clock_borrowed, clock_lent}
 use Rattle.brick.proofs.Lending.{lends_told, regains_told}
 use Rattle.brick.proofs.MayHosting.{clock_lends}
-use Rattle.brick.proofs.Refusing.{err_knows, refused_by, refused_done, refused_not_sink}
+use Rattle.brick.proofs.Refusing.{err_knows, refused_by, refused_done, refused_not_sink, not_out}
 use Rattle.brick.proofs.SameBricks.{same_refl}
 use Rattle.brick.proofs.commands.run_by_clock.Goals as goal
 
@@ -34,7 +34,7 @@ returns-in-Err g c =
       runs_still = λ run not. run;
       knows = err_knows _ _ _ _ fault said.lends;
       stays = λ s sound. (said.kept.stays s, sound);
-      sink = Kept-narrower (λ e. absurd (refused_not_sink fault (ap status_of (sym c.refusal.ensures) ∙ e))) (Kept-refl _ _);
+      sink = Kept-narrower (λ e. absurd (not_out c.args.task c.refusal.result (λ six. refused_not_sink fault (ap status_of (sym c.refusal.ensures) ∙ six)) e)) (Kept-refl _ _);
       done = λ s sound sink has. subst IsDone (sym c.refusal.ensures)
           (refused_done (host.holds c.args.host.now) fault has (λ e. said.kept.only s (ap (λ z. Err z) e)) (λ h p q. p.0 q));
     }
@@ -57,8 +57,8 @@ returns g c =
             later = c.in-Ok.ensures.kept.later;
             told = lends_told _ _ _ _ _ _ c.in-Ok.ensures.lends;
           };
-          does = subst (λ (n : ℕ). HostsByClient g.H.Source.Source.told g.H.Source.Source.faults (views g.H.Disk.Disk g.H.Link.Link g.H.Clock.Clock)
-              c.args.layout.now c.args.turns began ended (record { bricks = record { bricks = c.args.bricks.bricks; room = n }; clock = c.in-Ok.clock }) ran.result.0
+          does = subst (λ (n : ℕ). HostsByClient (streams g.H.Source.Source g.H.Input.Source g.H.Output.Sink) (views g.H.Disk.Disk g.H.Link.Link g.H.Clock.Clock)
+              c.args.layout.now c.args.task began ended (record { bricks = record { bricks = c.args.bricks.bricks; room = n }; clock = c.in-Ok.clock }) ran.result.0
               (g.K.Sink.told c.args.out.now) (g.K.Sink.told ran.new.out) ran.result.1)
               c.requires ran.ensures.hosts;
           asked = c.keep_clock.ensures.asked;
@@ -75,5 +75,5 @@ returns g c =
           (c.keep_clock.ensures.sound after.1.1 after.0, after.1.0);
       sink = ran.ensures.sink;
       done = λ s sound sink has. ran.ensures.done (c.in-Ok.ensures.kept.stays s) (sound, c.in-Ok.ensures.gives s) sink
-          (clock_lends c.in-Ok.clock _ _ (lends_told _ _ _ _ _ _ c.in-Ok.ensures.lends) has);
+          (clock_lends c.args.task c.in-Ok.clock _ _ (lends_told _ _ _ _ _ _ c.in-Ok.ensures.lends) has);
     }

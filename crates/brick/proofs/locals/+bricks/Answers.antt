@@ -13,12 +13,12 @@ use Rattle.brick.specs.declared.endings.Ending.TheVariants.{Memory, Disk}
 use Rattle.brick.specs.Endings.{status_of, IsDone}
 use Rattle.brick.specs.Hosts.{host_seen, Told, IsRefused}
 use Rattle.brick.specs.Locals.{disk_name, AreSame, AreRunning, HostsFrom, HostsByDisk, HostsByLink}
-use Rattle.brick.specs.Views.{views}
+use Rattle.brick.specs.Views.{views, streams}
 use Rattle.brick.proofs.FromBrick.{from_next, from_last}
 use Rattle.brick.proofs.Knowing.{disk_borrowed, disk_lent, link_borrowed, link_lent, knows_same}
 use Rattle.brick.proofs.Lending.{lends_told, regains_told, told_same}
 use Rattle.brick.proofs.MayHosting.{brick_there, disk_lends, link_lends, ends_there}
-use Rattle.brick.proofs.Refusing.{err_knows, refused_by, refused_done, refused_not_sink}
+use Rattle.brick.proofs.Refusing.{err_knows, refused_by, refused_done, refused_not_sink, not_out}
 use Rattle.brick.proofs.SameBricks.{same_refl, same_last, some_last, all_more, all_last}
 use Rattle.brick.proofs.Starting.{shown_as}
 use Rattle.brick.proofs.Turning.{disk_or_not}
@@ -30,13 +30,13 @@ pub host_bricks-returns-then-id-bricks : goal.host_bricks-returns-then-id-bricks
 host_bricks-returns-then-id-bricks g t c =
     let ran = c.run_by_clock.ensures in
     record {
-      hosts = from_last _ _ _ _ _ _ _ _ _ _ _ _ _ _ (omega arith) ran.hosts;
+      hosts = from_last _ _ _ _ _ _ _ _ _ _ _ _ _ (omega arith) ran.hosts;
       same = ran.same;
       runs_still = ran.runs_still (search rules);
       knows = ran.knows;
       stays = ran.stays;
       sink = ran.sink;
-      done = λ s sound sink has. ran.done s sound sink (ends_there _ _ _ _ _ _ has);
+      done = λ s sound sink has. ran.done s sound sink (ends_there _ _ _ _ _ _ _ has);
     }
 
 -- no memory was left for the name of the disk
@@ -48,13 +48,13 @@ host_bricks-returns-in-Err g t c =
     let out = g.K.Sink.told c.args.out.now in
     let first = c.args.bricks.bricks in
     record {
-      hosts = from_next g.H.Source.Source.told g.H.Source.Source.faults v c.args.layout.now c.args.prefix.now c.args.turns out out Memory c.args.id first first
+      hosts = from_next (streams g.H.Source.Source g.H.Input.Source g.H.Output.Sink) v c.args.layout.now c.args.prefix.now c.args.task out out Memory c.args.id first first
           before before (omega arith) (inl ((refl, told_same (λ h now. now ≡ h) _ (λ h. refl)), refl, refl));
       same = same_refl first;
       runs_still = λ not. search rules;
       knows = knows_same _;
       stays = λ s sound. (s, sound);
-      sink = Kept-narrower (λ e. absurd (omega (arith, e))) (Kept-refl _ _);
+      sink = Kept-narrower (λ e. absurd (not_out c.args.task Memory (λ six. omega (arith, six)) e)) (Kept-refl _ _);
       done = λ s sound sink has. tt;
     }
 
@@ -73,7 +73,7 @@ host_bricks-returns-in-Err-disk g t c =
     let said = c.in-Err-disk.ensures in
     let name_is : c.as_str-name.result.now ≡ name = c.as_str-name.ensures.value ∙ c.in-Ok.ensures in
     record {
-      hosts = from_next g.H.Source.Source.told g.H.Source.Source.faults v c.args.layout.now c.args.prefix.now c.args.turns out out c.refusal.result c.args.id first first
+      hosts = from_next (streams g.H.Source.Source g.H.Input.Source g.H.Output.Sink) v c.args.layout.now c.args.prefix.now c.args.task out out c.refusal.result c.args.id first first
           before after (omega arith) (inl (
             subst (λ n. IsRefused before after (calls.Disk n false) c.refusal.result) name_is
                 (subst (IsRefused before after (calls.Disk c.as_str-name.result.now false)) (sym c.refusal.ensures)
@@ -86,7 +86,7 @@ host_bricks-returns-in-Err-disk g t c =
       runs_still = λ not. search rules;
       knows = err_knows _ _ _ _ fault (said.lends refl);
       stays = λ s sound. (said.kept.stays s, sound);
-      sink = Kept-narrower (λ e. absurd (refused_not_sink fault (ap status_of (sym c.refusal.ensures) ∙ e))) (Kept-refl _ _);
+      sink = Kept-narrower (λ e. absurd (not_out c.args.task c.refusal.result (λ six. refused_not_sink fault (ap status_of (sym c.refusal.ensures) ∙ six)) e)) (Kept-refl _ _);
       done = λ s sound sink has. subst IsDone (sym c.refusal.ensures)
           (refused_done (host.holds c.args.host.now) fault has (λ e. said.kept.only s (ap (λ z. Err z) e))
           (λ h p q. brick_there d.tells d.seen c.args.layout.now c.args.prefix.now me h (p.each c.args.id (omega arith) (omega arith))
@@ -110,12 +110,12 @@ host_bricks-returns g t c =
     let said = g.K.Sink.told hosted.new.out in
     let name_is : c.as_str-name.result.now ≡ name = c.as_str-name.ensures.value ∙ c.in-Ok.ensures in
     let lends = lends_told _ _ _ _ _ _ (c.in-Ok-disk.ensures.lends refl) in
+    let next = HostsFrom (streams g.H.Source.Source g.H.Input.Source g.H.Output.Sink) v c.args.layout.now c.args.prefix.now c.args.task
+    (g.K.Sink.told c.args.out.now) said hosted.result.2 (c.args.id + 1) in
     record {
-      hosts = from_next _ _ v c.args.layout.now c.args.prefix.now c.args.turns (g.K.Sink.told c.args.out.now) said hosted.result.2 c.args.id
+      hosts = from_next _ v c.args.layout.now c.args.prefix.now c.args.task (g.K.Sink.told c.args.out.now) said hosted.result.2 c.args.id
           c.args.bricks.bricks hosted.result.0.bricks before after (omega arith)
-          (subst (λ n. HostsByDisk v c.args.layout.now (record { 0 = c.args.id }) n
-          (HostsFrom g.H.Source.Source.told g.H.Source.Source.faults v c.args.layout.now c.args.prefix.now c.args.turns (g.K.Sink.told c.args.out.now) said
-          hosted.result.2 (c.args.id + 1)) before after c.args.bricks.bricks hosted.result.0.bricks
+          (subst (λ n. HostsByDisk v c.args.layout.now (record { 0 = c.args.id }) n next before after c.args.bricks.bricks hosted.result.0.bricks
           (g.K.Sink.told c.args.out.now) said hosted.result.2) name_is (inr (
             c.in-Ok-disk.disk,
             hosted.result.1,
@@ -137,7 +137,7 @@ host_bricks-returns g t c =
           (c.keep_disk.ensures.sound held.2 held.0, held.1);
       sink = inner.sink;
       done = λ s sound sink has.
-          let starts = disk_lends d.tells d.seen c.args.layout.now c.args.prefix.now c.args.id c.in-Ok-disk.disk _ _ (omega arith) c.bricks.ensures.limits.few_bricks
+          let starts = disk_lends d.tells d.seen c.args.layout.now c.args.prefix.now c.args.task c.args.id c.in-Ok-disk.disk _ _ (omega arith) c.bricks.ensures.limits.few_bricks
           (subst (λ n. Told (host.holds c.args.host.now) (host.holds c.disk.new.self) (λ h now. (h.disks n ≡ here c.in-Ok-disk.disk) × (now ≡ with_disk h n lent)))
           name_is lends) has in
           inner.done (c.in-Ok-disk.ensures.kept.stays s) sound (c.in-Ok-disk.ensures.gives s) sink starts.0 starts.1;
@@ -190,7 +190,7 @@ host_store-returns-in-Err g t c =
       runs_still = λ not. search rules;
       knows = knows_same _;
       stays = λ s sound whole. (s, sound, said.sound whole);
-      sink = Kept-narrower (λ e. absurd (said.sink e)) (Kept-refl _ _);
+      sink = Kept-narrower (λ e. absurd (not_out c.args.task c.in-Err.ending said.sink e)) (Kept-refl _ _);
       done = λ s sound whole sink may has. said.done whole may;
     }
 
@@ -230,7 +230,7 @@ host_link-returns-in-Err g t c =
       runs = λ not. search rules;
       knows = err_knows _ _ _ _ fault said.lends;
       stays = λ s sound whole. (said.kept.stays s, sound, whole);
-      sink = Kept-narrower (λ e. absurd (refused_not_sink fault (ap status_of (sym c.refusal.ensures) ∙ e))) (Kept-refl _ _);
+      sink = Kept-narrower (λ e. absurd (not_out c.args.task c.refusal.result (λ six. refused_not_sink fault (ap status_of (sym c.refusal.ensures) ∙ six)) e)) (Kept-refl _ _);
       done = λ s sound whole sink has. subst IsDone (sym c.refusal.ensures)
           (refused_done (host.holds c.args.host.now) fault has (λ e. said.kept.only s (ap (λ z. Err z) e))
           (λ h p q. p.link (subst (λ n. IsMissing (h.links n)) c.port_of-port.ensures.value q)));
@@ -264,6 +264,7 @@ host_link-returns g t c =
     let more_after = last.ensures.1 in
     let taken = last.ensures.2 in
     let lends = lends_told _ _ _ _ _ _ c.in-Ok.ensures.lends in
+    let from = HostsFrom (streams g.H.Source.Source g.H.Input.Source g.H.Output.Sink) v layout c.args.prefix.now c.args.task out said hosted.result.1 (me.0 + 1) in
     let same : AreSame (first ++ (brick ∷ [])) (first_after ++ (brick_after ∷ [])) =
     subst (λ bs. AreSame (first ++ (brick ∷ [])) bs) more_after (subst (λ bs. AreSame bs hosted.result.0.bricks) more inner.same) in
     let both = same_last first first_after brick brick_after same in
@@ -277,7 +278,7 @@ host_link-returns g t c =
       link = subst l.sound (sym begins.link_is) linked;
     })) in
     record {
-      hosts = subst (λ p. HostsByLink p (HostsFrom g.H.Source.Source.told g.H.Source.Source.faults v layout c.args.prefix.now c.args.turns out said hosted.result.1 (me.0 + 1)) before after first first_after c.args.node last.result.0 out said hosted.result.1) c.port_of-port.ensures.value (inr (
+      hosts = subst (λ p. HostsByLink p from before after first first_after c.args.node last.result.0 out said hosted.result.1) c.port_of-port.ensures.value (inr (
         c.in-Ok.link,
         last.result.1,
         record {
@@ -290,8 +291,8 @@ host_link-returns g t c =
             begins,
             sym (ap (λ p. p.0) taken),
             sym (ap (λ p. p.1) taken),
-            subst (λ bs. HostsFrom g.H.Source.Source.told g.H.Source.Source.faults v layout c.args.prefix.now c.args.turns out said hosted.result.1 (me.0 + 1) (first ++ (brick ∷ [])) bs began ended) more_after
-                (subst (λ bs. HostsFrom g.H.Source.Source.told g.H.Source.Source.faults v layout c.args.prefix.now c.args.turns out said hosted.result.1 (me.0 + 1) bs hosted.result.0.bricks began ended) more inner.hosts),
+            subst (λ bs. from (first ++ (brick ∷ [])) bs began ended) more_after
+                (subst (λ bs. from bs hosted.result.0.bricks began ended) more inner.hosts),
           );
           asked = c.keep_link.ensures.asked;
           faults = c.keep_link.ensures.faults;
@@ -315,7 +316,7 @@ host_link-returns g t c =
           );
       sink = inner.sink;
       done = λ s sound whole sink has. inner.done (c.in-Ok.ensures.kept.stays s) (standing (c.in-Ok.ensures.gives s) sound whole) sink
-          (link_lends d.tells d.seen layout c.args.prefix.now me c.in-Ok.link _ _ (subst (λ p. 0 < p) c.port_of-port.ensures.value c.port_of-port.ensures.some)
+          (link_lends d.tells d.seen layout c.args.prefix.now c.args.task me c.in-Ok.link _ _ (subst (λ p. 0 < p) c.port_of-port.ensures.value c.port_of-port.ensures.some)
           (subst (λ p. Told (host.holds c.args.host.now) (host.holds c.link.new.self) (λ h now. (h.links p ≡ here c.in-Ok.link) × (now ≡ with_link h p lent)))
           c.port_of-port.ensures.value lends) has);
     }

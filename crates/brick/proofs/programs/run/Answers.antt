@@ -1,7 +1,7 @@
 -- What was done, and then printed.
-use Rattle.brick.specs.Endings.{text_of, status_of}
+use Rattle.brick.specs.Endings.{text_of}
 use Rattle.brick.proofs.InOrder.{in_order}
-use Rattle.brick.proofs.Printing.{kept_six, completes}
+use Rattle.brick.proofs.Printing.{kept_out, completes}
 use Rattle.brick.proofs.programs.run.Goals as goal
 
 pub returns : goal.returns
@@ -15,9 +15,9 @@ returns g c =
         ending = ending;
         works = done.works;
         printed = last.printed;
-        asks = in_order _ _ _ _ _ _ _ _ _ _ (text_of ending) _ done.works last.printed;
+        asks = in_order _ _ _ _ _ _ _ _ _ (text_of ending) _ done.works last.printed;
+        sink = kept_out c.args.words.work ending c.finish.result done.sink last.kept;
       };
       stays = done.stays;
-      sink = kept_six (status_of ending) c.finish.result done.sink last.kept;
       complete = λ s sink may. completes ending _ _ (text_of ending) c.finish.result (done.done s sink may) last.printed (last.kept.never (done.sink.stays sink));
     }

@@ -1,0 +1,42 @@
+-- A client was served until its session ended, or until a fault.
+use Rattle.std.proofs.Common.{Err, inl, inr, refl, sym, ap, ◌∙◌, subst}
+use Rattle.brick.specs.Endings.{IsDone}
+use Rattle.brick.specs.Locals.{ending_by}
+use Rattle.brick.specs.Views.{views}
+use Rattle.brick.proofs.MayHosting.{rose_by, run_done}
+use Rattle.brick.proofs.SameBricks.{same_session, same_session_until, run_session, run_session_until, rose_session}
+use Rattle.brick.proofs.commands.serve.Goals as goal
+
+pub returns-in-Ok-clause-runs : goal.returns-in-Ok-clause-runs
+returns-in-Ok-clause-runs g c = inl (c.in-Ok.end, refl, (rw c.in-Ok.is at c.serve_session-bricks.ensures.serves))
+
+pub returns-in-Ok-clause-same : goal.returns-in-Ok-clause-same
+returns-in-Ok-clause-same g c = same_session (views g.D.Disk g.L.Link g.C.Clock) _ _ _ _ c.in-Ok.end (rw c.in-Ok.is at c.serve_session-bricks.ensures.serves)
+
+pub returns-in-Ok-clause-runs_still : goal.returns-in-Ok-clause-runs_still
+returns-in-Ok-clause-runs_still g c = λ run not. run_session (views g.D.Disk g.L.Link g.C.Clock) _ _ _ _ c.in-Ok.end run (rw c.in-Ok.is at c.serve_session-bricks.ensures.serves)
+
+pub returns-in-Err : goal.returns-in-Err
+returns-in-Err g c =
+    let v = views g.D.Disk g.L.Link g.C.Clock in
+    let ran = c.serve_session-bricks.ensures in
+    let fault = c.in-Err.fault in
+    let stopped = rw c.in-Err.is at ran.stopped in
+    record {
+      runs = inr (
+        fault,
+        c.ending_by.ensures,
+        stopped,
+        rose_by v fault _ _ _ _ _ _ (λ e run. rose_session v _ _ _ _ fault e run stopped) (λ e. ran.link.rose (c.in-Err.is ∙ ap (λ z. Err z) e))
+            (λ e. ran.source.rose (c.in-Err.is ∙ ap (λ z. Err z) e)),
+        λ e. ran.sink.rose (c.in-Err.is ∙ ap (λ z. Err z) e),
+      );
+      same = same_session_until v _ _ _ _ fault stopped;
+      runs_still = λ run not. run_session_until v _ _ _ _ fault run (λ e. not (c.ending_by.ensures ∙ ap ending_by e)) stopped;
+      bricks = ran.bricks.stays;
+      link = ran.link.stays;
+      source = ran.source.stays;
+      sink = ran.sink.stays;
+      done = λ bricks link source sink. subst IsDone (sym c.ending_by.ensures)
+          (run_done c.serve_session-bricks.result.2 fault c.in-Err.is (ran.sound bricks link source sink));
+    }
