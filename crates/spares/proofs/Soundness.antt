@@ -5,7 +5,7 @@ use Rattle.std.specs.List.{IsDistinct, AllByRecursion}
 use Rattle.std.proofs.lemmas.Bool.{cond_both, and_parts, not-true, eqb-true, eq-eqb}
 use Rattle.std.proofs.lemmas.Bool.Decides.{nat_tests}
 use Rattle.fab_base.specs.declared.identities.BrickId.{BrickId}
-use Rattle.layout.specs.Checks.{stands_in}
+use Rattle.quorum.specs.Memberships.{stands_in}
 use Rattle.spares.specs.Suspicions.{Suspicions, is_spare, suspects}
 use Rattle.spares.specs.Replacements.{AreBricks, IsReplacement, is_left, bricks_from, left_from, with_spares, replaced, are_same, list_for}
 

@@ -3,7 +3,7 @@ use Rattle.std.specs.Prelude.{◌≡◌, ◌≢◌, ℕ, zero, suc, ◌+◌, ◌
 use Rattle.std.specs.List.{IsDistinct, AllByRecursion}
 use Rattle.std.specs.Cmp.Lexicographic.{pointwise}
 use Rattle.fab_base.specs.declared.identities.BrickId.{BrickId}
-use Rattle.layout.specs.Checks.{stands_in}
+use Rattle.quorum.specs.Memberships.{stands_in}
 use Rattle.spares.specs.Suspicions.{Suspicions, is_spare, suspects}
 
 -- the brick is left to replace one of these members: it is of the pool, it is not suspected, and it is no member

@@ -3,7 +3,7 @@ use Rattle.std.specs.Prelude.{ℕ, ◌<◌, Bool, false, List, [], map, replicat
 use Rattle.std.specs.List.{range_with_len}
 use Rattle.fab_base.specs.declared.identities.BrickId.{BrickId}
 use Rattle.fab_base.specs.Layouts.{Layout}
-use Rattle.layout.specs.Checks.{stands_in}
+use Rattle.quorum.specs.Memberships.{stands_in}
 
 -- How many bricks the disk has; by brick, whether it is of the pool; and by brick, what it suspects: a row that says so of each brick.
 pub record Suspicions : Type 0 where

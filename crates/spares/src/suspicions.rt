@@ -2,7 +2,7 @@
 
 ghost use Rattle.std.specs.Prelude.{◌≡◌, ◌+◌, ◌<◌, ◌≤◌, ◌↔◌, [], ◌∷◌, true, false, IsTrue, IsNone, IfOk, IfSome, length, map, replicate, vec_len};
 ghost use Rattle.std.specs.List.{range_with_len};
-ghost use Rattle.layout.specs.Checks.{stands_in};
+ghost use Rattle.quorum.specs.Memberships.{stands_in};
 ghost use Rattle.spares.specs.Suspicions.{HasBoth, is_spare, suspects, unsuspecting, with_opinion};
 ghost use Rattle.spares.specs.Replacements.{AreBricks, IsReplacement, is_left, left_from, list_for, replaced, with_spares};
 
