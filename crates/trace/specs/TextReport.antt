@@ -1,10 +1,12 @@
 -- What `trace text` writes of a run.
-use Rattle.std.specs.Prelude.{◌≡◌, ◌≢◌, ℕ, ◌<◌, ◌⊎◌, List, [], ◌∷◌, ⊤, Option, Result, Ok, Err, slice_index, string_bytes}
+use Rattle.std.specs.Prelude.{◌≡◌, ◌≢◌, ℕ, ◌<◌, ◌⊎◌, List, [], ◌∷◌, ⊤, Option, None, Result, Ok, Err, slice_index, string_bytes}
 use Rattle.std.specs.Io.KnownBytes.{Appends, IsAtEnd}
 use Rattle.fab_io.specs.Ends.{AppendsFront}
 use Rattle.fab_base.specs.Layouts.{Layout}
+use Rattle.lines.specs.Grammar.{line_of}
 use Rattle.lines.specs.Lines.{content}
 use Rattle.lines.specs.Reading.{Passes, ReadsSchedule}
+use Rattle.layout.specs.declared.faults.LayoutFault.{LayoutFault}
 use Rattle.layout.specs.Texts.{layout_of}
 use Rattle.protocol.specs.Worlds.{first_world}
 use Rattle.stripe_code.specs.Codes.{coding}
@@ -14,9 +16,10 @@ use Rattle.world.specs.Steps.{Ran}
 use Rattle.printed.specs.Outputs.{steps_text}
 use Rattle.printed.specs.LineSteps.{LeadsTo, AreLinesOfSteps, AreStepsOf}
 use Rattle.replay.specs.declared.endings.RunResult.{RunResult}
-use Rattle.replay.specs.declared.endings.RunResult.TheVariants.{Whole, Refuted}
+use Rattle.replay.specs.declared.endings.RunResult.TheVariants.{Whole, BadLayout, BadLine, Refuted}
 use Rattle.replay.specs.declared.endings.Halt.{Halt}
 use Rattle.trace.specs.Told.{told_in, IsTold}
+use Rattle.trace.specs.Calls.{CallsFor, CallsBehind, IsLeftTo, PassesOne}
 use Rattle.trace.specs.declared.schedules.Opening.{Opening}
 use Rattle.trace.specs.declared.schedules.Opening.TheVariants as opening
 use Rattle.trace.specs.declared.schedules.Turn.{Turn}
@@ -73,35 +76,39 @@ IsNew layout world = (world ≡ record { layout = layout; steps = []; disks = wo
 -- a layout's text was read, and nothing was run over its disk yet; or it is none
 abbrev pub OpensLayout : List ℕ → Opening → Type 0
 OpensLayout head (opening.Opened world) = (layout_of head ≡ Ok world.layout) × IsNew world.layout world
-OpensLayout head (opening.Refused why) = IsSolid (string_bytes why)
+OpensLayout head (opening.Refused why) = IsSolid (string_bytes why) × ((fault : LayoutFault) × (layout_of head ≡ Err fault))
 
 -- an opening without a layout
 abbrev pub IsRefused : Opening → Type 0
 IsRefused (opening.Opened world) = ⊥
 IsRefused (opening.Refused why) = IsSolid (string_bytes why)
 
--- what was read before a schedule: a layout; or there is none
+-- what was read before a schedule: a layout, and all lines are left; or there is none, which ends the run
 abbrev pub Opens : Option (List ℕ) → Option (List ℕ) → Opening → Type 0
-Opens start now (opening.Opened world) = (head : List ℕ) × ReadsSchedule start now head [] × OpensLayout head (opening.Opened world)
-Opens start now (opening.Refused why) = IsSolid (string_bytes why)
+Opens start now (opening.Opened world) =
+    ((head : List ℕ) × ReadsSchedule start now head [] × OpensLayout head (opening.Opened world)) × IsLeftTo start 0 now
+Opens start now (opening.Refused why) = IsSolid (string_bytes why) × CallsFor start BadLayout
 
--- a turn of what is no line
-abbrev pub IsRefusal : Turn → Type 0
-IsRefusal (turn.Ran line run) = ⊥
-IsRefusal turn.Ended = ⊥
-IsRefusal (turn.Refused verdict why) = (verdict ≢ Whole) × (verdict ≢ Refuted) × IsSolid (string_bytes why)
+-- a turn that ends the run so, by what is no line
+abbrev pub IsRefusal : RunResult → Turn → Type 0
+IsRefusal verdict (turn.Ran line run) = ⊥
+IsRefusal verdict turn.Ended = ⊥
+IsRefusal verdict (turn.Refused other why) = (other ≡ verdict) × IsSolid (string_bytes why)
 
--- a line was run, or is none
-abbrev pub RunsLine : Run → Run → List ℕ → Turn → Type 0
-RunsLine before after raw (turn.Ran line run) = (line ≡ raw) × Ran before after (content line) run.printed
-RunsLine before after raw turn.Ended = ⊥
-RunsLine before after raw (turn.Refused verdict why) = IsRefusal (turn.Refused verdict why)
+-- a line was run, or is none, by its number
+abbrev pub RunsLine : Run → Run → ℕ → List ℕ → Turn → Type 0
+RunsLine before after number raw (turn.Ran line run) = (line ≡ raw) × Ran before after (content line) run.printed
+RunsLine before after number raw turn.Ended = ⊥
+RunsLine before after number raw (turn.Refused verdict why) =
+    IsRefusal (BadLine number) (turn.Refused verdict why) × (line_of (content raw) ≡ None)
 
--- what came next: a line, which was run; or nothing; or what is no line
-abbrev pub Turns : Run → Run → Option (List ℕ) → Option (List ℕ) → Turn → Type 0
-Turns before after start now (turn.Ran line run) = Passes start now (line ∷ []) × Ran before after (content line) run.printed
-Turns before after start now turn.Ended = IsAtEnd start
-Turns before after start now (turn.Refused verdict why) = IsRefusal (turn.Refused verdict why)
+-- what came next behind the first n lines: a line, which was run; or nothing; or what is no line, or one too many
+abbrev pub Turns : Run → Run → ℕ → Option (List ℕ) → Option (List ℕ) → Turn → Type 0
+Turns before after n start now (turn.Ran line run) =
+    (Passes start now (line ∷ []) × Ran before after (content line) run.printed) × PassesOne n start now
+Turns before after n start now turn.Ended = IsAtEnd start × CallsBehind n start Whole
+Turns before after n start now (turn.Refused verdict why) =
+    ((verdict ≢ Whole) × (verdict ≢ Refuted) × IsSolid (string_bytes why)) × CallsBehind n start verdict
 
 -- Lines of a schedule were run behind a layout, and a text was written that tells what `replay` prints for them.
 pub record TellsLines {T : Type 0} (first last : Run) (source left : Option (List ℕ)) (head : List ℕ) (old new : Option (List ℕ)) (result : Result T Halt)

@@ -1,5 +1,11 @@
 //! A run as a picture.
 
+ghost use Rattle.std.specs.Prelude.{◌≡◌, ◌≢◌, List, ℕ, Option, IfOk};
+ghost use Rattle.std.specs.Io.KnownBytes.{prepend_known};
+ghost use Rattle.fab_io.specs.Ends.{Kept};
+ghost use Rattle.trace.specs.Calls.{CallsFor, EndsAsCalled, IsLeftTo};
+ghost use Rattle.trace.specs.Words.{AreKept};
+
 use crate::schedules::{Opening, Turn, open, take_turn};
 use fab_io::{Sink, Source};
 use lines::{LineReader, content_of};
@@ -23,7 +29,9 @@ struct Outcome {
 }
 
 /// A picture of all lines, or of the first of so many.
-fn drawn(alloc: Global, picture: Text, lines: u64) -> Outcome {
+fn drawn(alloc: Global, picture: Text, lines: u64) -> Outcome
+    ensures { result.verdict ≡ RunResult.Whole }
+{
     let mut notice = Text::new(alloc);
     if lines > MOST_DRAWN {
         let numbers = [MOST_DRAWN, lines];
@@ -37,7 +45,9 @@ fn drawn(alloc: Global, picture: Text, lines: u64) -> Outcome {
 }
 
 /// No picture: how that ends the run, and what `replay` prints then, without its line feed.
-fn refused(alloc: Global, verdict: RunResult, why: &str) -> Outcome {
+fn refused(alloc: Global, verdict: RunResult, why: &str) -> Outcome
+    ensures { result.verdict ≡ verdict }
+{
     let mut notice = Text::new(alloc);
     notice.put(why);
     notice.put("\n");
@@ -54,7 +64,13 @@ fn draw_lines<S: Source>(
     world: &mut World,
     source: &mut S,
     unread: &mut LineReader,
-) -> Result<Outcome, Halt> {
+) -> Result<Outcome, Halt>
+    ensures called { (input : Option (List ℕ)) → IsLeftTo input 0 (prepend_known unread.old (S.told source.old))
+        → IfOk result (λ outcome. CallsFor input outcome.verdict) }
+    ensures kept { Kept (S.faults source.old) (S.faults source.new) (S.sound source.old) (S.sound source.new)
+        (result ≡ Err Halt.Source) }
+    ensures cause { result ≢ Err Halt.Sink }
+{
     let mut journal = Journal::new(alloc);
     let mut drawing = Drawing::new(alloc);
     for count in 0..u64::MAX {
@@ -78,7 +94,12 @@ fn draw_lines<S: Source>(
 }
 
 /// Runs a layout and a schedule from a source, and draws them.
-fn draw_source<S: Source>(alloc: Global, source: &mut S) -> Result<Outcome, Halt> {
+fn draw_source<S: Source>(alloc: Global, source: &mut S) -> Result<Outcome, Halt>
+    ensures called { IfOk result (λ outcome. CallsFor (S.told source.old) outcome.verdict) }
+    ensures kept { Kept (S.faults source.old) (S.faults source.new) (S.sound source.old) (S.sound source.new)
+        (result ≡ Err Halt.Source) }
+    ensures cause { result ≢ Err Halt.Sink }
+{
     let mut unread = LineReader::new(alloc);
     match open(alloc, source, &mut unread)? {
         Opening::Opened(mut world) => draw_lines(alloc, &mut world, source, &mut unread),
@@ -87,7 +108,11 @@ fn draw_source<S: Source>(alloc: Global, source: &mut S) -> Result<Outcome, Halt
 }
 
 /// Writes a text that was made.
-fn say<K: Sink>(sink: &mut K, text: &Text) -> Result<(), Halt> {
+fn say<K: Sink>(sink: &mut K, text: &Text) -> Result<(), Halt>
+    ensures kept { Kept (K.faults sink.old) (K.faults sink.new) (K.sound sink.old) (K.sound sink.new)
+        (result ≡ Err Halt.Sink) }
+    ensures cause { result ≢ Err Halt.Source }
+{
     write(sink, text.whole()?.as_bytes())
 }
 
@@ -97,7 +122,13 @@ pub(crate) fn draw<S: Source, K: Sink, E: Sink>(
     source: &mut S,
     sink: &mut K,
     errors: &mut E,
-) -> Result<RunResult, Halt> {
+) -> Result<RunResult, Halt>
+    ensures called { EndsAsCalled (S.told source.old) result }
+    ensures source { Kept (S.faults source.old) (S.faults source.new) (S.sound source.old) (S.sound source.new)
+        (result ≡ Err Halt.Source) }
+    ensures sinks { AreKept (K.faults sink.old) (K.faults sink.new) (E.faults errors.old) (E.faults errors.new)
+        (K.sound sink.old) (K.sound sink.new) (E.sound errors.old) (E.sound errors.new) (result ≡ Err Halt.Sink) }
+{
     let outcome = draw_source(alloc, source)?;
     say(sink, &outcome.picture)?;
     say(errors, &outcome.notice)?;

@@ -1,8 +1,9 @@
 //! The program's top call.
 
-ghost use Rattle.std.specs.Prelude.{◌≡◌, true, codes, map, string_bytes};
-ghost use Rattle.replay.specs.Replays.{is_word};
-ghost use Rattle.trace.specs.Words.{TextEnds};
+ghost use Rattle.std.specs.Prelude.{◌≡◌, ◌⊎◌, true, codes, map, string_bytes};
+ghost use Rattle.fab_io.specs.Ends.{Kept};
+ghost use Rattle.replay.specs.Replays.{is_word, IsDecided};
+ghost use Rattle.trace.specs.Words.{AreKept, TextEnds};
 
 use crate::drawings::draw;
 use crate::text_report::tell;
@@ -33,8 +34,15 @@ pub fn trace<S: Source, K: Sink, E: Sink>(
     sink: &mut K,
     errors: &mut E,
 ) -> u8
-    ensures { is_word (codes "text") (map string_bytes words.now) ≡ true
-        → TextEnds (S.told source.old) (K.told sink.old) (K.told sink.new) result }
+    ensures text { is_word (codes "text") (map string_bytes words.now) ≡ true
+        → TextEnds (S.told source.old) (K.told sink.old) (K.told sink.new) result × (errors.new ≡ errors.old) }
+    // A failure comes only where the count of faults of the source rose, or of a sink, and never from sound ends.
+    ensures source { Kept (S.faults source.old) (S.faults source.new) (S.sound source.old) (S.sound source.new) (result ≡ 5) }
+    ensures sinks { AreKept (K.faults sink.old) (K.faults sink.new) (E.faults errors.old) (E.faults errors.new)
+        (K.sound sink.old) (K.sound sink.new) (E.sound errors.old) (E.sound errors.new) (result ≡ 6) }
+    // Over sound ends a run answers what the input alone calls for, or that memory was lacking.
+    ensures decided { (is_word (codes "text") (map string_bytes words.now) ≡ true) ⊎ (is_word (codes "svg") (map string_bytes words.now) ≡ true)
+        → S.sound source.old → K.sound sink.old → E.sound errors.old → IsDecided (S.told source.old) result }
 {
     if is_word(words, "text") {
         return status_of(tell(alloc, source, sink));

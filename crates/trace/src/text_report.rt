@@ -1,8 +1,10 @@
 //! A run as text.
 
-ghost use Rattle.std.specs.Prelude.{◌≡◌, [], List, ℕ, Option, Some, IfOk, OnOk, string_bytes};
+ghost use Rattle.std.specs.Prelude.{◌≡◌, ◌≢◌, [], List, ℕ, Option, Some, IfOk, OnOk, string_bytes};
 ghost use Rattle.std.specs.Io.KnownBytes.{prepend_known};
+ghost use Rattle.fab_io.specs.Ends.{Kept};
 ghost use Rattle.lines.specs.Reading.{ReadsSchedule};
+ghost use Rattle.trace.specs.Calls.{EndsAsCalled, IsLeftTo};
 ghost use Rattle.trace.specs.Told.{IsTold, IsStepText};
 ghost use Rattle.trace.specs.TextReport.{EndsAs, IsSolid, Tells, TellsRest, WritesTold};
 
@@ -71,7 +73,10 @@ fn tell_line<K: Sink>(
     run: &LineRun,
 ) -> Result<(), Halt>
     requires { IsStepText run.now.printed }
-    ensures { WritesTold result (K.told sink.old) (K.told sink.new) run.now.printed }
+    ensures writes { WritesTold result (K.told sink.old) (K.told sink.new) run.now.printed }
+    ensures kept { Kept (K.faults sink.old) (K.faults sink.new) (K.sound sink.old) (K.sound sink.new)
+        (result ≡ Err Halt.Sink) }
+    ensures cause { result ≢ Err Halt.Source }
 {
     let page = line_page(alloc, sent, journal, number, content, run)?;
     write(sink, page.as_slice())
@@ -114,6 +119,9 @@ fn finish<K: Sink>(
 ) -> Result<RunResult, Halt>
     ensures writes { WritesTold result (K.told sink.old) (K.told sink.new) [] }
     ensures ends { EndsAs RunResult.Whole result }
+    ensures kept { Kept (K.faults sink.old) (K.faults sink.new) (K.sound sink.old) (K.sound sink.new)
+        (result ≡ Err Halt.Sink) }
+    ensures cause { result ≢ Err Halt.Source }
 {
     let page = closing_page(alloc, world, journal)?;
     write(sink, page.as_slice())?;
@@ -130,6 +138,9 @@ fn refuse<K: Sink>(
     requires { IsSolid why.now }
     ensures writes { WritesTold result (K.told sink.old) (K.told sink.new) [] }
     ensures ends { EndsAs verdict result }
+    ensures kept { Kept (K.faults sink.old) (K.faults sink.new) (K.sound sink.old) (K.sound sink.new)
+        (result ≡ Err Halt.Sink) }
+    ensures cause { result ≢ Err Halt.Source }
 {
     let mut page = Page::new(alloc);
     page.head(why.as_bytes())?;
@@ -145,8 +156,13 @@ fn tell_lines<S: Source, K: Sink>(
     unread: &mut LineReader,
     sink: &mut K,
 ) -> Result<RunResult, Halt>
-    ensures { (input : Option (List ℕ)) (head : List ℕ) → ReadsSchedule input (prepend_known unread.old (S.told source.old)) head []
+    ensures tells { (input : Option (List ℕ)) (head : List ℕ) → ReadsSchedule input (prepend_known unread.old (S.told source.old)) head []
         → TellsRest world.old input head (K.told sink.old) (K.told sink.new) result }
+    ensures called { (input : Option (List ℕ)) → IsLeftTo input 0 (prepend_known unread.old (S.told source.old)) → EndsAsCalled input result }
+    ensures source { Kept (S.faults source.old) (S.faults source.new) (S.sound source.old) (S.sound source.new)
+        (result ≡ Err Halt.Source) }
+    ensures sink { Kept (K.faults sink.old) (K.faults sink.new) (K.sound sink.old) (K.sound sink.new)
+        (result ≡ Err Halt.Sink) }
 {
     let mut journal = Journal::new(alloc);
     for count in 0..u64::MAX {
@@ -170,7 +186,12 @@ pub(crate) fn tell<S: Source, K: Sink>(
     source: &mut S,
     sink: &mut K,
 ) -> Result<RunResult, Halt>
-    ensures { Tells (S.told source.old) (K.told sink.old) (K.told sink.new) result }
+    ensures tells { Tells (S.told source.old) (K.told sink.old) (K.told sink.new) result }
+    ensures called { EndsAsCalled (S.told source.old) result }
+    ensures source { Kept (S.faults source.old) (S.faults source.new) (S.sound source.old) (S.sound source.new)
+        (result ≡ Err Halt.Source) }
+    ensures sink { Kept (K.faults sink.old) (K.faults sink.new) (K.sound sink.old) (K.sound sink.new)
+        (result ≡ Err Halt.Sink) }
 {
     let mut unread = LineReader::new(alloc);
     match open(alloc, source, &mut unread)? {
