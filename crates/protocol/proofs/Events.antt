@@ -5,12 +5,13 @@ use Rattle.std.proofs.lemmas.Bool.{cond_both}
 use Rattle.fab_base.specs.declared.identities.BrickId.{BrickId}
 use Rattle.fab_base.specs.declared.asks.Ask.{Ask}
 use Rattle.fab_base.specs.declared.stamps.Stamp.{Stamp}
+use Rattle.fab_base.specs.declared.stamps.Ballot.{Ballot}
 use Rattle.messages.specs.declared.packets.Packet.{Packet}
 use Rattle.protocol.specs.Settings.{Setting}
 use Rattle.protocol.specs.declared.tellings.Told.{Told}
 use Rattle.protocol.specs.declared.tellings.Told.TheVariants.{Made, Seen}
 use Rattle.protocol.specs.declared.tellings.Answered.{Answered}
-use Rattle.protocol.specs.Nodes.{Node, NodeStep, put, invoked, received}
+use Rattle.protocol.specs.Nodes.{Node, NodeStep, Report, put, invoked, received}
 use Rattle.protocol.specs.Worlds.{World, Found, Before, After, Event, Invokes, Delivers, Sets, Ticks, Stops, Starts, first_world, is_brick, is_up, may_begin, may_start, replies_with, delivered, packet_of, world_began, world_told, world_tells, world_answered, world_answers, world_stepped, world_ticked, world_stopped, world_found, world_started, happens, run}
 
 -- a brick's step on a packet
@@ -119,16 +120,17 @@ pub onward : (P : World → Type 0) (setting : Setting) → ((events : List Even
     → (events more : List Event) → P (run setting more (run setting events (first_world setting.layout)))
 onward P setting all events more = subst P (run-append setting (first_world setting.layout) events more) (all (events ++ more))
 
--- A brick's step keeps a fact that is not of bricks, of what they have held or of packets, where what it tells and what it answers do.
+-- A brick's step keeps a fact that is not of bricks, of what they have held, accepted or reported, or of packets, where what it tells and what it answers do.
 pub stepped_each : (P : World → Type 0) (setting : Setting) (me : BrickId) (step : NodeStep)
     → (made : (x : World) (seq : ℕ) (t : Stamp) (base : Option Stamp) → P x → P (world_told setting x me (Made seq t base)))
     → (seen : (x : World) (seq : ℕ) (v : Stamp) → P x → P (world_told setting x me (Seen seq v)))
     → (answers : (x : World) (answered : Answered) → P x → P (world_answered x me answered))
-    → (keeps : (x : World) (nodes : ℕ → Node) (held : ℕ → ℕ → ℕ → Stamp → Bool) (packets : List Packet) → P x
-    → P (record x { nodes = nodes; held = held; packets = packets }))
+    → (keeps : (x : World) (nodes : ℕ → Node) (held : ℕ → ℕ → ℕ → Stamp → Bool) (packets : List Packet)
+    (votes : ℕ → ℕ → ℕ → Ballot → Option (List BrickId)) (reports : List (BrickId × Report)) → P x
+    → P (record x { nodes = nodes; held = held; packets = packets; votes = votes; reports = reports }))
     → (w : World) → P w → P (world_stepped setting w me step)
 stepped_each P setting me step made seen answers keeps w holds =
-    keeps (world_answers (world_tells setting w me step.told) me step.answers) _ _ _ (answer step.answers _ (tell step.told w holds))
+    keeps (world_answers (world_tells setting w me step.told) me step.answers) _ _ _ _ _ (answer step.answers _ (tell step.told w holds))
   where
     tell : (told : List Told) (x : World) → P x → P (world_tells setting x me told)
     tell [] x now = now
