@@ -34,7 +34,8 @@ use Rattle.brick_store.specs.Standing.{AllSlots, IsCached, IsStored, GroupHasMem
 use Rattle.brick_store.specs.Steps.{changed, Step}
 use Rattle.brick_store.specs.Ends.{end_of, StateChange}
 use Rattle.brick_store.proofs.Changed.{changed_to, not_full}
-use Rattle.brick_store.proofs.Changing.{brick_of, Told, may_of, stored_still, changes_tried, standing_after}
+use Rattle.brick_store.proofs.Lengths.{lists_refused}
+use Rattle.brick_store.proofs.Changing.{Longer, brick_of, Told, may_of, stored_still, changes_tried, standing_after}
 use Rattle.brick_store.proofs.Resolving.{resolved_same, slots_imply, live-resolved}
 
 -- no slot for want of memory
@@ -167,50 +168,48 @@ module _ {D : Type 0} (d : on_disk.Ghosts D) where
 
   -- what the record of a version with a block of its own says of the whole call
   pub changes_put : {calls : ℕ} (slot : ℕ) (bytes : List ℕ) (blocks : BTreeMap ℕ (List ℕ)) (zero_block : List ℕ) (old new : Held D) (index : Index)
-      (item : Record) (st_now next : StateOf Entry) (result : Result (Unit {0}) StoreFault)
+      (item : Record) (st_now next : StateOf Entry) (body : ℕ) (result : Result (Unit {0}) StoreFault)
       → Standing d.tells d.seen d.may_leave old index blocks zero_block → old.halted ≡ false → is_full (indexes.limits_of index) (state_of index) ≡ false
       → applied (indexes.limits_of index) item (state_of index) ≡ Some next
       → ((P : ℕ → Type 0) → P slot → AllSlots P (state_of index) → AllSlots P next)
       → slot < 4294967295 → get nat_cmp blocks slot ≡ Some bytes → AllSlots (λ other. other ≢ slot) (state_of index)
-      → Step d (state_of index)
-      (changed (indexes.limits_of index) item (state_of index)) old new result
+      → Step d (state_of index) (changed (indexes.limits_of index) item (state_of index)) (Longer old (state_of index) body) old new result
       → OnOk result (st_now ≡ changed (indexes.limits_of index) item (state_of index)) → OnErr result (st_now ≡ state_of index)
       → StateChange d calls old (Some (slot, bytes)) (state_of index) (changed (indexes.limits_of index) item (state_of index)) new.disk (end_of result)
       → Told d (brick_of blocks old (state_of index)) (brick_of blocks new st_now)
-      (resolved (cached old.shape.block blocks) next) true calls result
-  changes_put {calls} slot bytes blocks zero_block old new index item st_now next result standing runs free is slots small held unnamed step made not_made change =
+      (resolved (cached old.shape.block blocks) next) body true calls result
+  changes_put {calls} slot bytes blocks zero_block old new index item st_now next body result standing runs free is slots small held unnamed step made not_made change =
       let st = state_of index in
       let limits = indexes.limits_of index in
       let to = changed_to limits item st next is in
-      let step_next = subst (λ (n : StateOf Entry). Step d st n old new result) to step in
+      let step_next = subst (λ (n : StateOf Entry). Step d st n (Longer old st body) old new result) to step in
       let made_next = subst (λ (n : StateOf Entry). OnOk result (st_now ≡ n)) to made in
       let change_next = subst (λ (n : StateOf Entry). StateChange d calls old (Some (slot, bytes)) st n new.disk (end_of result)) to change in
       let records : limits.records ≡ old.shape.records = ap (λ (l : Limits). l.records) standing.indexed.limits_are in
       let before = stored_before slot bytes blocks zero_block old index standing runs unnamed in
-      changes_tried d (Some (slot, bytes)) blocks st next old new st_now true calls result (may_of d blocks zero_block old index standing runs)
+      changes_tried d (Some (slot, bytes)) blocks st next old new st_now body true calls result (may_of d blocks zero_block old index standing runs)
       (λ add at. not_full limits st free (at ∙ sym records))
       before (λ told content kept put. slots (IsStored old.shape blocks content) (stored_here slot bytes blocks old.shape content small held put)
       (before told content kept)) step_next made_next not_made change_next
 
   -- and that the store stands after it
-  pub standing_put : {calls : ℕ} (slot : ℕ) (bytes : List ℕ) (blocks : BTreeMap ℕ (List ℕ)) (zero_block : List ℕ) (old new : Held D) (index index_now : Index)
+  pub standing_put : {calls : ℕ} {Listed : ℕ → Type 0} (slot : ℕ) (bytes : List ℕ) (blocks : BTreeMap ℕ (List ℕ)) (zero_block : List ℕ) (old new : Held D) (index index_now : Index)
       (item : Record) (next : StateOf Entry) (result : Result (Unit {0}) StoreFault)
       → Standing d.tells d.seen d.may_leave old index blocks zero_block → old.halted ≡ false
       → applied (indexes.limits_of index) item (state_of index) ≡ Some next
       → ((P : ℕ → Type 0) → P slot → AllSlots P (state_of index) → AllSlots P next)
       → slot < 4294967295 → get nat_cmp blocks slot ≡ Some bytes → length bytes ≡ old.shape.block → AllSlots (λ other. other ≢ slot) (state_of index)
       → AllByRecursion GroupHasMembers next.groups → indexes.limits_of index_now ≡ indexes.limits_of index
-      → Step d (state_of index)
-      (changed (indexes.limits_of index) item (state_of index)) old new result
+      → Step d (state_of index) (changed (indexes.limits_of index) item (state_of index)) Listed old new result
       → OnOk result (state_of index_now ≡ changed (indexes.limits_of index) item (state_of index))
       → OnErr result (state_of index_now ≡ state_of index)
       → StateChange d calls old (Some (slot, bytes)) (state_of index) (changed (indexes.limits_of index) item (state_of index)) new.disk (end_of result)
       → Standing d.tells d.seen d.may_leave new index_now blocks zero_block
-  standing_put {calls} slot bytes blocks zero_block old new index index_now item next result standing runs is slots small held len unnamed members limits step made not_made change =
+  standing_put {calls} {Listed} slot bytes blocks zero_block old new index index_now item next result standing runs is slots small held len unnamed members limits step made not_made change =
       let st = state_of index in
       let to = changed_to (indexes.limits_of index) item st next is in
       let change_next = subst (λ (n : StateOf Entry). StateChange d calls old (Some (slot, bytes)) st n new.disk (end_of result)) to change in
-      let step_next = subst (λ (n : StateOf Entry). Step d st n old new result) to step in
+      let step_next = subst (λ (n : StateOf Entry). Step d st n Listed old new result) to step in
       let made_next = subst (λ (n : StateOf Entry). OnOk result (state_of index_now ≡ n)) to made in
       let shaped = subst (λ (l : Limits). applied l item st ≡ Some next) standing.indexed.limits_are is in
       let kept = applied_keeps (limits_of old.shape) item st next standing.indexed.kept shaped in
@@ -223,16 +222,17 @@ module _ {D : Type 0} (d : on_disk.Ghosts D) where
 
   -- a store of which a call was refused before it tried, for want of memory
   pub changes_stopped : (only_now : (disk : D) (image : List ℕ) → d.left_since disk (d.moment disk) image → d.may_leave disk image)
-      (blocks : BTreeMap ℕ (List ℕ)) (zero_block : List ℕ) (old : Held D) (index : Index) (after : StateOf Version) (calls : ℕ)
+      (blocks : BTreeMap ℕ (List ℕ)) (zero_block : List ℕ) (old : Held D) (index : Index) (after : StateOf Version) (body calls : ℕ)
       → Standing d.tells d.seen d.may_leave old index blocks zero_block → old.halted ≡ false → is_full (indexes.limits_of index) (state_of index) ≡ false
       → Told d (brick_of blocks old (state_of index))
-      (brick_of blocks old (state_of index)) after true calls (Err NoMemory)
-  changes_stopped only_now blocks zero_block old index after calls standing running free = (
+      (brick_of blocks old (state_of index)) after body true calls (Err NoMemory)
+  changes_stopped only_now blocks zero_block old index after body calls standing running free = (
     at_once d only_now calls (StandsFor old.shape (resolved (cached old.shape.block blocks) (state_of index))) _ (StandsFor old.shape after)
         (λ image at. inl at) old.disk,
     record {
       ok = tt;
       refused = record { shape = refl; state = refl };
+      listed = lists_refused NoMemory _ (size_of old.frames);
       answer = subst (λ n. IsAnswer old.shape.records n true old.halted old.halted (Err NoMemory))
           (sym (live-resolved (cached old.shape.block blocks) (state_of index))) memory;
     },
@@ -253,14 +253,14 @@ module _ {D : Type 0} (d : on_disk.Ghosts D) where
 
   -- in the words of what a clause sees of the store
   pub told_stopped : (only_now : (disk : D) (image : List ℕ) → d.left_since disk (d.moment disk) image → d.may_leave disk image)
-      (blocks : BTreeMap ℕ (List ℕ)) (zero_block : List ℕ) (old : Held D) (index : Index) (b : Brick D) (after : StateOf Version) (calls : ℕ)
+      (blocks : BTreeMap ℕ (List ℕ)) (zero_block : List ℕ) (old : Held D) (index : Index) (b : Brick D) (after : StateOf Version) (body calls : ℕ)
       (fault : StoreFault)
       → brick_of blocks old (state_of index) ≡ b → fault ≡ NoMemory → Standing d.tells d.seen d.may_leave old index blocks zero_block → old.halted ≡ false
       → is_full (indexes.limits_of index) (state_of index) ≡ false
-      → Told d b (brick_of blocks old (state_of index)) after true calls (Err fault)
-  told_stopped only_now blocks zero_block old index b after calls fault view memory standing runs free =
-      subst (λ (e : StoreFault). Told d b (brick_of blocks old (state_of index)) after true calls
+      → Told d b (brick_of blocks old (state_of index)) after body true calls (Err fault)
+  told_stopped only_now blocks zero_block old index b after body calls fault view memory standing runs free =
+      subst (λ (e : StoreFault). Told d b (brick_of blocks old (state_of index)) after body true calls
       (Err e)) (sym memory)
-      (subst (λ (x : Brick D). Told d x (brick_of blocks old (state_of index)) after true calls
+      (subst (λ (x : Brick D). Told d x (brick_of blocks old (state_of index)) after body true calls
       (Err NoMemory)) view
-      (changes_stopped only_now blocks zero_block old index after calls standing runs free))
+      (changes_stopped only_now blocks zero_block old index after body calls standing runs free))

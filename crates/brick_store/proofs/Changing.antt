@@ -35,9 +35,12 @@ use Rattle.brick_store.specs.Images.{records_of, limits_of, block_at, StandsFor}
 use Rattle.brick_store.specs.Standing.{Leads, AllSlots, IsCached, IsStored, GroupHasMembers, IsIndexed, IsOnDisk, Standing}
 use Rattle.brick_store.specs.Steps.{changed, LeadsTo, IsUnchanged, IsChanged, Step, CanChange, IsRefused}
 use Rattle.brick_store.specs.Ends.{end_of, StateChange, BrickChange}
+use Rattle.brick_store.specs.Calls.{has_room_for}
+use Rattle.brick_store.specs.Lengths.{IsAppended}
 use Rattle.brick_store.specs.Sizes.{view_size, known_size}
 use Rattle.brick_store.specs.Changes.{Answers}
 use Rattle.brick_state.proofs.Keeping.{applied_keeps}
+use Rattle.brick_store.proofs.Lengths.{lists_refused, lists_tried}
 use Rattle.brick_store.proofs.Stepping.{refused, slots_same}
 use Rattle.brick_store.proofs.Changed.{changed_to, not_full}
 use Rattle.brick_store.proofs.Resolving.{resolved_same, slots_imply, live-resolved}
@@ -172,14 +175,18 @@ refused_ends halted adds records live fault (inr is) =
     let f : fault ≡ Full live = cc in sym (ap (λ (x : StoreFault). end_of (refused x)) f)
 
 -- what a change promises: what became of the disk, and of the store
-abbrev pub Told : {D : Type 0} → on_disk.Ghosts D → Brick D → Brick D → StateOf Version → Bool → ℕ → Result (Unit {0}) StoreFault → Type 0
-Told d old new after adds calls result = BrickChange d calls old after new.disk (end_of result) × Answers old new after adds result
+abbrev pub Told : {D : Type 0} → on_disk.Ghosts D → Brick D → Brick D → StateOf Version → ℕ → Bool → ℕ → Result (Unit {0}) StoreFault → Type 0
+Told d old new after body adds calls result = BrickChange d calls old after new.disk (end_of result) × Answers old new after body adds result
 
 -- of the same answer
-pub told_as : {D : Type 0} (d : on_disk.Ghosts D) (old new : Brick D) (after : StateOf Version) (adds : Bool) (calls : ℕ)
-    (r other : Result (Unit {0}) StoreFault) → r ≡ other → Told d old new after adds calls other → Told d old new after adds calls r
-told_as d old new after adds calls r other is told =
-    subst (λ (a : Result (Unit {0}) StoreFault). Told d old new after adds calls a) (sym is) told
+pub told_as : {D : Type 0} (d : on_disk.Ghosts D) (old new : Brick D) (after : StateOf Version) (body : ℕ) (adds : Bool) (calls : ℕ)
+    (r other : Result (Unit {0}) StoreFault) → r ≡ other → Told d old new after body adds calls other → Told d old new after body adds calls r
+told_as d old new after body adds calls r other is told =
+    subst (λ (a : Result (Unit {0}) StoreFault). Told d old new after body adds calls a) (sym is) told
+
+-- how long the list is that a record with such a body is appended to
+abbrev pub Longer : {D : Type 0} → Held D → StateOf Entry → ℕ → ℕ → Type 0
+Longer old st body = IsAppended (has_room_for old.shape (size_of old.frames) body) (live st) (size_of old.frames) body
 
 module _ {D : Type 0} (d : on_disk.Ghosts D) where
   -- a store between two calls can be changed, while it is not halted
@@ -194,15 +201,15 @@ module _ {D : Type 0} (d : on_disk.Ghosts D) where
 
   -- what the change of the list says of the whole call
   pub changes_tried : (put : Option (ℕ × List ℕ)) (blocks : BTreeMap ℕ (List ℕ)) (st next : StateOf Entry) (old new : Held D) (st_now : StateOf Entry)
-      (adds : Bool) (calls : ℕ) (result : Result (Unit {0}) StoreFault)
+      (body : ℕ) (adds : Bool) (calls : ℕ) (result : Result (Unit {0}) StoreFault)
       → CanChange d st old → (adds ≡ true → live st ≢ old.shape.records)
       → (d.tells → (content : List ℕ) → KeepsSlots old.shape put (d.seen old.disk) content → AllSlots (IsStored old.shape blocks content) st)
       → (d.tells → (content : List ℕ) → KeepsSlots old.shape put (d.seen old.disk) content → StandsIn old.shape put content
       → AllSlots (IsStored old.shape blocks content) next)
-      → Step d st next old new result → OnOk result (st_now ≡ next) → OnErr result (st_now ≡ st)
+      → Step d st next (Longer old st body) old new result → OnOk result (st_now ≡ next) → OnErr result (st_now ≡ st)
       → StateChange d calls old put st next new.disk (end_of result)
-      → Told d (brick_of blocks old st) (brick_of blocks new st_now) (resolved (cached old.shape.block blocks) next) adds calls result
-  changes_tried put blocks st next old new st_now adds calls result may free before after step made not_made change = (
+      → Told d (brick_of blocks old st) (brick_of blocks new st_now) (resolved (cached old.shape.block blocks) next) body adds calls result
+  changes_tried put blocks st next old new st_now body adds calls result may free before after step made not_made change = (
     widen d calls (IsUnchanged old.shape put st (d.seen old.disk)) _ (IsChanged old.shape put next (d.seen old.disk))
         (StandsFor old.shape (resolved (cached old.shape.block blocks) st)) _ (StandsFor old.shape (resolved (cached old.shape.block blocks) next))
         old.disk new.disk (end_of result)
@@ -222,6 +229,9 @@ module _ {D : Type 0} (d : on_disk.Ghosts D) where
     record {
       ok = keeps_ok result made;
       refused = keeps_err result not_made;
+      listed = lists_tried result _ (size_of old.frames) (size_of new.frames)
+          (subst (λ (n : ℕ). OnOk result (IsAppended (has_room_for old.shape (size_of old.frames) body) n (size_of old.frames) body (size_of new.frames)))
+          (sym (live-resolved (cached old.shape.block blocks) st)) step.listed) step.as_long step.only;
       answer = subst (λ (b : Bool). IsAnswer old.shape.records (live (resolved (cached old.shape.block blocks) st)) adds b new.halted result)
           (sym may.runs)
           (subst (λ n. IsAnswer old.shape.records n adds false new.halted result) (sym (live-resolved (cached old.shape.block blocks) st))
@@ -243,10 +253,10 @@ module _ {D : Type 0} (d : on_disk.Ghosts D) where
       keeps_err (Err e) h = record { shape = step.shape; state = now_is st h }
 
   -- the store stands after the call
-  pub standing_after : {calls : ℕ} (put : Option (ℕ × List ℕ)) (blocks : BTreeMap ℕ (List ℕ)) (zero_block : List ℕ) (next : StateOf Entry)
+  pub standing_after : {calls : ℕ} {Listed : ℕ → Type 0} (put : Option (ℕ × List ℕ)) (blocks : BTreeMap ℕ (List ℕ)) (zero_block : List ℕ) (next : StateOf Entry)
       (old new : Held D) (index index_now : Index) (result : Result (Unit {0}) StoreFault)
       → Standing d.tells d.seen d.may_leave old index blocks zero_block → old.halted ≡ false
-      → indexes.limits_of index_now ≡ indexes.limits_of index → Step d (state_of index) next old new result
+      → indexes.limits_of index_now ≡ indexes.limits_of index → Step d (state_of index) next Listed old new result
       → OnOk result (state_of index_now ≡ next) → OnErr result (state_of index_now ≡ state_of index)
       → StateChange d calls old put (state_of index) next new.disk (end_of result)
       → IsKeptState (limits_of old.shape) next → AllByRecursion GroupHasMembers next.groups → AllSlots (IsCached old.shape.block blocks) next
@@ -315,12 +325,12 @@ module _ {D : Type 0} (d : on_disk.Ghosts D) where
 
   -- a store of which a call was refused before it tried
   pub changes_refused : (only_now : (disk : D) (image : List ℕ) → d.left_since disk (d.moment disk) image → d.may_leave disk image)
-      (blocks : BTreeMap ℕ (List ℕ)) (zero_block : List ℕ) (old : Held D) (index : Index) (after : StateOf Version) (adds : Bool) (calls : ℕ)
+      (blocks : BTreeMap ℕ (List ℕ)) (zero_block : List ℕ) (old : Held D) (index : Index) (after : StateOf Version) (body : ℕ) (adds : Bool) (calls : ℕ)
       (fault : StoreFault)
       → Standing d.tells d.seen d.may_leave old index blocks zero_block → IsRefused old.halted adds (indexes.limits_of index).records
       (live (state_of index)) (Err fault)
-      → Told d (brick_of blocks old (state_of index)) (brick_of blocks old (state_of index)) after adds calls (Err fault)
-  changes_refused only_now blocks zero_block old index after adds calls fault standing is = (
+      → Told d (brick_of blocks old (state_of index)) (brick_of blocks old (state_of index)) after body adds calls (Err fault)
+  changes_refused only_now blocks zero_block old index after body adds calls fault standing is = (
     subst (λ (end : End). BrickChange d calls (brick_of blocks old (state_of index)) after old.disk end)
         (refused_ends old.halted adds (indexes.limits_of index).records (live (state_of index)) fault is)
         (at_once d only_now calls (StandsFor old.shape (resolved (cached old.shape.block blocks) (state_of index))) _ (StandsFor old.shape after)
@@ -328,6 +338,7 @@ module _ {D : Type 0} (d : on_disk.Ghosts D) where
     record {
       ok = tt;
       refused = record { shape = refl; state = refl };
+      listed = lists_refused fault _ (size_of old.frames);
       answer = subst (λ n. IsAnswer old.shape.records n adds old.halted old.halted (Err fault))
           (sym (live-resolved (cached old.shape.block blocks) (state_of index)))
           (refused_answer old.shape.records (live (state_of index)) adds old.halted fault
@@ -345,47 +356,47 @@ module _ {D : Type 0} (d : on_disk.Ghosts D) where
 
   -- what the record of a change that adds no block of its own says of the whole call
   pub changes_plain : {calls : ℕ} (blocks : BTreeMap ℕ (List ℕ)) (zero_block : List ℕ) (old new : Held D) (index : Index) (item : Record)
-      (st_now next : StateOf Entry) (adds : Bool) (result : Result (Unit {0}) StoreFault)
+      (st_now next : StateOf Entry) (body : ℕ) (adds : Bool) (result : Result (Unit {0}) StoreFault)
       → Standing d.tells d.seen d.may_leave old index blocks zero_block → old.halted ≡ false
       → (adds ≡ true → is_full (indexes.limits_of index) (state_of index) ≡ false)
       → applied (indexes.limits_of index) item (state_of index) ≡ Some next → ((P : ℕ → Type 0) → P 4294967295 → AllSlots P (state_of index)
       → AllSlots P next)
-      → Step d (state_of index) (changed (indexes.limits_of index) item (state_of index)) old new result
+      → Step d (state_of index) (changed (indexes.limits_of index) item (state_of index)) (Longer old (state_of index) body) old new result
       → OnOk result (st_now ≡ changed (indexes.limits_of index) item (state_of index)) → OnErr result (st_now ≡ state_of index)
       → StateChange d calls old None (state_of index) (changed (indexes.limits_of index) item (state_of index)) new.disk (end_of result)
-      → Told d (brick_of blocks old (state_of index)) (brick_of blocks new st_now) (resolved (cached old.shape.block blocks) next) adds calls result
-  changes_plain {calls} blocks zero_block old new index item st_now next adds result standing runs free is slots step made not_made change =
+      → Told d (brick_of blocks old (state_of index)) (brick_of blocks new st_now) (resolved (cached old.shape.block blocks) next) body adds calls result
+  changes_plain {calls} blocks zero_block old new index item st_now next body adds result standing runs free is slots step made not_made change =
       let st = state_of index in
       let limits = indexes.limits_of index in
       let to = changed_to limits item st next is in
       let records : limits.records ≡ old.shape.records = ap (λ (l : Limits). l.records) standing.indexed.limits_are in
       let stored = stored_plain blocks zero_block old index standing runs in
-      changes_tried None blocks st next old new st_now adds calls result (may_of blocks zero_block old index standing runs)
+      changes_tried None blocks st next old new st_now body adds calls result (may_of blocks zero_block old index standing runs)
       (λ add at. not_full limits st (free add) (at ∙ sym records))
       stored (λ told content kept put. slots (IsStored old.shape blocks content) (inl refl) (stored told content kept))
-      (subst (λ (n : StateOf Entry). Step d st n old new result) to step)
+      (subst (λ (n : StateOf Entry). Step d st n (Longer old st body) old new result) to step)
       (subst (λ (n : StateOf Entry). OnOk result (st_now ≡ n)) to made) not_made
       (subst (λ (n : StateOf Entry). StateChange d calls old None st n new.disk (end_of result)) to change)
 
   -- and that the store stands after it
-  pub standing_plain : {calls : ℕ} (blocks : BTreeMap ℕ (List ℕ)) (zero_block : List ℕ) (old new : Held D) (index index_now : Index) (item : Record)
+  pub standing_plain : {calls : ℕ} {Listed : ℕ → Type 0} (blocks : BTreeMap ℕ (List ℕ)) (zero_block : List ℕ) (old new : Held D) (index index_now : Index) (item : Record)
       (next : StateOf Entry) (result : Result (Unit {0}) StoreFault)
       → Standing d.tells d.seen d.may_leave old index blocks zero_block → old.halted ≡ false
       → applied (indexes.limits_of index) item (state_of index) ≡ Some next → ((P : ℕ → Type 0) → P 4294967295 → AllSlots P (state_of index)
       → AllSlots P next)
       → AllByRecursion GroupHasMembers next.groups → indexes.limits_of index_now ≡ indexes.limits_of index
-      → Step d (state_of index) (changed (indexes.limits_of index) item (state_of index)) old new result
+      → Step d (state_of index) (changed (indexes.limits_of index) item (state_of index)) Listed old new result
       → OnOk result (state_of index_now ≡ changed (indexes.limits_of index) item (state_of index))
       → OnErr result (state_of index_now ≡ state_of index)
       → StateChange d calls old None (state_of index) (changed (indexes.limits_of index) item (state_of index)) new.disk (end_of result)
       → Standing d.tells d.seen d.may_leave new index_now blocks zero_block
-  standing_plain {calls} blocks zero_block old new index index_now item next result standing runs is slots members limits step made not_made change =
+  standing_plain {calls} {Listed} blocks zero_block old new index index_now item next result standing runs is slots members limits step made not_made change =
       let st = state_of index in
       let to = changed_to (indexes.limits_of index) item st next is in
       let shaped = subst (λ (l : Limits). applied l item st ≡ Some next) standing.indexed.limits_are is in
       let kept = applied_keeps (limits_of old.shape) item st next standing.indexed.kept shaped in
       standing_after {calls = calls} None blocks zero_block next old new index index_now result standing runs limits
-      (subst (λ (n : StateOf Entry). Step d st n old new result) to step)
+      (subst (λ (n : StateOf Entry). Step d st n Listed old new result) to step)
       (subst (λ (n : StateOf Entry). OnOk result (state_of index_now ≡ n)) to made) not_made
       (subst (λ (n : StateOf Entry). StateChange d calls old None st n new.disk (end_of result)) to change) kept members
       (slots (IsCached old.shape.block blocks) (inl refl) standing.cached_all)
@@ -394,33 +405,33 @@ module _ {D : Type 0} (d : on_disk.Ghosts D) where
 
   -- in the words of what a clause sees of the store
   pub told_of : (blocks : BTreeMap ℕ (List ℕ)) (old new : Held D) (st st_now next : StateOf Entry) (b : Brick D)
-      (F : StateOf Version → StateOf Version) (A : StateOf Version → Bool) (C : Brick D → ℕ) (adds : Bool) (calls : ℕ)
+      (F : StateOf Version → StateOf Version) (A : StateOf Version → Bool) (C : Brick D → ℕ) (body : ℕ) (adds : Bool) (calls : ℕ)
       (result : Result (Unit {0}) StoreFault)
       → brick_of blocks old st ≡ b → resolved (cached old.shape.block blocks) next ≡ F (resolved (cached old.shape.block blocks) st)
       → adds ≡ A (resolved (cached old.shape.block blocks) st) → calls ≡ C (brick_of blocks old st)
       → Told d (brick_of blocks old st) (brick_of blocks new st_now)
-      (resolved (cached old.shape.block blocks) next) adds calls result
-      → Told d b (brick_of blocks new st_now) (F b.state) (A b.state) (C b) result
-  told_of blocks old new st st_now next b F A C adds calls result view after add number tried =
-      subst (λ (x : Brick D). Told d x (brick_of blocks new st_now) (F x.state)
+      (resolved (cached old.shape.block blocks) next) body adds calls result
+      → Told d b (brick_of blocks new st_now) (F b.state) body (A b.state) (C b) result
+  told_of blocks old new st st_now next b F A C body adds calls result view after add number tried =
+      subst (λ (x : Brick D). Told d x (brick_of blocks new st_now) (F x.state) body
       (A x.state) (C x) result) view
       (subst (λ (n : ℕ). Told d (brick_of blocks old st) (brick_of blocks new st_now)
-      (F (resolved (cached old.shape.block blocks) st)) (A (resolved (cached old.shape.block blocks) st)) n result) number
+      (F (resolved (cached old.shape.block blocks) st)) body (A (resolved (cached old.shape.block blocks) st)) n result) number
       (subst (λ (a : StateOf Version). Told d (brick_of blocks old st)
-      (brick_of blocks new st_now) a (A (resolved (cached old.shape.block blocks) st)) calls result) after
+      (brick_of blocks new st_now) a body (A (resolved (cached old.shape.block blocks) st)) calls result) after
       (subst (λ (x : Bool). Told d (brick_of blocks old st) (brick_of blocks new st_now)
-      (resolved (cached old.shape.block blocks) next) x calls result) add tried)))
+      (resolved (cached old.shape.block blocks) next) body x calls result) add tried)))
 
   pub told_refused : (only_now : (disk : D) (image : List ℕ) → d.left_since disk (d.moment disk) image → d.may_leave disk image)
       (blocks : BTreeMap ℕ (List ℕ)) (zero_block : List ℕ) (old : Held D) (index : Index) (b : Brick D) (F : StateOf Version → StateOf Version)
-      (A : StateOf Version → Bool) (adds : Bool) (calls : ℕ) (fault : StoreFault)
+      (A : StateOf Version → Bool) (body : ℕ) (adds : Bool) (calls : ℕ) (fault : StoreFault)
       → brick_of blocks old (state_of index) ≡ b → adds ≡ A (resolved (cached old.shape.block blocks) (state_of index))
       → Standing d.tells d.seen d.may_leave old index blocks zero_block
       → IsRefused old.halted adds (indexes.limits_of index).records (live (state_of index)) (Err fault)
-      → Told d b b (F b.state) (A b.state) calls (Err fault)
-  told_refused only_now blocks zero_block old index b F A adds calls fault view add standing is =
+      → Told d b b (F b.state) body (A b.state) calls (Err fault)
+  told_refused only_now blocks zero_block old index b F A body adds calls fault view add standing is =
       let st = state_of index in
-      subst (λ (x : Brick D). Told d x x (F x.state) (A x.state) calls (Err fault)) view
+      subst (λ (x : Brick D). Told d x x (F x.state) body (A x.state) calls (Err fault)) view
       (subst (λ (x : Bool). Told d (brick_of blocks old st) (brick_of blocks old st)
-      (F (resolved (cached old.shape.block blocks) st)) x calls (Err fault)) add
-      (changes_refused only_now blocks zero_block old index (F (resolved (cached old.shape.block blocks) st)) adds calls fault standing is))
+      (F (resolved (cached old.shape.block blocks) st)) body x calls (Err fault)) add
+      (changes_refused only_now blocks zero_block old index (F (resolved (cached old.shape.block blocks) st)) body adds calls fault standing is))

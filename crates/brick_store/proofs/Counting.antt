@@ -67,12 +67,18 @@ disk_failed frames.Halted halted runs only_halted memory = absurd (differ (sym (
     differ e = cc
 disk_failed frames.NoMemory halted runs only_halted memory = absurd (memory refl)
 
--- an opening of a list that was read
+-- a list that was read can be appended to as one that is the same
+pub appendable_is : {D : Type 0} (held : Held D) (whole now : Bool) (shape : Shape) (listed : List Frame) (closed : Bool) → whole ≡ now
+    → held.shape ≡ shape → held.frames ≡ listed → held.closed ≡ closed
+    → is_appendable whole held 4 ≡ ((now && closed) && has_room_for shape (size_of listed) 4)
+appendable_is held whole now shape listed closed w s f e =
+    ap (λ (b : Bool). (b && held.closed) && has_room_for held.shape (size_of held.frames) 4) w
+    ∙ ap (λ (b : Bool). (now && b) && has_room_for held.shape (size_of held.frames) 4) e
+    ∙ ap (λ (x : Shape). (now && closed) && has_room_for x (size_of held.frames) 4) s
+    ∙ ap (λ (fs : List Frame). (now && closed) && has_room_for shape (size_of fs) 4) f
+
+-- so an opening of it makes as many calls
 pub opening_is : {D : Type 0} (held : Held D) (whole now : Bool) (shape : Shape) (listed : List Frame) (closed : Bool) → whole ≡ now
     → held.shape ≡ shape → held.frames ≡ listed → held.closed ≡ closed
     → opening_calls (is_appendable whole held 4) ≡ opening_calls ((now && closed) && has_room_for shape (size_of listed) 4)
-opening_is held whole now shape listed closed w s f e =
-    ap (λ (b : Bool). opening_calls ((b && held.closed) && has_room_for held.shape (size_of held.frames) 4)) w
-    ∙ ap (λ (b : Bool). opening_calls ((now && b) && has_room_for held.shape (size_of held.frames) 4)) e
-    ∙ ap (λ (x : Shape). opening_calls ((now && closed) && has_room_for x (size_of held.frames) 4)) s
-    ∙ ap (λ (fs : List Frame). opening_calls ((now && closed) && has_room_for shape (size_of fs) 4)) f
+opening_is held whole now shape listed closed w s f e = ap opening_calls (appendable_is held whole now shape listed closed w s f e)

@@ -10,6 +10,7 @@ pub mod Stepping
 pub mod Cutting
 pub mod StateChanges
 pub mod ListAnswers
+pub mod Lengths
 pub mod Changing
 pub mod Loads
 pub mod Changed

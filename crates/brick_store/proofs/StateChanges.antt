@@ -138,8 +138,8 @@ module _ {D : Type 0} (d : on_disk.Ghosts D) where
   at_fault calls put before after old new fault change = subst (λ (e : End). StateChange d calls old put before after new e) (ends_as fault) change
 
   -- after a change that was made the store can be changed again
-  pub may_go_on : (calls : ℕ) (put : Option (ℕ × List ℕ)) (before after : StateOf Entry) (old new : Held D) → CanChange d before old
-      → Step d before after old new (Ok tt) → StateChange d calls old put before after new.disk Whole → CanChange d after new
+  pub may_go_on : {Listed : ℕ → Type 0} (calls : ℕ) (put : Option (ℕ × List ℕ)) (before after : StateOf Entry) (old new : Held D)
+      → CanChange d before old → Step d before after Listed old new (Ok tt) → StateChange d calls old put before after new.disk Whole → CanChange d after new
   may_go_on calls put before after old new may step change = record {
     runs = step.halts;
     leads = subst (λ (s : Shape). Leads (limits_of s) new.frames empty after) (sym step.shape) step.made;
@@ -151,8 +151,8 @@ module _ {D : Type 0} (d : on_disk.Ghosts D) where
   }
 
   -- so that it is settled after it
-  pub settled_after : (calls : ℕ) (put : Option (ℕ × List ℕ)) (before after : StateOf Entry) (old new : Held D) (result : Result (Unit {0}) StoreFault)
-      → CanChange d before old → Step d before after old new result → StateChange d calls old put before after new.disk (end_of result) → d.tells
+  pub settled_after : {Listed : ℕ → Type 0} (calls : ℕ) (put : Option (ℕ × List ℕ)) (before after : StateOf Entry) (old new : Held D)
+      (result : Result (Unit {0}) StoreFault) → CanChange d before old → Step d before after Listed old new result → StateChange d calls old put before after new.disk (end_of result) → d.tells
       → OnOk result (IsSettled d new)
   settled_after calls put before after old new (Ok u) may step change told = (may_go_on calls put before after old new may step change).settled told
   settled_after calls put before after old new (Err e) may step change told = tt

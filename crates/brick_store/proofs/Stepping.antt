@@ -10,6 +10,7 @@ use Rattle.frame_store.specs.declared.faults.FrameFault.{FrameFault}
 use Rattle.frame_store.specs.declared.faults.FrameFault.TheVariants as frames
 use Rattle.frame_store.specs.Images.{KeepsSlots}
 use Rattle.frame_store.specs.Layouts.{store_end}
+use Rattle.frame_store.specs.Listed.{size_of}
 use Rattle.frame_store.specs.Stores.{Held, IsRead, IsSame, HasNow, HasRoom}
 use Rattle.frame_store.specs.Stores as held
 use Rattle.brick_state.specs.declared.records.Record.{Record}
@@ -138,11 +139,13 @@ not_halted fault runs answer is = differ (sym (answer.only_then (ap (refused {E 
 
 module _ {D : Type 0} (d : on_disk.Ghosts D) where
   -- a call that changed the list
-  pub call_made : (before after : StateOf Entry) (listed : List Frame) (old new : Held D) → CanChange d before old
-      → Leads (limits_of old.shape) listed empty after → HasNow listed old new → IsRead d.tells d.seen new → new.halted ≡ old.halted
-      → Step d before after old new (Ok tt)
-  call_made before after listed old new may leads has read halts = record {
+  pub call_made : (before after : StateOf Entry) (Listed : ℕ → Type 0) (listed : List Frame) (old new : Held D) → CanChange d before old
+      → Leads (limits_of old.shape) listed empty after → Listed (size_of listed) → HasNow listed old new → IsRead d.tells d.seen new
+      → new.halted ≡ old.halted → Step d before after Listed old new (Ok tt)
+  call_made before after Listed listed old new may leads long has read halts = record {
     shape = has.shape;
+    listed = subst (λ (fs : List Frame). Listed (size_of fs)) (sym has.frames) long;
+    as_long = λ is. absurd cc;
     made = subst (λ (fs : List Frame). Leads (limits_of old.shape) fs empty after) (sym has.frames) leads;
     not_made = tt;
     closed = λ was. has.closed;
@@ -152,11 +155,13 @@ module _ {D : Type 0} (d : on_disk.Ghosts D) where
   }
 
   -- a call that did not
-  pub call_refused : (before after : StateOf Entry) (old new : Held D) (fault : FrameFault) → CanChange d before old → IsSame old new
-      → IsRead d.tells d.seen new → held.IsAnswer {T = Unit {0}} old.halted new.halted (Err fault)
-      → Step d before after old new (Err (fault_of fault))
-  call_refused before after old new fault may same read answer = record {
+  pub call_refused : (before after : StateOf Entry) (Listed : ℕ → Type 0) (old new : Held D) (fault : FrameFault) → CanChange d before old
+      → IsSame old new → IsRead d.tells d.seen new → held.IsAnswer {T = Unit {0}} old.halted new.halted (Err fault)
+      → Step d before after Listed old new (Err (fault_of fault))
+  call_refused before after Listed old new fault may same read answer = record {
     shape = same.shape;
+    listed = tt;
+    as_long = λ is. ap size_of same.frames;
     made = tt;
     not_made = subst (λ (fs : List Frame). Leads (limits_of old.shape) fs empty before) (sym same.frames) may.leads;
     closed = λ was. same.closed ∙ was;
@@ -183,10 +188,13 @@ module _ {D : Type 0} (d : on_disk.Ghosts D) where
       }
 
   -- a step that was made, from a store that had the same shape, and a closed gate behind its list
-  pub step_from : (before after : StateOf Entry) (old mid new : Held D) (result : Result (Unit {0}) StoreFault) → mid.shape ≡ old.shape
-      → (old.closed ≡ true → mid.closed ≡ true) → Step d before after mid new result → Step d before after old new result
-  step_from before after old mid new result shape closed step = record {
+  pub step_from : (before after : StateOf Entry) (Listed : ℕ → Type 0) (old mid new : Held D) (result : Result (Unit {0}) StoreFault)
+      → mid.shape ≡ old.shape → (old.closed ≡ true → mid.closed ≡ true) → (result ≡ Err NoMemory → size_of mid.frames ≡ size_of old.frames)
+      → Step d before after Listed mid new result → Step d before after Listed old new result
+  step_from before after Listed old mid new result shape closed long step = record {
     shape = step.shape ∙ shape;
+    listed = step.listed;
+    as_long = λ is. step.as_long is ∙ long is;
     made = subst (λ (s : Shape). OnOk result (Leads (limits_of s) new.frames empty after)) shape step.made;
     not_made = subst (λ (s : Shape). OnErr result (Leads (limits_of s) new.frames empty before)) shape step.not_made;
     closed = λ was. step.closed (closed was);
@@ -195,11 +203,32 @@ module _ {D : Type 0} (d : on_disk.Ghosts D) where
     halts = step.halts;
   }
 
-  -- a step that keeps the state was refused, and so was the change
-  pub step_stopped : (before after : StateOf Entry) (old new : Held D) (fault : StoreFault) → Step d before before old new (Err fault)
-      → Step d before after old new (Err fault)
-  step_stopped before after old new fault step = record {
+  -- a step in other words of how long the list is
+  pub step_made : (before after : StateOf Entry) {Also Listed : ℕ → Type 0} (implies : (bytes : ℕ) → Also bytes → Listed bytes) (old new : Held D)
+      (result : Result (Unit {0}) StoreFault) → Step d before after Also old new result → Step d before after Listed old new result
+  step_made before after {Also} {Listed} implies old new result step = record {
     shape = step.shape;
+    listed = by result step.listed;
+    as_long = step.as_long;
+    made = step.made;
+    not_made = step.not_made;
+    closed = step.closed;
+    only = step.only;
+    shows = step.shows;
+    halts = step.halts;
+  }
+    where
+      by : (r : Result (Unit {0}) StoreFault) → OnOk r (Also (size_of new.frames)) → OnOk r (Listed (size_of new.frames))
+      by (Ok value) long = implies (size_of new.frames) long
+      by (Err fault) long = tt
+
+  -- a step that keeps the state was refused, and so was the change
+  pub step_stopped : (before after : StateOf Entry) (Listed Also : ℕ → Type 0) (old new : Held D) (fault : StoreFault)
+      → Step d before before Also old new (Err fault) → Step d before after Listed old new (Err fault)
+  step_stopped before after Listed Also old new fault step = record {
+    shape = step.shape;
+    listed = tt;
+    as_long = step.as_long;
     made = tt;
     not_made = step.not_made;
     closed = step.closed;

@@ -1,10 +1,11 @@
 -- How many calls of the disk's `write_at` and `sync` a call of a brick's store makes.
-use Rattle.std.specs.Prelude.{ℕ, ◌+◌, Bool, ◌&&◌, nat_le, if◌then◌else◌, Option, Some, None}
+use Rattle.std.specs.Prelude.{◌≡◌, ℕ, ◌+◌, Bool, ◌&&◌, nat_le, if◌then◌else◌, Option, Some, None}
 use Rattle.frame_store.specs.declared.shapes.Shape.{Shape}
 use Rattle.frame_store.specs.Layouts.{half_size}
 use Rattle.frame_store.specs.Listed.{size_of}
 use Rattle.frame_store.specs.Stores.{Held}
 use Rattle.brick_store.specs.Bricks.{Brick}
+use Rattle.brick_store.specs.Lengths.{IsAppended}
 
 -- The half has room behind so many bytes of frames: for a frame with a body of this length, and the next gate.
 abbrev pub has_room_for : Shape → ℕ → ℕ → Bool
@@ -26,6 +27,24 @@ is_appendable whole frames body = (whole && frames.closed) && has_room_for frame
 -- an opening syncs the disk and appends its count, and rewrites before a list that can't be appended to
 abbrev pub opening_calls : Bool → ℕ
 opening_calls appendable = if appendable then 5 else 12
+
+-- a record that is appended: how many bytes its body has, and how many calls append it where the half has room
+pub record Append : Type 0 where
+  pub body : ℕ
+  pub calls : ℕ
+
+abbrev pub append_of : ℕ → ℕ → Append
+append_of body calls = record { body = body; calls = calls }
+
+-- so many calls append it, over a list of frames of so many bytes, and none where nothing is appended
+abbrev pub calls_for : Shape → ℕ → Option Append → ℕ
+calls_for shape listed None = 0
+calls_for shape listed (Some append) = calls_with shape listed append.body append.calls
+
+-- How long the list is then, over a state of so many live records.
+abbrev pub IsListedAfter : Shape → ℕ → ℕ → Option Append → ℕ → Type 0
+IsListedAfter shape live listed None after = after ≡ listed
+IsListedAfter shape live listed (Some append) after = IsAppended (has_room_for shape listed append.body) live listed append.body after
 
 -- an append makes so many calls, and one more where a block is put in its slot
 abbrev pub append_calls : ℕ

@@ -8,5 +8,6 @@ pub mod Calls
 pub mod Changes
 pub mod Ends
 pub mod Sizes
+pub mod Lengths
 pub mod Logs
 pub mod PlainChanges

@@ -16,6 +16,7 @@ use Rattle.brick_store.specs.declared.faults.OpenFault.{OpenFault}
 use Rattle.brick_store.specs.declared.faults.OpenFault.TheVariants.{Disk}
 use Rattle.brick_store.specs.Bricks.{Brick}
 use Rattle.brick_store.specs.Calls.{has_room_for, is_appendable, opening_calls}
+use Rattle.brick_store.specs.Lengths.{IsAppended}
 use Rattle.brick_store.specs.Sizes.{boot_size}
 use Rattle.frame_store.specs.declared.faults.FrameFault.{FrameFault}
 use Rattle.frame_store.specs.declared.faults.FrameFault.TheVariants as lists
@@ -129,6 +130,11 @@ found_in shape frames = folded (limits_of shape) (records_of frames) empty
 -- has room for the count of an opening.
 abbrev pub opens_appendable : Shape → List Frame → Bool → Bool
 opens_appendable shape frames closed = (is_whole (limits_of shape) frames empty && closed) && has_room_for shape (size_of frames) boot_size
+
+-- The list of a store of so many live records, once this image was opened: the list that the image holds, with the count of the opening appended.
+abbrev pub IsListedOnOpening : Shape → List ℕ → ℕ → ℕ → Type 0
+IsListedOnOpening shape image live listed = (frames : List Frame) (closed : Bool) → OpensAs shape frames closed image
+    → IsAppended (opens_appendable shape frames closed) live (size_of frames) boot_size listed
 
 -- the disk that is in the answer of an opening
 abbrev pub disk_in : {D : Type 0} → Result (Brick D) (OpenFault × D) → D

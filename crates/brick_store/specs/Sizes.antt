@@ -54,6 +54,10 @@ body_size (forms.Kept (Ballots group view promised accepted)) = ballots_size acc
 body_size (forms.Kept (Order group view stripe stamp)) = stamped_size
 body_size (forms.Logged logged) = stamped_size + change_size logged.change
 
+-- the bytes of a frame with a body of this length: its gate, its kind, and the body's length in four bytes stand before it
+abbrev pub framed : ℕ → ℕ
+framed body = 6 + body
+
 -- the bytes of the longest frame, that of a view with 32 members in each list
 abbrev pub longest_frame : ℕ
 longest_frame = 145

@@ -9,6 +9,7 @@ use Rattle.frame_store.specs.Stores.{Held, IsRead, IsSame, HasNow, IsAnswer, Sho
 use Rattle.frame_store.specs.Ends.{end_of, ListChange}
 use Rattle.frame_store.specs.declared.faults.FrameFault.{FrameFault}
 use Rattle.frame_store.specs.Layouts.{IsShape}
+use Rattle.frame_store.specs.Listed.{size_of}
 use Rattle.brick_state.specs.declared.records.Record.{Record}
 use Rattle.brick_state.specs.declared.records.Record.TheVariants as forms
 use Rattle.stamp_store.specs.Spelling.{HasMembers}
@@ -96,10 +97,12 @@ module _ {D : Type 0} (d : on_disk.Ghosts D) where
     pub members : AllByRecursion GroupHasMembers st.groups
     pub found : folded (limits_of frames.shape) (records_of frames.frames) empty ≡ st
 
-  -- The frames lead to the state after a change, or to the one before it where the call refused it: it answers Disk, which halts the store, or
-  -- NoMemory.
-  pub record Step (before after : StateOf Entry) (old new : Held D) (result : Result (Unit {0}) StoreFault) : Type 0 where
+  -- The frames lead to the state after a change, and are as many bytes as is said of it, or to the one before it where the call refused it: it answers
+  -- Disk, which halts the store, or NoMemory.
+  pub record Step (before after : StateOf Entry) (Listed : ℕ → Type 0) (old new : Held D) (result : Result (Unit {0}) StoreFault) : Type 0 where
     pub shape : new.shape ≡ old.shape
+    pub listed : OnOk result (Listed (size_of new.frames))
+    pub as_long : result ≡ Err NoMemory → size_of new.frames ≡ size_of old.frames
     pub made : OnOk result (Leads (limits_of old.shape) new.frames empty after)
     pub not_made : OnErr result (Leads (limits_of old.shape) new.frames empty before)
     pub closed : old.closed ≡ true → new.closed ≡ true

@@ -7,9 +7,10 @@ ghost use Rattle.brick_state.specs.States.{live};
 ghost use Rattle.brick_state.specs.Indexes.{state_of, limits_of};
 ghost use Rattle.brick_state.specs.Folds.{applied, is_full};
 ghost use Rattle.brick_state.specs.KeptStates.{IsKeptState};
-ghost use Rattle.brick_store.specs.Calls.{calls_with, version_calls};
+ghost use Rattle.brick_store.specs.Calls.{calls_with, has_room_for, version_calls};
 ghost use Rattle.brick_store.specs.Ends.{end_of, StateChange};
-ghost use Rattle.brick_store.specs.Sizes.{body_size, longest_frame};
+ghost use Rattle.brick_store.specs.Lengths.{HasMadeRoom, IsAppended};
+ghost use Rattle.brick_store.specs.Sizes.{body_size, longest_frame, most_listed};
 ghost use Rattle.brick_store.specs.Standing.{GroupHasMembers};
 ghost use Rattle.brick_store.specs.Steps.{RecordHasMembers, Step, CanCommit, changed, put_in, FitsSlot, HasAppendRoom, IsRefused};
 
@@ -31,7 +32,8 @@ fn rewrite<D: Disk>(
 ) -> Result<(), StoreFault>
     requires store { CanCommit D.Disk (limits_of index.now) (state_of index.now) frames.old }
     requires small { body ≤ longest_frame }
-    ensures step { Step D.Disk (state_of index.now) (state_of index.now) frames.old frames.new result }
+    ensures step { Step D.Disk (state_of index.now) (state_of index.now) (λ bytes. bytes ≤ most_listed (live (state_of index.now)))
+        frames.old frames.new result }
     ensures fits { OnOk result (Fits frames.new.shape frames.new.frames body) }
     ensures room { OnOk result (HasAppendRoom D.has_room frames.new body) }
     ensures change { StateChange D.Disk 7 frames.old None (state_of index.now) (state_of index.now)
@@ -53,7 +55,9 @@ fn make_room<D: Disk>(
 ) -> Result<(), StoreFault>
     requires store { CanCommit D.Disk (limits_of index.now) (state_of index.now) frames.old }
     requires small { body ≤ longest_frame }
-    ensures step { Step D.Disk (state_of index.now) (state_of index.now) frames.old frames.new result }
+    ensures step { Step D.Disk (state_of index.now) (state_of index.now)
+        (HasMadeRoom (has_room_for frames.old.shape (size_of frames.old.frames) body) (live (state_of index.now)) (size_of frames.old.frames))
+        frames.old frames.new result }
     ensures fits { OnOk result (Fits frames.new.shape frames.new.frames body) }
     ensures room { OnOk result ((frames.new ≡ frames.old) ⊎ HasAppendRoom D.has_room frames.new body) }
     ensures change { StateChange D.Disk (calls_with frames.old.shape (size_of frames.old.frames) body 0) frames.old None (state_of index.now) (state_of index.now)
@@ -77,8 +81,9 @@ fn append_record<D: Disk>(
     requires members { RecordHasMembers item.now }
     requires can { IsSome (applied (limits_of index.now) item.now (state_of index.now)) }
     requires slot { FitsSlot frames.old.shape (option_map (λ b. put_in b.0 b.1.now) slot_block) }
-    ensures step { Step D.Disk (state_of index.now)
-        (changed (limits_of index.now) item.now (state_of index.now)) frames.old frames.new result }
+    ensures step { Step D.Disk (state_of index.now) (changed (limits_of index.now) item.now (state_of index.now))
+        (IsAppended (has_room_for frames.old.shape (size_of frames.old.frames) (body_size item.now)) (live (state_of index.now))
+        (size_of frames.old.frames) (body_size item.now)) frames.old frames.new result }
     ensures change { let put = option_map (λ b. put_in b.0 b.1.now) slot_block.entry in
         StateChange D.Disk (calls_with frames.old.shape (size_of frames.old.frames) (body_size item.now) (version_calls put)) frames.old put
         (state_of index.now) (changed (limits_of index.now) item.now (state_of index.now)) frames.new.disk (end_of result) }
@@ -125,8 +130,9 @@ pub fn commit<D: Disk>(
     requires members { RecordHasMembers item.now }
     requires can { IsSome (applied (limits_of index.old) item.now (state_of index.old)) }
     requires slot { FitsSlot frames.old.shape (option_map (λ b. put_in b.0 b.1.now) slot_block) }
-    ensures step { Step D.Disk (state_of index.old)
-        (changed (limits_of index.old) item.now (state_of index.old)) frames.old frames.new result }
+    ensures step { Step D.Disk (state_of index.old) (changed (limits_of index.old) item.now (state_of index.old))
+        (IsAppended (has_room_for frames.old.shape (size_of frames.old.frames) (body_size item.now)) (live (state_of index.old))
+        (size_of frames.old.frames) (body_size item.now)) frames.old frames.new result }
     ensures made { OnOk result (state_of index.new ≡ changed (limits_of index.old) item.now (state_of index.old)) }
     ensures not_made { OnErr result (state_of index.new ≡ state_of index.old) }
     ensures limits { limits_of index.new ≡ limits_of index.old }

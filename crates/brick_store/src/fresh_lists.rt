@@ -3,14 +3,15 @@
 
 ghost use Rattle.std.specs.Prelude.{◌≡◌, ◌≤◌, if◌then◌else◌, true, None, IsTrue, OnOk};
 ghost use Rattle.frame_store.specs.Images.{KeepsSlots};
-ghost use Rattle.frame_store.specs.Listed.{Fits};
-ghost use Rattle.brick_state.specs.States.{empty};
+ghost use Rattle.frame_store.specs.Listed.{Fits, size_of};
+ghost use Rattle.brick_state.specs.States.{empty, live};
 ghost use Rattle.brick_state.specs.Indexes.{state_of};
 ghost use Rattle.brick_state.specs.Indexes as indexes;
 ghost use Rattle.brick_store.specs.Images.{limits_of};
 ghost use Rattle.brick_store.specs.Standing.{Leads};
 ghost use Rattle.brick_store.specs.Calls.{is_appendable};
-ghost use Rattle.brick_store.specs.Sizes.{longest_frame};
+ghost use Rattle.brick_store.specs.Lengths.{HasMadeRoom};
+ghost use Rattle.brick_store.specs.Sizes.{longest_frame, most_listed};
 ghost use Rattle.brick_store.specs.Ends.{end_of};
 ghost use Rattle.brick_store.specs.Steps.{CanChange, IsReadAs, HasAppendRoom};
 ghost use Rattle.brick_store.specs.Openings.{Readies};
@@ -36,6 +37,7 @@ fn renew<D: Disk>(
     ensures shape { frames.new.shape ≡ frames.old.shape }
     ensures slots { D.tells → OnOk result (KeepsSlots frames.old.shape None (D.seen frames.old.disk) (D.seen frames.new.disk)) }
     ensures fits { OnOk result (Fits frames.new.shape frames.new.frames body) }
+    ensures listed { OnOk result (size_of frames.new.frames ≤ most_listed (live (state_of index.now))) }
     ensures room { OnOk result (HasAppendRoom D.has_room frames.new body) }
     ensures readies { Readies D.Disk 8 (state_of index.now) frames.old frames.new.disk (end_of result) }
 {
@@ -73,6 +75,8 @@ pub fn make_appendable<D: Disk>(
     ensures shape { frames.new.shape ≡ frames.old.shape }
     ensures slots { D.tells → OnOk result (KeepsSlots frames.old.shape None (D.seen frames.old.disk) (D.seen frames.new.disk)) }
     ensures fits { OnOk result (Fits frames.new.shape frames.new.frames body) }
+    ensures listed { OnOk result (HasMadeRoom (is_appendable whole frames.old body) (live (state_of index.now)) (size_of frames.old.frames)
+        (size_of frames.new.frames)) }
     ensures room { OnOk result (HasAppendRoom D.has_room frames.new body) }
     ensures readies { Readies D.Disk (if is_appendable whole frames.old body then 1 else 8) (state_of index.now) frames.old frames.new.disk
         (end_of result) }

@@ -4,8 +4,9 @@ ghost use Rattle.std.specs.Prelude.{◌≡◌, ◌≤◌, false, IfOk, IfErr};
 ghost use Rattle.fab_disk.specs.Changing.{Stands};
 ghost use Rattle.frame_store.specs.Layouts.{shape_of};
 ghost use Rattle.frame_store.specs.Images.{IsNoStore};
+ghost use Rattle.brick_state.specs.States.{live};
 ghost use Rattle.brick_store.specs.Images.{StandsFor};
-ghost use Rattle.brick_store.specs.Openings.{disk_in, end_in, IsCounted, IsWornOut, Opens};
+ghost use Rattle.brick_store.specs.Openings.{disk_in, end_in, IsCounted, IsListedOnOpening, IsWornOut, Opens};
 
 use crate::faults::OpenFault;
 use crate::readings::Folded;
@@ -36,6 +37,8 @@ pub fn open_store<D: Disk>(
     // There was a store that was not worn, and it is the one that was counted.
     ensures found { IfOk result (λ store. D.tells → IsCounted (shape_of me.0 block records) (D.seen disk) store.state) }
     ensures stands { IfOk result (λ store. D.tells → Stands D.Disk (StandsFor store.shape store.state) store.disk) }
+    // Its list is the one that the disk held, with the count appended.
+    ensures listed { IfOk result (λ store. D.tells → IsListedOnOpening store.shape (D.seen disk) (live store.state) store.listed) }
     // What each moment leaves, how many calls it makes, and what is left where it is cut short.
     ensures opens { Opens D.Disk (shape_of me.0 block records) disk (disk_in result) (end_in result) }
     ensures not_a_store { IfErr result (λ e. e.0 ≡ OpenFault.NotAStore → D.tells → IsNoStore (shape_of me.0 block records) (D.seen disk)) }

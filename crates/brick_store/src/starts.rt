@@ -2,13 +2,15 @@
 
 ghost use Rattle.std.specs.Prelude.{◌≡◌, ◌≢◌, ◌+◌, ◌-◌, ◌<◌, ◌^◌, true, false, Some, None, IsSome, Err, OnOk, length};
 ghost use Rattle.frame_store.specs.Images.{KeepsSlots};
-ghost use Rattle.frame_store.specs.Listed.{Fits};
-ghost use Rattle.brick_state.specs.States.{empty, booted};
+ghost use Rattle.frame_store.specs.Listed.{Fits, size_of};
+ghost use Rattle.brick_state.specs.States.{empty, booted, live};
 ghost use Rattle.brick_state.specs.Folds.{applied};
 ghost use Rattle.brick_state.specs.Indexes.{state_of, IsReady};
 ghost use Rattle.brick_state.specs.Indexes as indexes;
 ghost use Rattle.brick_store.specs.Images.{record_of, limits_of};
-ghost use Rattle.brick_store.specs.Calls.{append_calls};
+ghost use Rattle.brick_store.specs.Calls.{append_calls, is_appendable};
+ghost use Rattle.brick_store.specs.Lengths.{IsAppended};
+ghost use Rattle.brick_store.specs.Sizes.{boot_size, framed};
 ghost use Rattle.brick_store.specs.Standing.{Leads};
 ghost use Rattle.brick_store.specs.Ends.{end_of, StateChange};
 ghost use Rattle.brick_store.specs.Steps.{IsSettled, Step, CanChange, IsReadAs, changed, HasAppendRoom};
@@ -39,8 +41,8 @@ fn append_count<D: Disk>(
     requires ready { IsReady index.old item.now }
     requires fits { Fits frames.old.shape frames.old.frames (length frame.body) }
     requires room { HasAppendRoom D.has_room frames.old (length frame.body) }
-    ensures step { Step D.Disk (state_of index.old)
-        (changed (indexes.limits_of index.old) item.now (state_of index.old)) frames.old frames.new result }
+    ensures step { Step D.Disk (state_of index.old) (changed (indexes.limits_of index.old) item.now (state_of index.old))
+        (λ bytes. bytes ≡ size_of frames.old.frames + framed (length frame.body)) frames.old frames.new result }
     ensures change { StateChange D.Disk append_calls frames.old None (state_of index.old)
         (changed (indexes.limits_of index.old) item.now (state_of index.old)) frames.new.disk (end_of result) }
     ensures made { OnOk result (state_of index.new ≡ changed (indexes.limits_of index.old) item.now (state_of index.old)) }
@@ -67,6 +69,8 @@ pub fn start<D: Disk>(
     ensures made { OnOk result (state_of index.new ≡ booted ((state_of index.old).boot + 1) (state_of index.old)) }
     ensures limits { indexes.limits_of index.new ≡ indexes.limits_of index.old }
     ensures leads { OnOk result (Leads (limits_of frames.old.shape) frames.new.frames empty (state_of index.new)) }
+    ensures listed { OnOk result (IsAppended (is_appendable whole frames.old boot_size) (live (state_of index.old)) (size_of frames.old.frames) boot_size
+        (size_of frames.new.frames)) }
     ensures shape { frames.new.shape ≡ frames.old.shape }
     ensures runs { OnOk result (frames.new.halted ≡ false) }
     ensures settled { D.tells → OnOk result (IsSettled D.Disk frames.new) }

@@ -80,7 +80,7 @@ impl<D: Disk> BrickStore<D> {
         requires view { IsServed (group_at self.old.state group.0) view.0 }
         ensures change { BrickChange D.Disk (calls_of self.old stamped_size append_calls) self.old
             (ordered (place group view stripe) stamp self.old.state) self.new.disk (end_of result) }
-        ensures answer { Answers self.old self.new (ordered (place group view stripe) stamp self.old.state)
+        ensures answer { Answers self.old self.new (ordered (place group view stripe) stamp self.old.state) stamped_size
             (adds_stamp stamp (stripe_at self.old.state (place group view stripe)).order) result }
     {
         let place = (group.0, view.0, stripe.0);
@@ -109,7 +109,7 @@ impl<D: Disk> BrickStore<D> {
         ensures change { BrickChange D.Disk (calls_of self.old (ballots_size (accepted_of (group_at self.old.state group.0))) append_calls) self.old
             (balloted group.0 promised (accepted_of (group_at self.old.state group.0)) self.old.state) self.new.disk (end_of result) }
         ensures answer { Answers self.old self.new (balloted group.0 promised (accepted_of (group_at self.old.state group.0)) self.old.state)
-            false result }
+            (ballots_size (accepted_of (group_at self.old.state group.0))) false result }
     {
         let accepted = accepted_of(self.index.group(group.0));
         let item = Record::Kept(Kept::Ballots {
@@ -138,7 +138,7 @@ impl<D: Disk> BrickStore<D> {
         ensures change { BrickChange D.Disk (calls_of self.old (ballots_size (Some (ballot, members))) append_calls) self.old
             (balloted group.0 ballot (Some (ballot, members)) self.old.state) self.new.disk (end_of result) }
         ensures answer { Answers self.old self.new (balloted group.0 ballot (Some (ballot, members)) self.old.state)
-            false result }
+            (ballots_size (Some (ballot, members))) false result }
     {
         let item = Record::Kept(Kept::Ballots {
             group,
@@ -161,7 +161,7 @@ impl<D: Disk> BrickStore<D> {
         ensures change { BrickChange D.Disk (calls_of self.old (view_size view) append_calls) self.old
             (viewed group.0 view false self.old.state) self.new.disk (end_of result) }
         ensures answer { Answers self.old self.new (viewed group.0 view false self.old.state)
-            false result }
+            (view_size view) false result }
     {
         let item = Record::Kept(Kept::View {
             group,
@@ -182,7 +182,7 @@ impl<D: Disk> BrickStore<D> {
         ensures change { BrickChange D.Disk (calls_of self.old (known_size (group_at self.old.state group.0).known) append_calls) self.old
             (all_synced group.0 self.old.state) self.new.disk (end_of result) }
         ensures answer { Answers self.old self.new (all_synced group.0 self.old.state)
-            false result }
+            (known_size (group_at self.old.state group.0).known) false result }
     {
         let _ = view;
         let item = Record::Kept(Kept::View {
@@ -210,7 +210,7 @@ impl<D: Disk> BrickStore<D> {
         ensures change { BrickChange D.Disk (calls_of self.old stamped_size append_calls) self.old
             (collected version_stamp (place group view stripe) stamp self.old.state) self.new.disk (end_of result) }
         ensures answer { Answers self.old self.new (collected version_stamp (place group view stripe) stamp self.old.state)
-            false result }
+            stamped_size false result }
     {
         let item = Record::Logged(Logged {
             group,
@@ -241,7 +241,7 @@ impl<D: Disk> BrickStore<D> {
         ensures change { BrickChange D.Disk (calls_of self.old (version_size block) (version_calls block)) self.old
             (with_version self.old.shape.block (place group view stripe) stamp block self.old.state) self.new.disk (end_of result) }
         ensures answer { Answers self.old self.new (with_version self.old.shape.block (place group view stripe) stamp block self.old.state)
-            true result }
+            (version_size block) true result }
     {
         match block {
             Some(bytes) => self.add_block(group, view, stripe, stamp, bytes),
@@ -256,7 +256,7 @@ impl<D: Disk> BrickStore<D> {
         ensures change { BrickChange D.Disk (calls_of self.old (body_size item.now) append_calls) self.old
             (made_by self.old.shape.block item.now self.old.state) self.new.disk (end_of result) }
         ensures answer { Answers self.old self.new (made_by self.old.shape.block item.now self.old.state)
-            (adds_record item.now self.old.state) result }
+            (body_size item.now) (adds_record item.now self.old.state) result }
     {
         ready(&self.frames, &self.index, adds)?;
         commit(self.alloc, &mut self.frames, &mut self.index, item, None)
@@ -275,7 +275,7 @@ impl<D: Disk> BrickStore<D> {
         ensures change { BrickChange D.Disk (calls_of self.old stamped_size append_calls) self.old
             (with_version self.old.shape.block (place group view stripe) stamp None self.old.state) self.new.disk (end_of result) }
         ensures answer { Answers self.old self.new (with_version self.old.shape.block (place group view stripe) stamp None self.old.state)
-            true result }
+            stamped_size true result }
     {
         let item = Record::Logged(Logged {
             group,
@@ -302,7 +302,7 @@ impl<D: Disk> BrickStore<D> {
         ensures change { BrickChange D.Disk (calls_of self.old (version_size (Some block)) (version_calls (Some block))) self.old
             (with_version self.old.shape.block (place group view stripe) stamp (Some block) self.old.state) self.new.disk (end_of result) }
         ensures answer { Answers self.old self.new (with_version self.old.shape.block (place group view stripe) stamp (Some block) self.old.state)
-            true result }
+            (version_size (Some block)) true result }
     {
         ready(&self.frames, &self.index, true)?;
         let slot = hold_new(&self.index, &mut self.blocks, block)?;

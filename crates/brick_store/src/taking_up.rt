@@ -2,12 +2,16 @@
 
 ghost use Rattle.std.specs.Prelude.{◌≡◌, ◌≢◌, ◌+◌, ◌-◌, ◌<◌, ◌^◌, false, Err, IfOk, IsOk};
 ghost use Rattle.frame_store.specs.Layouts.{IsShape};
+ghost use Rattle.frame_store.specs.Listed.{size_of};
 ghost use Rattle.frame_store.specs.Stores.{IsRead};
-ghost use Rattle.brick_state.specs.States.{booted, empty};
+ghost use Rattle.brick_state.specs.States.{booted, empty, live};
 ghost use Rattle.brick_state.specs.Indexes.{state_of};
 ghost use Rattle.brick_state.specs.Indexes as indexes;
 ghost use Rattle.brick_store.specs.Bricks.{start_fault_of};
+ghost use Rattle.brick_store.specs.Calls.{is_appendable};
 ghost use Rattle.brick_store.specs.Images.{limits_of};
+ghost use Rattle.brick_store.specs.Lengths.{IsAppended};
+ghost use Rattle.brick_store.specs.Sizes.{boot_size};
 ghost use Rattle.brick_store.specs.Standing.{AllSlots, IsStored, Standing};
 ghost use Rattle.brick_store.specs.Openings.{IsFold, is_whole, found_in, Starts, opening_end};
 
@@ -59,6 +63,8 @@ pub(crate) fn take_up<D: Disk>(
         (found_in frames.old.shape frames.old.frames)) }
     ensures stored { D.tells → IfOk result (λ made. AllSlots (IsStored frames.old.shape made.blocks (D.seen frames.old.disk))
         (found_in frames.old.shape frames.old.frames)) }
+    ensures listed { IsOk result → IsAppended (is_appendable (is_whole (limits_of frames.old.shape) frames.old.frames empty) frames.old boot_size)
+        (live (found_in frames.old.shape frames.old.frames)) (size_of frames.old.frames) boot_size (size_of frames.new.frames) }
     ensures still_runs { IsOk result → frames.new.halted ≡ false }
     ensures shape { frames.new.shape ≡ frames.old.shape }
     ensures starts { Starts D.Disk (is_whole (limits_of frames.old.shape) frames.old.frames empty) (found_in frames.old.shape frames.old.frames)

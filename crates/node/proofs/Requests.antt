@@ -8,7 +8,7 @@ use Rattle.messages.specs.declared.requests.Request.{Request}
 use Rattle.frame_store.specs.declared.shapes.Shape.{Shape}
 use Rattle.version_log.specs.Versions.{Version}
 use Rattle.brick_state.specs.declared.groups.Group.{Group as Kept}
-use Rattle.brick_state.specs.States.{StateOf, no_group}
+use Rattle.brick_state.specs.States.{StateOf, live, no_group}
 use Rattle.brick_store.specs.Bricks.{Brick}
 use Rattle.brick_store.specs.Images.{StandsFor}
 use Rattle.fab_base.specs.Layouts.{Layout, Group}
@@ -63,6 +63,11 @@ serves_calls layout me from node (Message.ClientReply id answer) = same_calls no
 -- a state of the same groups has learnt no later view either
 pub first_view_after : (before after : StateOf Version) → after.groups ≡ before.groups → IsFirstView before → IsFirstView after
 first_view_after before after groups view g = ap (λ (gs : List Kept). (slice_index_or gs g no_group).known) groups ∙ view g
+
+-- the machine sees as many live records as the store keeps
+pub live_seen : {D : Type 0} (layout : Layout) (calls : OpenCalls) (store : Brick D) → live store.state ≡ (state_of (running layout calls store)).live
+unfolding state_of
+live_seen layout calls store = refl
 
 -- the machine's brick that a store's state and the open calls show
 module _ {D : Type 0} (layout : Layout) (calls : OpenCalls) (old : Brick D) (from : BrickId) (message : Message) where

@@ -17,18 +17,18 @@ use Rattle.version_log.specs.Versions.{Version as Kept, version}
 use Rattle.brick_state.specs.States.{StripeOf, stripe_at}
 use Rattle.brick_store.specs.Blocks.{log_of}
 use Rattle.brick_store.specs.Bricks.{Brick}
-use Rattle.brick_store.specs.Calls.{calls_of, has_room_for}
+use Rattle.brick_store.specs.Calls.{calls_for, has_room_for}
 use Rattle.stripe_code.specs.Codes.{coding}
 use Rattle.protocol.specs.Settings.{Code}
 use Rattle.protocol.specs.Replicas.{Replica, Reaction, handle, is_held, is_wanted, top_of, newest_of, told_version, looked_up, below, stays, unless_full, promised, stored, modified_block, modified_on, collected}
 use Rattle.protocol.specs.Nodes.{Node, NodeStep, requested, replica_at, full_at}
 use Rattle.protocol.proofs.Served.{request_each, parts_each}
-use Rattle.replica.specs.Calls.{shares_block, stored_calls, part_calls, message_calls}
+use Rattle.replica.specs.Calls.{shares_block, stored_append, part_append, message_calls}
 use Rattle.replica.specs.Parts.{as_version, IsBegun, IsPartsOf}
 use Rattle.replica.specs.Reactions.{member_step}
 use Rattle.replica.proofs.Dropping.{collected_other, collected_lowest}
-use Rattle.replica.proofs.Runs.{same_long, calls_stored, replica_after}
-use Rattle.replica.proofs.Sharing.{calls_collected}
+use Rattle.replica.proofs.Runs.{same_long, append_stored, replica_after, stamped}
+use Rattle.replica.proofs.Sharing.{append_collected}
 
 -- what is kept takes some calls
 never_none : (room : Bool) (n m : ℕ) → cond room (suc n) (suc m) ≡ 0 → ⊥
@@ -39,7 +39,7 @@ never_none false n m none = absurd cc
 module _ {D : Type 0} (store : Brick D) (shares : Bool) (part : Replica) where
   -- the reaction changes nothing, where no call keeps it
   abbrev Still : Reaction → Type 0
-  Still reaction = part_calls store.shape store.listed shares part reaction.replica ≡ 0 → reaction.replica ≡ part
+  Still reaction = calls_for store.shape store.listed (part_append shares part reaction.replica) ≡ 0 → reaction.replica ≡ part
 
   stay_still : (reply : Reply) → Still (stays part reply)
   stay_still reply none = refl
@@ -63,12 +63,14 @@ module _ {D : Type 0} (store : Brick D) (shares : Bool) (part : Replica) where
       by true same = ap (λ (o : Stamp). record part { order = o }) (sym (stamp_same_true part.order t same))
       by false other =
           absurd (never_none (has_room_for store.shape store.listed 30) 3 10
-          (sym (same_long store shares part (record part { order = t }) refl ∙ ap (λ (b : Bool). cond b 0 (calls_of store 30 4)) other) ∙ none))
+          (sym (ap (calls_for store.shape store.listed) (same_long shares part (record part { order = t }) refl
+          ∙ ap (λ (b : Bool). cond b None stamped) other)) ∙ none))
 
   stored_still : (t : Stamp) (block : List ℕ) → Still (stored part t block)
-  stored_still t block none = absurd (by shares (sym (calls_stored store shares part (record { stamp = t; block = block })) ∙ none))
+  stored_still t block none =
+      absurd (by shares (sym (ap (calls_for store.shape store.listed) (append_stored shares part (record { stamp = t; block = block }))) ∙ none))
     where
-      by : (b : Bool) → stored_calls store.shape store.listed b ≡ 0 → ⊥
+      by : (b : Bool) → calls_for store.shape store.listed (Some (stored_append b)) ≡ 0 → ⊥
       by true is = never_none (has_room_for store.shape store.listed 30) 3 10 is
       by false is = never_none (has_room_for store.shape store.listed 35) 4 11 is
 
@@ -88,7 +90,8 @@ module _ {D : Type 0} (store : Brick D) (shares : Bool) (part : Replica) where
       by true held [] is = ap (λ (r : Reaction). r.replica) (sym (collected_lowest part t begun is))
       by true held (v ∷ gone) is =
           absurd (never_none (has_room_for store.shape store.listed 30) 3 10
-          (sym (calls_collected store shares part t held (λ (e : below t part.log ≡ []). (let never : v ∷ gone ≡ [] = sym is ∙ e in cc))) ∙ none))
+          (sym (ap (calls_for store.shape store.listed) (append_collected shares part t held
+          (λ (e : below t part.log ≡ []). (let never : v ∷ gone ≡ [] = sym is ∙ e in cc)))) ∙ none))
 
   -- so is what a member does with any request
   handle_still : (code : Code) (m : ℕ) (full : Option ℕ) (seat : ℕ) (request : Request) → IsBegun part.from_start part.log
@@ -122,7 +125,8 @@ pub parts_still : {D : Type 0} (layout : Layout) (me from : BrickId) (store : Br
     → (g e s : ℕ) → (member_step layout me from node message).node.replicas g e s ≡ node.replicas g e s
 unfolding requested
 parts_still layout me from store node (Message.Request call request) parts =
-    request_each (λ (step : NodeStep). part_calls store.shape store.listed (shares_block request) (replica_at node call) (replica_at step.node call) ≡ 0
+    request_each (λ (step : NodeStep). calls_for store.shape store.listed
+    (part_append (shares_block request) (replica_at node call) (replica_at step.node call)) ≡ 0
     → (g e s : ℕ) → step.node.replicas g e s ≡ node.replicas g e s) (coding layout) me from node call request
     (λ none g e s. refl)
     (λ group seat is served view none.
@@ -132,7 +136,7 @@ parts_still layout me from store node (Message.Request call request) parts =
     (handle_still store (shares_block request) part (coding layout).code group.m (full_at layout.records node.live) seat request
     (subst (λ (r : Replica). IsBegun r.from_start r.log) (sym (parts.replicas call.group.0 call.view.0 call.stripe.0))
     (part_begun layout.block (stripe_at store.state (call.group.0, call.view.0, call.stripe.0))))
-    (sym (ap (part_calls store.shape store.listed (shares_block request) part) (replica_after node call reaction)) ∙ none))
+    (sym (ap (λ (r : Replica). calls_for store.shape store.listed (part_append (shares_block request) part r)) (replica_after node call reaction)) ∙ none))
     (λ g e s. refl))
 parts_still layout me from store node (Message.Reply call reply) parts = λ none g e s. refl
 parts_still layout me from store node (Message.Learn group view) parts = λ none g e s. refl

@@ -9,16 +9,16 @@ ghost use Rattle.brick_store.specs.Bricks.{Brick};
 ghost use Rattle.version_log.specs.Versions.{Version};
 ghost use Rattle.brick_state.specs.States.{StateOf};
 ghost use Rattle.brick_store.specs.Images.{IsFound};
-ghost use Rattle.brick_store.specs.Openings.{IsCounted, IsWornOut};
+ghost use Rattle.brick_store.specs.Openings.{IsCounted, IsListedOnOpening, IsWornOut};
 ghost use Rattle.protocol.specs.Nodes as machine;
 ghost use Rattle.protocol.specs.Nodes.{view_at, refusal_of, invoked, replied, received, absorbed, ticked, restarted};
 ghost use Rattle.messages.specs.declared.packets.Message.TheVariants as message;
 ghost use Rattle.stripe_code.specs.Codes.{coding};
 ghost use Rattle.replica.specs.Parts.{IsFirstView, part_seen};
 ghost use Rattle.replica.specs.Reactions.{member_step};
-ghost use Rattle.replica.specs.Calls.{message_calls};
+ghost use Rattle.replica.specs.Calls.{message_append, message_calls};
 ghost use Rattle.coord_phase.specs.Messages.{packets_from};
-ghost use Rattle.node.specs.Calls.{packet_calls};
+ghost use Rattle.node.specs.Calls.{packet_append, packet_calls};
 ghost use Rattle.node.specs.Ends.{end_of, IsShown, StepChange};
 ghost use Rattle.node.specs.Faults.{halted_after, RefusesAs};
 ghost use Rattle.node.specs.States.{BeginsAs, StepsAs};
@@ -92,6 +92,8 @@ impl<D: Disk> Node<D> {
         // There was a store that was not worn, and it is the one that was counted.
         ensures found { IfOk result (λ node. D.tells → IsCounted (shape_at layout me) (D.seen disk) node.brick.state) }
         ensures stands { IfOk result (λ node. D.tells → Stands D.Disk (ImageShows layout me (state_of node)) node.brick.disk) }
+        // Its list is the one that the disk held, with the count appended.
+        ensures listed { IfOk result (λ node. D.tells → IsListedOnOpening (shape_at layout me) (D.seen disk) (state_of node).live node.brick.listed) }
         // What each moment leaves, how many calls it makes, and what is left where it is cut short.
         ensures opens { OpensBrick D.Disk layout me disk (disk_in result) (end_in result) }
         // There is no store, and nothing has changed; or its store has learnt a later view.
@@ -187,8 +189,8 @@ impl<D: Disk> Node<D> {
         // A message that makes no call of the disk changes nothing that is kept, and does not touch the disk. None is made where no stripe's part changes.
         ensures still { packet_calls self.old.layout self.old.me (state_of self.old) packet.now self.old.brick.listed ≡ 0 → OnOk result
             ((self.new.brick.state ≡ self.old.brick.state) × IsUntouched D.seen D.may_leave D.moment D.left_since self.old.brick.disk self.new.brick.disk) }
-        // At each moment each image shows the brick as it was, or with what the request makes it keep. The calls are those of the packet.
-        ensures change { StepChange D.Disk (packet_calls self.old.layout self.old.me (state_of self.old) packet.now self.old.brick.listed)
+        // At each moment each image shows the brick as it was, or with what the request makes it keep. What is appended is what keeps that.
+        ensures change { StepChange D.Disk (packet_append self.old.layout self.old.me (state_of self.old) packet.now)
             (absorbed (coding self.old.layout) self.old.me (state_of self.old) packet.now) self.old self.new (end_of result) }
         ensures halted { self.old.brick.halted ≡ true → result ≡ Err NodeFault.Halted }
         ensures only_halted { result ≡ Err NodeFault.Halted → self.old.brick.halted ≡ true }
@@ -222,8 +224,7 @@ impl<D: Disk> Node<D> {
         ensures still { message_calls self.old.layout self.old.me from (shape_at self.old.layout self.old.me) self.old.brick.listed (state_of self.old) message.now ≡ 0
             → OnOk result
             ((self.new.brick.state ≡ self.old.brick.state) × IsUntouched D.seen D.may_leave D.moment D.left_since self.old.brick.disk self.new.brick.disk) }
-        ensures change { StepChange D.Disk
-            (message_calls self.old.layout self.old.me from (shape_at self.old.layout self.old.me) self.old.brick.listed (state_of self.old) message.now)
+        ensures change { StepChange D.Disk (message_append self.old.layout self.old.me from (state_of self.old) message.now)
             (member_step self.old.layout self.old.me from (state_of self.old) message.now).node self.old self.new (end_of result) }
         ensures not_halted { result ≢ Err NodeFault.Halted }
         ensures halts { self.new.brick.halted ≡ halted_after false result }

@@ -1,11 +1,12 @@
 -- A call that handles a request, from the change of the store that it makes.
-use Rattle.std.proofs.Common.{◌≡◌, ◌≢◌, inl, inr, ⊎_elim, ℕ, Bool, true, false, Option, Some, List, Result, Ok, Err, refl, sym, ap, subst, ◌∙◌, arith}
+use Rattle.std.proofs.Common.{◌≡◌, ◌≢◌, inl, inr, ⊎_elim, ℕ, Bool, true, false, Option, Some, None, List, Result, Ok, Err, refl, sym, ap, subst, ◌∙◌, arith}
 use Rattle.std.specs.Option.{option_map}
 use Rattle.std.specs.Result.{IfOk, OnOk, OnErr}
 use Rattle.fab_disk.specs.declared.disk.Disk as on_disk
 use Rattle.fab_disk.specs.Disk.{IsUntouched}
 use Rattle.fab_disk.specs.Changing.{End, Whole, Cut, NotBegun, Stands, Still}
 use Rattle.fab_disk.proofs.Changing.{widen, still}
+use Rattle.fab_base.specs.Layouts.{Layout}
 use Rattle.messages.specs.declared.replies.Reply.{Reply}
 use Rattle.messages.specs.declared.replies.Reply.TheVariants.{Full}
 use Rattle.frame_store.specs.declared.shapes.Shape.{Shape}
@@ -14,14 +15,15 @@ use Rattle.brick_state.specs.States.{StateOf, live}
 use Rattle.brick_store.specs.declared.faults.StoreFault.{StoreFault}
 use Rattle.brick_store.specs.declared.faults.StoreFault.TheVariants as faults
 use Rattle.brick_store.specs.Bricks.{Brick}
+use Rattle.brick_store.specs.Calls.{Append, append_of, calls_for, calls_of, IsListedAfter}
 use Rattle.brick_store.specs.Changes.{Answers}
 use Rattle.brick_store.specs.Ends.{BrickChange}
 use Rattle.brick_store.specs.Ends as store_ends
 use Rattle.brick_store.specs.Images.{StandsFor}
+use Rattle.brick_store.specs.Lengths.{ListsBy}
 use Rattle.replica.specs.declared.faults.ReplicaFault.{ReplicaFault}
 use Rattle.replica.specs.declared.faults.ReplicaFault.TheVariants.{Disk, Halted, NoMemory}
-use Rattle.replica.specs.Parts.{part_in}
-use Rattle.replica.specs.Handling.{Runs, Handles, KeepsParts, StandsForNext, NextChange, end_of, halted_after, answered, seen_as}
+use Rattle.replica.specs.Handling.{Runs, Handles, KeepsAll, StandsForNext, NextChange, KeepsNext, end_of, halted_after, answered, seen_as}
 use Rattle.replica.proofs.Runs.{run_of_none}
 
 differ : {A : Type 0} → false ≡ true → A
@@ -110,16 +112,37 @@ module _ {D : Type 0} (d : on_disk.Ghosts D) where
       (λ told here image. ⊎_elim (λ at. inl at) (λ at. inr (after, answer, at, follows)))
       (λ told image at. (after, answer, at, follows)) run)
 
+  -- a call that had nothing to append
+  pub keeps_none : {A : Type 0} (only_now : (disk : D) (image : List ℕ) → d.left_since disk (d.moment disk) image → d.may_leave disk image)
+      (Follows : Option A → StateOf Version → Type 0) (old : Brick D) (given : Option Append) → given ≡ None
+      → (d.tells → Stands d (StandsFor old.shape old.state) old.disk) → (answer : Option A) → Follows answer old.state
+      → KeepsNext d given Follows old old Whole
+  keeps_none only_now Follows old given none stands answer follows =
+      subst (λ (a : Option Append). KeepsNext d a Follows old old Whole) (sym none) (record {
+        change = next_none only_now Follows old old.disk (still_here old.disk) stands answer follows;
+        listed = record { whole = λ is. refl; not_begun = λ is. refl };
+      })
+
+  -- one that was refused at once
+  pub keeps_refused : {A : Type 0} (only_now : (disk : D) (image : List ℕ) → d.left_since disk (d.moment disk) image → d.may_leave disk image)
+      (Follows : Option A → StateOf Version → Type 0) (old : Brick D) (given : Option Append) → KeepsNext d given Follows old old NotBegun
+  keeps_refused only_now Follows old given = record {
+    change = next_refused only_now Follows old old.disk (still_here old.disk) (calls_for old.shape old.listed given);
+    listed = record { whole = λ is. absurd cc; not_begun = λ is. refl };
+  }
+
   -- in the words of another answer
   pub next_seen : {A B : Type 0} (f : A → B) (Follows : Option A → StateOf Version → Type 0) (Also : Option B → StateOf Version → Type 0)
-      (implies : (answer : Option A) (st : StateOf Version) → Follows answer st → Also (option_map f answer) st) (calls : ℕ) (old : Brick D) (new : D)
-      (result : Result (Option A) ReplicaFault) → NextChange d calls old Follows new (end_of result)
-      → NextChange d calls old Also new (end_of (seen_as f result))
-  next_seen f Follows Also implies calls old new result run =
-      subst (λ (end : End). NextChange d calls old Also new end) (ends_seen f result)
-      (widen d calls (StandsFor old.shape old.state) _ (StandsForNext old.shape Follows) (StandsFor old.shape old.state) _
-      (StandsForNext old.shape Also) old.disk new (end_of result) (λ told here. here) (λ told here image at. at)
-      (λ told here image. ⊎_elim (λ at. inl at) (λ at. inr (seen image at))) (λ told image. seen image) run)
+      (implies : (answer : Option A) (st : StateOf Version) → Follows answer st → Also (option_map f answer) st) (given : Option Append) (old new : Brick D)
+      (result : Result (Option A) ReplicaFault) → KeepsNext d given Follows old new (end_of result)
+      → KeepsNext d given Also old new (end_of (seen_as f result))
+  next_seen f Follows Also implies given old new result keeps =
+      subst (λ (end : End). KeepsNext d given Also old new end) (ends_seen f result) (record {
+        change = widen d (calls_for old.shape old.listed given) (StandsFor old.shape old.state) _ (StandsForNext old.shape Follows)
+            (StandsFor old.shape old.state) _ (StandsForNext old.shape Also) old.disk new.disk (end_of result) (λ told here. here)
+            (λ told here image at. at) (λ told here image. ⊎_elim (λ at. inl at) (λ at. inr (seen image at))) (λ told image. seen image) keeps.change;
+        listed = keeps.listed;
+      })
     where
       seen : (image : List ℕ) → StandsForNext old.shape Follows image → StandsForNext old.shape Also image
       seen image at = (at.0, option_map f at.1, at.2, implies at.1 at.0 at.3)
@@ -140,8 +163,8 @@ module _ {D A : Type 0} (d : on_disk.Ghosts D) (Follows : Option A → StateOf V
     shape = shape;
     stood = λ told running. runs.stands told;
     stands = λ told. on_ok (Stands d (StandsFor new.shape new.state) new.disk) result (stands_still told);
-    still = on_ok (KeepsParts old.shape.block old.state new.state → (new.state ≡ old.state)
-        × IsUntouched d.seen d.may_leave d.moment d.left_since old.disk new.disk) result (λ same. (state, untouched));
+    still = on_ok ((layout : Layout) → KeepsAll layout old.shape.block old.state new.state → (new.state ≡ old.state)
+        × IsUntouched d.seen d.may_leave d.moment d.left_since old.disk new.disk) result (λ layout same. (state, untouched));
     halted = not_running old result runs;
     only_halted = λ is. absurd (not_halted is);
     halts = halted ∙ same_halted old.halted result not_disk;
@@ -163,17 +186,17 @@ module _ {D A : Type 0} (d : on_disk.Ghosts D) (Follows : Option A → StateOf V
 
 module _ {D : Type 0} (d : on_disk.Ghosts D) (Follows : Option Reply → StateOf Version → Type 0) where
   -- A change of the store, and the reply that says so, if there is one.
-  module _ (g e s : ℕ) (old new : Brick D) (after : StateOf Version) (adds : Bool) (calls : ℕ) (reply : Option Reply) (runs : Runs d old)
+  module _ (old new : Brick D) (after : StateOf Version) (body : ℕ) (adds : Bool) (appends : ℕ) (reply : Option Reply) (runs : Runs d old)
       (made : (adds ≡ true → live old.state ≡ old.shape.records → ⊥) → Follows reply after)
       (none : adds ≡ true → live old.state ≡ old.shape.records → Follows (Some (Full (live old.state))) old.state)
-      (moves : part_in old.shape.block after g e s ≡ part_in old.shape.block old.state g e s → ⊥) where
+      (moves : (layout : Layout) → KeepsAll layout old.shape.block old.state after → ⊥) where
     -- it was made, or the disk failed
-    room : (answer : Result (Unit {0}) StoreFault) → Answers old new after adds answer → answer ≢ Err (faults.Full (live old.state)) → adds ≡ true
+    room : (answer : Result (Unit {0}) StoreFault) → Answers old new after body adds answer → answer ≢ Err (faults.Full (live old.state)) → adds ≡ true
         → live old.state ≡ old.shape.records → ⊥
     room answer change other add full = other (change.answer.full runs.runs add full)
 
-    pub handles_change : (answer : Result (Unit {0}) StoreFault) → BrickChange d calls old after new.disk (store_ends.end_of answer)
-        → Answers old new after adds answer → Handles d Follows old new (answered reply answer)
+    pub handles_change : (answer : Result (Unit {0}) StoreFault) → BrickChange d (calls_of old body appends) old after new.disk (store_ends.end_of answer)
+        → Answers old new after body adds answer → Handles d Follows old new (answered reply answer)
     handles_change (Ok done) run change =
         let follows : Follows reply after = made (room (Ok done) change (λ h. absurd cc)) in
         record {
@@ -183,7 +206,7 @@ module _ {D : Type 0} (d : on_disk.Ghosts D) (Follows : Option Reply → StateOf
           stood = λ told running. runs.stands told;
           stands = λ told. subst (λ (x : Shape). Stands d (StandsFor x new.state) new.disk) (sym change.ok.shape)
               (subst (λ (st : StateOf Version). Stands d (StandsFor old.shape st) new.disk) (sym change.ok.state) (run.whole refl told));
-          still = λ same. absurd (moves (subst (λ (st : StateOf Version). part_in old.shape.block st g e s ≡ part_in old.shape.block old.state g e s) change.ok.state (same g e s)));
+          still = λ layout same. absurd (moves layout (subst (λ (st : StateOf Version). KeepsAll layout old.shape.block old.state st) change.ok.state same));
           halted = λ h. differ (sym runs.runs ∙ h);
           only_halted = λ h. absurd cc;
           halts = change.answer.halts;
@@ -209,35 +232,57 @@ module _ {D : Type 0} (d : on_disk.Ghosts D) (Follows : Option Reply → StateOf
         handles_untouched d Follows old new (Err NoMemory) runs change.refused.shape change.refused.state change.answer.halts (run.not_begun refl)
         (λ h. absurd cc) (λ h. absurd cc) tt
 
-    -- The disk was changed so, by as many calls as the message was to make, or left alone for want of room.
-    pub change_next : ((disk : D) (image : List ℕ) → d.left_since disk (d.moment disk) image → d.may_leave disk image) → (given : ℕ)
-        → ((adds ≡ true → live old.state ≡ old.shape.records → ⊥) → given ≡ calls) → (adds ≡ true → live old.state ≡ old.shape.records → given ≡ 0)
-        → (answer : Result (Unit {0}) StoreFault) → BrickChange d calls old after new.disk (store_ends.end_of answer)
-        → Answers old new after adds answer → NextChange d given old Follows new.disk (end_of (answered reply answer))
+    -- The disk was changed so, by what the message was to append, or left alone for want of room.
+    change_next : ((disk : D) (image : List ℕ) → d.left_since disk (d.moment disk) image → d.may_leave disk image) → (given : Option Append)
+        → ((adds ≡ true → live old.state ≡ old.shape.records → ⊥) → given ≡ Some (append_of body appends))
+        → (adds ≡ true → live old.state ≡ old.shape.records → given ≡ None) → (answer : Result (Unit {0}) StoreFault) → BrickChange d (calls_of old body appends) old after new.disk (store_ends.end_of answer)
+        → Answers old new after body adds answer → NextChange d (calls_for old.shape old.listed given) old Follows new.disk (end_of (answered reply answer))
     change_next only_now given some zero (Ok done) run change =
         let free = room (Ok done) change (λ h. absurd cc) in
-        next_as d Follows old new.disk after reply calls given Whole (made free) (some free) run
+        next_as d Follows old new.disk after reply (calls_of old body appends) _ Whole (made free) (ap (calls_for old.shape old.listed) (some free)) run
     change_next only_now given some zero (Err faults.Disk) run change =
         let free = room (Err faults.Disk) change (λ h. absurd cc) in
-        next_as d Follows old new.disk after reply calls given Cut (made free) (some free) run
+        next_as d Follows old new.disk after reply (calls_of old body appends) _ Cut (made free) (ap (calls_for old.shape old.listed) (some free)) run
     change_next only_now given some zero (Err (faults.Full n)) run change =
         let was = change.answer.only_full n refl in
         let follows : Follows (Some (Full n)) old.state = subst (λ (m : ℕ). Follows (Some (Full m)) old.state) (sym was.3) (none was.1 was.2) in
-        subst (λ (m : ℕ). NextChange d m old Follows new.disk Whole) (sym (zero was.1 was.2))
-        (next_none d only_now Follows old new.disk (still_of d calls old after new.disk run) runs.stands (Some (Full n)) follows)
+        subst (λ (a : Option Append). NextChange d (calls_for old.shape old.listed a) old Follows new.disk Whole) (sym (zero was.1 was.2))
+        (next_none d only_now Follows old new.disk (still_of d (calls_of old body appends) old after new.disk run) runs.stands (Some (Full n)) follows)
     change_next only_now given some zero (Err faults.Halted) run change = differ (sym runs.runs ∙ change.answer.only_then refl)
     change_next only_now given some zero (Err faults.NoMemory) run change =
-        next_refused d only_now Follows old new.disk (still_of d calls old after new.disk run) given
+        next_refused d only_now Follows old new.disk (still_of d (calls_of old body appends) old after new.disk run) _
+
+    -- The list is longer by that, or as it was.
+    lists_next : (given : Option Append) → ((adds ≡ true → live old.state ≡ old.shape.records → ⊥) → given ≡ Some (append_of body appends))
+        → (adds ≡ true → live old.state ≡ old.shape.records → given ≡ None) → (answer : Result (Unit {0}) StoreFault)
+        → Answers old new after body adds answer
+        → ListsBy (end_of (answered reply answer)) (IsListedAfter old.shape (live old.state) old.listed given) old.listed new.listed
+    lists_next given some zero (Ok done) change = record {
+      whole = λ is. subst (λ (a : Option Append). IsListedAfter old.shape (live old.state) old.listed a new.listed)
+          (sym (some (room (Ok done) change (λ h. absurd cc)))) (change.listed.whole refl);
+      not_begun = λ is. absurd cc;
+    }
+    lists_next given some zero (Err faults.Disk) change = record { whole = λ is. absurd cc; not_begun = λ is. absurd cc }
+    lists_next given some zero (Err (faults.Full n)) change = record {
+      whole = λ is. let was = change.answer.only_full n refl in
+          subst (λ (a : Option Append). IsListedAfter old.shape (live old.state) old.listed a new.listed) (sym (zero was.1 was.2))
+          (change.listed.not_begun refl);
+      not_begun = λ is. absurd cc;
+    }
+    lists_next given some zero (Err faults.Halted) change = differ (sym runs.runs ∙ change.answer.only_then refl)
+    lists_next given some zero (Err faults.NoMemory) change = record { whole = λ is. absurd cc; not_begun = λ is. change.listed.not_begun refl }
 
     -- and both of the answer that the brick gave
-    pub changed_next : ((disk : D) (image : List ℕ) → d.left_since disk (d.moment disk) image → d.may_leave disk image) → (given : ℕ)
-        → ((adds ≡ true → live old.state ≡ old.shape.records → ⊥) → given ≡ calls) → (adds ≡ true → live old.state ≡ old.shape.records → given ≡ 0)
-        → (answer : Result (Unit {0}) StoreFault) (result : AnswerOf Reply) → result ≡ answered reply answer
-        → BrickChange d calls old after new.disk (store_ends.end_of answer) → Answers old new after adds answer
-        → Handles d Follows old new result × NextChange d given old Follows new.disk (end_of result)
+    pub changed_next : ((disk : D) (image : List ℕ) → d.left_since disk (d.moment disk) image → d.may_leave disk image) → (given : Option Append)
+        → ((adds ≡ true → live old.state ≡ old.shape.records → ⊥) → given ≡ Some (append_of body appends))
+        → (adds ≡ true → live old.state ≡ old.shape.records → given ≡ None) → (answer : Result (Unit {0}) StoreFault) (result : AnswerOf Reply) → result ≡ answered reply answer
+        → BrickChange d (calls_of old body appends) old after new.disk (store_ends.end_of answer) → Answers old new after body adds answer
+        → Handles d Follows old new result × KeepsNext d given Follows old new (end_of result)
     changed_next only_now given some zero answer result is run change =
-        subst (λ (r : AnswerOf Reply). Handles d Follows old new r × NextChange d given old Follows new.disk (end_of r)) (sym is)
-        (handles_change answer run change, change_next only_now given some zero answer run change)
+        subst (λ (r : AnswerOf Reply). Handles d Follows old new r × KeepsNext d given Follows old new (end_of r)) (sym is) (
+          handles_change answer run change,
+          record { change = change_next only_now given some zero answer run change; listed = lists_next given some zero answer change },
+        )
 
 abbrev fails : (A : Type 0) → ReplicaFault → AnswerOf A
 fails A fault = Err fault

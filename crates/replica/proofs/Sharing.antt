@@ -7,18 +7,17 @@ use Rattle.brick_store.specs.Blocks.{block_added}
 use Rattle.replica.specs.Parts.{as_version}
 use Rattle.replica.proofs.Logs.{newest_seen}
 use Rattle.messages.specs.declared.requests.Version.{Version}
-use Rattle.brick_store.specs.Bricks.{Brick}
 use Rattle.fab_base.specs.declared.stamps.Stamp.{Stamp}
 use Rattle.messages.specs.declared.replies.Reply.{Reply}
 use Rattle.messages.specs.declared.replies.Reply.TheVariants.{Full}
-use Rattle.brick_store.specs.Calls.{calls_of}
+use Rattle.brick_store.specs.Calls.{Append}
 use Rattle.protocol.specs.Replicas.{Replica, Reaction, is_held, below, collected, newest_of, promised, stays, unless_full}
 use Rattle.replica.specs.declared.plans.Plan.{Plan}
 use Rattle.replica.specs.declared.plans.Plan.TheVariants.{Ignore, Tell, Promise, Store, Collect}
 use Rattle.replica.specs.Plans.{block_stored, planned, is_shared, IsStorable, IsChange}
-use Rattle.replica.specs.Calls.{part_calls}
+use Rattle.replica.specs.Calls.{part_append}
 use Rattle.replica.proofs.Dropping.{collected_held}
-use Rattle.replica.proofs.Runs.{calls_kept, calls_dropped, same_long}
+use Rattle.replica.proofs.Runs.{append_kept, append_dropped, same_long, stamped}
 
 -- a version without a block of its own is one that shares
 shares_is : (size : ℕ) (shares : Bool) (newest : Option Version) (block : Option (List ℕ)) → IsStorable size shares newest block → is_none block ≡ shares
@@ -63,12 +62,10 @@ stored_added log None = ap (λ (found : Option Version). unwrap_or (option_map (
 -- ---- what is dropped
 
 -- a shorter log takes one record, whatever a version that is stored would share
-module _ {D : Type 0} (store : Brick D) where
-  pub calls_collected : (shares : Bool) (part : Replica) (t : Stamp) → IsTrue (is_held t part.log) → below t part.log ≢ []
-      → part_calls store.shape store.listed shares part (collected part t).replica ≡ calls_of store 30 4
-  calls_collected shares part t held some =
-      ap (λ (r : Reaction). part_calls store.shape store.listed shares part r.replica) (collected_held part t held)
-      ∙ calls_dropped store shares part t some
+pub append_collected : (shares : Bool) (part : Replica) (t : Stamp) → IsTrue (is_held t part.log) → below t part.log ≢ []
+    → part_append shares part (collected part t).replica ≡ stamped
+append_collected shares part t held some =
+    ap (λ (r : Reaction). part_append shares part r.replica) (collected_held part t held) ∙ append_dropped shares part t some
 
 -- ---- what a request says
 
@@ -84,9 +81,9 @@ module _ (size : ℕ) (shares : Bool) (part : Replica) where
   )
   change_planned (Collect t) change = change
 
-  module _ {D : Type 0} (store : Brick D) (full : Option ℕ) where
-    abbrev calls : Bool → Reaction → ℕ
-    calls b reaction = part_calls store.shape store.listed b part reaction.replica
+  module _ (full : Option ℕ) where
+    abbrev appends : Bool → Reaction → Option Append
+    appends b reaction = part_append b part reaction.replica
 
     -- a promise leaves the log as it is
     promise_long : (t : Stamp) (reply : Reply) → length (unless_full full part (promised part t reply)).replica.log ≡ length part.log
@@ -100,12 +97,14 @@ module _ (size : ℕ) (shares : Bool) (part : Replica) where
         by None = refl
         by (Some live) = room live (ltb 0 (promised part t reply).adds)
 
-    -- so it takes as many calls
-    pub calls_planned : (plan : Plan) → IsChange size shares part plan → calls (is_shared plan) (planned full part plan) ≡ calls shares (planned full part plan)
-    calls_planned Ignore change = calls_kept store false part ∙ sym (calls_kept store shares part)
-    calls_planned (Tell reply) change = calls_kept store false part ∙ sym (calls_kept store shares part)
-    calls_planned (Promise t reply) change =
+    -- so it appends the same
+    pub append_planned : (plan : Plan) → IsChange size shares part plan
+        → appends (is_shared plan) (planned full part plan) ≡ appends shares (planned full part plan)
+    append_planned Ignore change = append_kept false part ∙ sym (append_kept shares part)
+    append_planned (Tell reply) change = append_kept false part ∙ sym (append_kept shares part)
+    append_planned (Promise t reply) change =
         let after = (planned full part (Promise t reply)).replica in
-        same_long store false part after (promise_long t reply) ∙ sym (same_long store shares part after (promise_long t reply))
-    calls_planned (Store t block) change = ap (λ (b : Bool). calls b (planned full part (Store t block))) (shares_is size shares (newest_of part.log) block change.1)
-    calls_planned (Collect t) change = calls_collected store false part t change.0 change.1 ∙ sym (calls_collected store shares part t change.0 change.1)
+        same_long false part after (promise_long t reply) ∙ sym (same_long shares part after (promise_long t reply))
+    append_planned (Store t block) change =
+        ap (λ (b : Bool). appends b (planned full part (Store t block))) (shares_is size shares (newest_of part.log) block change.1)
+    append_planned (Collect t) change = append_collected false part t change.0 change.1 ∙ sym (append_collected shares part t change.0 change.1)

@@ -33,7 +33,7 @@ returns-in_err-make_room g c =
     ∙ room_then old.shape (size_of old.frames) c.len.result (version_calls put) in
     let p = err_from_is_err_and c.from_residual-in_err-make_room.result c.from_residual-in_err-make_room.ensures.1 in
     rw (p.1, p.2) (record {
-      step = step_stopped d st next old c.make_room.new.frames fault room.step;
+      step = step_stopped d st next _ _ old c.make_room.new.frames fault room.step;
       change = first_stopped d put st next old (calls_with old.shape (size_of old.frames) c.len.result 0) _ c.make_room.new.frames.disk _
           (omega (arith, sum, some_calls put)) (not_whole fault) room.change;
     })

@@ -29,13 +29,13 @@ returns-in_err-reserve-clause-step g c =
     let st = state_of c.args.index.now in
     let call = c.in_err-reserve.ensures in
     let p = err_from_is_err_and c.from_residual-in_err-reserve.result c.from_residual-in_err-reserve.ensures.1 in
-    rw (p.1, p.2) (call_refused g.D.Disk st st c.args.frames.now c.reserve.new.self c.in_err-reserve.field-0.0 c.requires.store.may call.same call.read call.answer)
+    rw (p.1, p.2) (call_refused g.D.Disk st st _ c.args.frames.now c.reserve.new.self c.in_err-reserve.field-0.0 c.requires.store.may call.same call.read call.answer)
 
 pub returns-in_err-rewrite : goal.returns-in_err-rewrite
 returns-in_err-rewrite g c =
     let call = c.in_err-rewrite.ensures in
     let made = reserved_made g.D.Disk g.met.D.Disk.only_now g.met.D.Disk.counts_now c.in_ok-live.live.items (state_of c.args.index.now) c.args.frames.now
-    c.reserve.new.self c.rewrite.new.self _ (Err c.in_err-rewrite.field-0.0) c.requires.store.may c.requires.store.indexed.kept c.in_ok-live.ensures.read
+    c.reserve.new.self c.rewrite.new.self _ (Err c.in_err-rewrite.field-0.0) c.requires.store.may c.requires.store.indexed.kept c.in_ok-live.ensures.read c.in_ok-live.ensures.size
     c.in_ok-reserve.ensures.same c.in_ok-reserve.ensures.still c.in_ok-reserve.ensures.read c.in_ok-reserve.ensures.answer.halts
     (record { change = call.change; ok = tt; answer = call.answer; refused = call.refused; read = call.read }) in
     let p = err_from_is_err_and c.from_residual-in_err-rewrite.result c.from_residual-in_err-rewrite.ensures.1 in
@@ -47,7 +47,7 @@ pub returns-clause-step : goal.returns-clause-step
 returns-clause-step g c =
     let call = c.in_ok-rewrite.ensures in
     (reserved_made g.D.Disk g.met.D.Disk.only_now g.met.D.Disk.counts_now c.in_ok-live.live.items (state_of c.args.index.now) c.args.frames.now
-    c.reserve.new.self c.rewrite.new.self _ (Ok tt) c.requires.store.may c.requires.store.indexed.kept c.in_ok-live.ensures.read
+    c.reserve.new.self c.rewrite.new.self _ (Ok tt) c.requires.store.may c.requires.store.indexed.kept c.in_ok-live.ensures.read c.in_ok-live.ensures.size
     c.in_ok-reserve.ensures.same c.in_ok-reserve.ensures.still c.in_ok-reserve.ensures.read c.in_ok-reserve.ensures.answer.halts
     (record { change = call.change; ok = call.ok; answer = call.answer; refused = tt; read = call.read })).step
 
@@ -55,7 +55,7 @@ pub returns-clause-change : goal.returns-clause-change
 returns-clause-change g c =
     let call = c.in_ok-rewrite.ensures in
     (reserved_made g.D.Disk g.met.D.Disk.only_now g.met.D.Disk.counts_now c.in_ok-live.live.items (state_of c.args.index.now) c.args.frames.now
-    c.reserve.new.self c.rewrite.new.self _ (Ok tt) c.requires.store.may c.requires.store.indexed.kept c.in_ok-live.ensures.read
+    c.reserve.new.self c.rewrite.new.self _ (Ok tt) c.requires.store.may c.requires.store.indexed.kept c.in_ok-live.ensures.read c.in_ok-live.ensures.size
     c.in_ok-reserve.ensures.same c.in_ok-reserve.ensures.still c.in_ok-reserve.ensures.read c.in_ok-reserve.ensures.answer.halts
     (record { change = call.change; ok = call.ok; answer = call.answer; refused = tt; read = call.read })).change
 

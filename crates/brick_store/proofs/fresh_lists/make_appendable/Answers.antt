@@ -1,15 +1,20 @@
 -- A list that can be appended to needs nothing but room in memory and a sync.
-use Rattle.std.proofs.Common.{rules, ◌≡◌, ◌+◌, ◌≤◌, ◌∙◌, ℕ, Bool, true, false, if◌then◌else◌, Ok, sym, ap, subst, arith}
+use Rattle.std.proofs.Common.{rules, ◌≡◌, ◌+◌, ◌≤◌, ◌∙◌, ℕ, Bool, List, true, false, if◌then◌else◌, Ok, sym, ap, subst, arith}
 use Rattle.std.specs.Prelude.{IsOk}
 use Rattle.std.proofs.lemmas.Result.{err_from_is_err_and}
 use Rattle.frame_store.specs.declared.faults.FrameFault.{FrameFault}
 use Rattle.frame_store.specs.declared.faults.FrameFault.TheVariants as frames
+use Rattle.frame_store.specs.declared.frames.Frame.{Frame}
+use Rattle.frame_store.specs.Listed.{size_of}
+use Rattle.brick_state.specs.States.{live}
 use Rattle.brick_state.specs.Indexes.{state_of}
 use Rattle.brick_store.specs.declared.faults.StoreFault.TheVariants.{Disk}
 use Rattle.brick_store.specs.Bricks.{fault_of}
 use Rattle.brick_store.specs.Calls.{is_appendable}
 use Rattle.brick_store.specs.Ends.{end_of}
+use Rattle.brick_store.specs.Lengths.{HasMadeRoom}
 use Rattle.brick_store.specs.Openings.{Readies}
+use Rattle.brick_store.proofs.Lengths.{renewed, room_there}
 use Rattle.brick_store.proofs.OpeningLaws.{ready_by}
 use Rattle.brick_store.proofs.Cutting.{disk_meant}
 use Rattle.brick_store.proofs.CutOpenings.{run_clock, sync_cut}
@@ -32,6 +37,18 @@ returns-then-is_appendable-clause-room g c =
     let call = c.in_ok-sync.ensures in
     let block : new.shape.block ≡ old.shape.block = ap (λ (s : Shape). s.block) (call.same.shape ∙ made.same.shape) in
     room_less d.has_room g.met.D.Disk.room_for_less new _ _ _ _ _ _ (omega arith) (omega (arith, block)) (omega arith) (call.left 12 _ _ made.room)
+
+pub returns-then-is_appendable-clause-listed : goal.returns-then-is_appendable-clause-listed
+returns-then-is_appendable-clause-listed g c =
+    let old = c.args.frames.now in
+    let there : is_appendable c.args.whole old c.args.body ≡ true = search rules in
+    subst (λ (fs : List Frame). HasMadeRoom (is_appendable c.args.whole old c.args.body) (live (state_of c.args.index.now)) (size_of old.frames)
+    (size_of fs)) (sym (c.in_ok-sync.ensures.same.frames ∙ c.in_ok-reserve.ensures.same.frames)) (room_there there)
+
+pub returns-clause-listed : goal.returns-clause-listed
+returns-clause-listed g c =
+    let never : is_appendable c.args.whole c.args.frames.now c.args.body ≡ false = search rules in
+    renewed _ _ _ _ c.renew.result never c.renew.ensures.listed
 
 pub returns-then-is_appendable-clause-readies : goal.returns-then-is_appendable-clause-readies
 returns-then-is_appendable-clause-readies g c =

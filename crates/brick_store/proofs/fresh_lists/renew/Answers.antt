@@ -1,5 +1,5 @@
 -- The frames of the live records bring the state back, and all memory is taken first.
-use Rattle.std.proofs.Common.{rules, ◌≡◌, ◌+◌, true, false, List, None, Ok, Err, refl, sym, ap, subst, ◌∙◌, arith}
+use Rattle.std.proofs.Common.{rules, ◌≡◌, ℕ, ◌+◌, ◌≤◌, true, false, List, None, Ok, Err, refl, sym, ap, subst, ◌∙◌, arith}
 use Rattle.std.specs.Prelude.{IsOk}
 use Rattle.std.proofs.lemmas.Result.{err_from_is_err_and}
 use Rattle.frame_store.specs.declared.faults.FrameFault.{FrameFault}
@@ -9,10 +9,11 @@ use Rattle.frame_store.specs.Listed.{size_of}
 use Rattle.frame_store.specs.Stores.{HasRoom}
 use Rattle.frame_store.specs.Ends.{end_of}
 use Rattle.frame_store.proofs.Words.{run_by, cause_by, stands_of}
-use Rattle.brick_state.specs.States.{empty}
+use Rattle.brick_state.specs.States.{empty, live}
 use Rattle.brick_state.specs.Indexes.{state_of}
 use Rattle.brick_store.specs.Bricks.{fault_of}
 use Rattle.brick_store.specs.Images.{limits_of}
+use Rattle.brick_store.specs.Sizes.{most_listed}
 use Rattle.brick_store.specs.Standing.{Leads}
 use Rattle.brick_store.specs.declared.faults.StoreFault.TheVariants.{Disk, NoMemory}
 use Rattle.brick_store.proofs.FreshLists.{live_lead, renewed}
@@ -157,6 +158,11 @@ returns-clause-room g c =
     let after = call.left 5 bytes (c.args.body + 6) before in
     room_less d.has_room g.met.D.Disk.room_for_less new _ _ _ _ _ _ (omega arith) (omega (arith, block new.shape mid.shape call.ok.shape))
     (omega arith) after
+
+pub returns-clause-listed : goal.returns-clause-listed
+returns-clause-listed g c =
+    let few : ℕ = most_listed (live (state_of c.args.index.now)) in
+    subst (λ (fs : List Frame). size_of fs ≤ few) (sym c.in_ok-rewrite.ensures.ok.frames) c.in_ok-live.ensures.size
 
 pub returns-clause-slots : goal.returns-clause-slots
 returns-clause-slots g c =

@@ -1,14 +1,19 @@
 -- What was opened is what the disk held, counted.
-use Rattle.std.proofs.Common.{◌∙◌, Err, refl, sym, ap, subst}
+use Rattle.std.proofs.Common.{ℕ, List, ◌∙◌, Err, refl, sym, ap, subst}
 use Rattle.fab_disk.specs.Changing.{Whole}
 use Rattle.frame_store.specs.declared.shapes.Shape.{Shape}
+use Rattle.frame_store.specs.Images.{OpensAs}
 use Rattle.frame_store.specs.Layouts.{shape_of}
 use Rattle.frame_store.proofs.Stills.{still_none}
+use Rattle.brick_state.specs.Entries.{Entry}
+use Rattle.brick_state.specs.States.{StateOf, live}
 use Rattle.brick_state.specs.Indexes.{state_of}
 use Rattle.brick_store.specs.Blocks.{resolved, cached}
 use Rattle.brick_store.specs.Openings.{IsCounted, IsWornOut, Opens, stopped_by}
 use Rattle.brick_store.proofs.Opened.{found_there, worn_there}
 use Rattle.brick_store.proofs.KeptLogs.{standing_stands}
+use Rattle.brick_store.proofs.Lengths.{counted_there}
+use Rattle.brick_store.proofs.Resolving.{live-resolved}
 use Rattle.brick_store.proofs.OpeningLaws.{read_meant, refused_opens, started_opens}
 use Rattle.brick_store.proofs.openings.open_store.Goals as goal
 
@@ -38,6 +43,17 @@ returns-in-Ok-take_up-clause-stands g c = λ told.
     let made = c.in-Ok-take_up.ensures in
     let taken = c.in-Ok-take_up.taken in
     standing_stands g.D.Disk taken.blocks taken.zero c.take_up.new.frames taken.index made.standing told (made.still_runs refl)
+
+pub returns-in-Ok-take_up-clause-listed : goal.returns-in-Ok-take_up-clause-listed
+returns-in-Ok-take_up-clause-listed g c = λ told.
+    let held = c.in-Ok-opened.frames in
+    let here = c.in-Ok-opened.ensures in
+    let made = c.in-Ok-take_up.ensures in
+    let taken = c.in-Ok-take_up.taken in
+    counted_there held _ (g.D.Disk.seen c.args.disk) c.take_up.new.frames.shape _
+    (subst (λ (image : List ℕ). OpensAs held.shape held.frames held.closed image) here.still.untouched.content (here.read told here.runs).opens) made.shape
+    (live-resolved (cached c.take_up.new.frames.shape.block taken.blocks) (state_of taken.index) ∙ ap (λ (s : StateOf Entry). live s) made.state)
+    (made.listed refl)
 
 pub returns-in-Ok-take_up-clause-opens : goal.returns-in-Ok-take_up-clause-opens
 returns-in-Ok-take_up-clause-opens g c =

@@ -7,16 +7,20 @@ use Rattle.fab_disk.proofs.Plans.{run_as, run_both, run_cut}
 use Rattle.frame_store.proofs.Stills.{still_none}
 use Rattle.stamp_store.specs.declared.kept_records.Kept.TheVariants.{Boot}
 use Rattle.frame_store.specs.declared.shapes.Shape.{Shape}
+use Rattle.frame_store.specs.Listed.{size_of}
 use Rattle.brick_state.specs.declared.records.Record.TheVariants as forms
 use Rattle.brick_state.specs.Entries.{Entry}
-use Rattle.brick_state.specs.States.{StateOf, booted}
+use Rattle.brick_state.specs.States.{StateOf, booted, live}
 use Rattle.brick_state.specs.Indexes.{state_of}
 use Rattle.brick_state.specs.Indexes as indexes
 use Rattle.brick_store.specs.Calls.{is_appendable}
+use Rattle.brick_store.specs.Lengths.{HasMadeRoom}
+use Rattle.brick_store.specs.Sizes.{framed}
 use Rattle.brick_store.specs.Steps.{IsUnchanged, IsChanged, changed}
 use Rattle.brick_store.specs.Ends.{end_of}
 use Rattle.brick_store.specs.Openings.{IsKeptIn, StopsOpening}
 use Rattle.brick_store.proofs.Counting.{start_sum}
+use Rattle.brick_store.proofs.Lengths.{counted_on}
 use Rattle.brick_store.proofs.CutOpenings.{readying_cut, count_cut}
 use Rattle.brick_store.proofs.OpeningLaws.{refused_starts, tried_ends}
 use Rattle.brick_store.proofs.Starting.{counted, counted_moments, settled_moments}
@@ -96,6 +100,17 @@ returns-clause-starts g c =
       not_begun = λ is. absurd (ends.1 is);
       cause = kept_both (d.faults old.disk) (d.faults mid.disk) (d.faults new.disk) _ _ _ _ _ made.readies.cause change.cause;
     }
+
+pub returns-clause-listed : goal.returns-clause-listed
+returns-clause-listed g c =
+    let st = state_of c.args.index.now in
+    let old = c.args.frames.now in
+    let mid = c.make_appendable.new.frames in
+    let body = c.in_ok-frame.ensures.length in
+    let room = subst (λ (n : ℕ). HasMadeRoom (is_appendable c.args.whole old n) (live st) (size_of old.frames) (size_of mid.frames)) (c.len.ensures ∙ body)
+    c.in_ok-make_appendable.ensures.listed in
+    counted_on _ _ c.append_count.result room (subst (λ (n : ℕ). OnOk c.append_count.result (size_of c.append_count.new.frames.frames ≡ size_of mid.frames + framed n)) body
+    c.append_count.ensures.step.listed)
 
 pub returns-clause-settled : goal.returns-clause-settled
 returns-clause-settled g c =

@@ -7,6 +7,7 @@ use Rattle.fab_disk.specs.Changing.{End, NotBegun}
 use Rattle.frame_store.proofs.Stills.{still_none}
 use Rattle.frame_store.specs.declared.shapes.Shape.{Shape}
 use Rattle.frame_store.specs.Images.{KeepsSlots}
+use Rattle.frame_store.specs.Listed.{size_of}
 use Rattle.brick_state.specs.Entries.{Entry}
 use Rattle.brick_state.specs.States.{StateOf, empty}
 use Rattle.brick_state.specs.Indexes.{state_of}
@@ -14,6 +15,7 @@ use Rattle.brick_state.specs.Indexes as indexes
 use Rattle.brick_store.specs.Images.{limits_of}
 use Rattle.brick_store.specs.Standing.{AllSlots, IsStored, Leads}
 use Rattle.brick_store.specs.Openings.{Starts, stopped_by}
+use Rattle.brick_store.proofs.Lengths.{counted_loaded}
 use Rattle.brick_store.proofs.OpeningLaws.{cut_by, loaded_starts, never_whole, refused_starts, start_ends}
 use Rattle.brick_store.proofs.Starting.{standing_from}
 use Rattle.brick_store.proofs.taking_up.take_up.Goals as goal
@@ -76,6 +78,12 @@ pub returns-in-Ok-clause-stored : goal.returns-in-Ok-clause-stored
 returns-in-Ok-clause-stored g c = λ told.
     subst (λ (x : StateOf Entry). AllSlots (IsStored c.args.frames.now.shape c.in_ok-blocks.blocks (g.D.Disk.seen c.args.frames.now.disk)) x)
     (sym c.in_ok-blocks.ensures.loaded.fold.found) (c.in_ok-blocks.ensures.loaded.stored told)
+
+pub returns-in-Ok-clause-listed : goal.returns-in-Ok-clause-listed
+returns-in-Ok-clause-listed g c = λ ok.
+    let fold = c.in_ok-blocks.ensures.loaded.fold in
+    counted_loaded c.args.frames.now (size_of c.start.new.frames.frames) c.load.new.frames c.args.folded.whole _ (state_of c.args.folded.index) _
+    c.load.ensures.same fold.whole_is fold.found c.in-Ok.ensures.listed
 
 pub returns-in-Ok-clause-boots : goal.returns-in-Ok-clause-boots
 returns-in-Ok-clause-boots g c = λ ok. omega (

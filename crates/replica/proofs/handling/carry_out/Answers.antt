@@ -1,5 +1,5 @@
 -- What is planned is kept by one change of the store.
-use Rattle.std.proofs.Common.{rules, ◌≡◌, ℕ, true, false, Option, Some, None, List, map, Result, refl, sym, ap, subst, ◌∙◌}
+use Rattle.std.proofs.Common.{rules, ◌≡◌, ℕ, true, false, Option, Some, None, List, map, refl, sym, ap, subst, ◌∙◌}
 use Rattle.fab_disk.specs.Changing.{Whole}
 use Rattle.fab_base.specs.declared.stamps.Stamp.{Stamp}
 use Rattle.messages.specs.declared.requests.Version.{Version}
@@ -7,28 +7,25 @@ use Rattle.version_log.specs.Versions.{Version as Kept}
 use Rattle.brick_store.specs.Sizes.{version_size}
 use Rattle.std.specs.Option.{option_map}
 use Rattle.fab_base.specs.Stamps.{stamp_below}
-use Rattle.messages.specs.declared.replies.Reply.{Reply}
 use Rattle.messages.specs.declared.replies.Reply.TheVariants.{Stored}
 use Rattle.version_log.specs.Versions.{version}
 use Rattle.brick_state.specs.States.{stripe_at, ordered, added, collected, live}
 use Rattle.brick_store.specs.Blocks.{log_at, block_added, adds_stamp, version_stamp}
-use Rattle.brick_store.specs.Bricks.{Brick}
-use Rattle.brick_store.specs.Calls.{calls_of, version_calls}
+use Rattle.brick_store.specs.Calls.{version_calls}
 use Rattle.protocol.specs.Nodes.{full_at}
 use Rattle.protocol.specs.Replicas.{Replica, Reaction, newest_of, promised, stored, unless_full}
-use Rattle.replica.specs.declared.faults.ReplicaFault.{ReplicaFault}
 use Rattle.replica.specs.declared.plans.Plan.{Plan}
 use Rattle.replica.specs.declared.plans.Plan.TheVariants.{Ignore, Tell, Promise, Store, Collect}
 use Rattle.replica.specs.Parts.{as_version}
 use Rattle.replica.specs.Plans.{block_stored, planned, is_shared, IsChange}
 use Rattle.replica.specs.Reactions.{place_of, part_at, IsReacted}
-use Rattle.replica.specs.Handling.{Handles, NextChange, end_of}
-use Rattle.replica.specs.Calls.{stored_calls, part_calls}
-use Rattle.replica.proofs.Answering.{changed_next, next_none, still_here}
+use Rattle.replica.specs.Handling.{Handles, KeepsNext, end_of}
+use Rattle.replica.specs.Calls.{stored_append, part_append}
+use Rattle.replica.proofs.Answering.{changed_next, keeps_none}
 use Rattle.replica.proofs.Logs.{newest_seen, held_seen}
 use Rattle.replica.proofs.Reacting.{reacted_stays, promise_grows, order_made, store_made, none_made, order_moves, store_moves, reacted_collect, collect_moves, unless_room, unless_none}
-use Rattle.replica.proofs.Runs.{calls_kept, calls_ordered, calls_stored, version_stored}
-use Rattle.replica.proofs.Sharing.{has_block, own_long, stored_added, calls_collected}
+use Rattle.replica.proofs.Runs.{append_kept, append_ordered, append_stored, version_stored}
+use Rattle.replica.proofs.Sharing.{has_block, own_long, stored_added, append_collected}
 use Rattle.replica.proofs.handling.carry_out.Goals as goal
 
 -- what the plan is, is a change
@@ -72,10 +69,8 @@ returns-in-Ignore-clause-change g c =
     let full = full_at old.shape.records (live old.state) in
     let Follows = λ (p : Plan). IsReacted block c.args.call old.state (planned full part p) in
     let follows : Follows Ignore None old.state = search rules in
-    subst (λ (p : Plan). NextChange d (part_calls old.shape old.listed (is_shared p) part (planned full part p).replica) old (Follows p) old.disk Whole)
-    (sym c.in-Ignore.is)
-    (subst (λ (n : ℕ). NextChange d n old (Follows Ignore) old.disk Whole) (sym (calls_kept old false part))
-    (next_none d g.met.D.Disk.only_now (Follows Ignore) old old.disk (still_here d old.disk) c.requires.runs.stands None follows))
+    subst (λ (p : Plan). KeepsNext d (part_append (is_shared p) part (planned full part p).replica) (Follows p) old old Whole) (sym c.in-Ignore.is)
+    (keeps_none d g.met.D.Disk.only_now (Follows Ignore) old _ (append_kept false part) c.requires.runs.stands None follows)
 
 pub returns-in-Tell-clause-change : goal.returns-in-Tell-clause-change
 returns-in-Tell-clause-change g c =
@@ -86,11 +81,9 @@ returns-in-Tell-clause-change g c =
     let part = part_at block old.state c.args.call in
     let full = full_at old.shape.records (live old.state) in
     let Follows = λ (p : Plan). IsReacted block c.args.call old.state (planned full part p) in
-    subst (λ (p : Plan). NextChange d (part_calls old.shape old.listed (is_shared p) part (planned full part p).replica) old (Follows p) old.disk Whole)
-    (sym c.in-Tell.is)
-    (subst (λ (n : ℕ). NextChange d n old (Follows (Tell reply)) old.disk Whole) (sym (calls_kept old false part))
-    (next_none d g.met.D.Disk.only_now (Follows (Tell reply)) old old.disk (still_here d old.disk) c.requires.runs.stands (Some reply)
-    (reacted_stays block c.args.call reply old.state)))
+    subst (λ (p : Plan). KeepsNext d (part_append (is_shared p) part (planned full part p).replica) (Follows p) old old Whole) (sym c.in-Tell.is)
+    (keeps_none d g.met.D.Disk.only_now (Follows (Tell reply)) old _ (append_kept false part) c.requires.runs.stands (Some reply)
+    (reacted_stays block c.args.call reply old.state))
 
 pub returns-in-Promise : goal.returns-in-Promise
 returns-in-Promise g c =
@@ -107,20 +100,20 @@ returns-in-Promise g c =
     let part = part_at block st call in
     let full = full_at records (live st) in
     let sorted = c.requires.runs.ordered.sorted in
-    let calls = λ (p : Plan). part_calls old.shape old.listed (is_shared p) part (planned full part p).replica in
-    let made = λ (r : Reaction). part_calls old.shape old.listed false part r.replica in
+    let appends = λ (p : Plan). part_append (is_shared p) part (planned full part p).replica in
+    let made = λ (r : Reaction). part_append false part r.replica in
     let Follows = λ (p : Plan). IsReacted block call st (planned full part p) in
     let reaction = promised part t reply in
     let later : stamp_below part.order t ≡ true = changed_as block part c.in-Promise.is c.requires.change in
     let grows = promise_grows block call st sorted t reply in
-    let both = subst (λ (p : Plan). Handles d (Follows p) old new result × NextChange d (calls p) old (Follows p) new.disk (end_of result)) (sym c.in-Promise.is)
-    (changed_next d (Follows (Promise t reply)) call.group.0 call.view.0 call.stripe.0 old new (ordered (place_of call) t st)
-    (adds_stamp t (stripe_at st (place_of call)).order) (calls_of old 30 4) (Some reply) c.requires.runs
+    let both = subst (λ (p : Plan). Handles d (Follows p) old new result × KeepsNext d (appends p) (Follows p) old new (end_of result)) (sym c.in-Promise.is)
+    (changed_next d (Follows (Promise t reply)) old new (ordered (place_of call) t st) 30
+    (adds_stamp t (stripe_at st (place_of call)).order) 4 (Some reply) c.requires.runs
     (order_made block call st sorted records t reply later)
     (λ adds. none_made block call st sorted records reaction (grows ∙ adds))
-    (order_moves block call st sorted t later) g.met.D.Disk.only_now (calls (Promise t reply))
-    (λ room. ap made (sym (unless_room block call st sorted records part reaction (λ more. room (sym grows ∙ more)))) ∙ calls_ordered old false part t later)
-    (λ adds most. ap made (sym (unless_none block call st sorted records part reaction (grows ∙ adds) most)) ∙ calls_kept old false part)
+    (λ layout same. order_moves block call st sorted t later (same.parts call.group.0 call.view.0 call.stripe.0)) g.met.D.Disk.only_now (appends (Promise t reply))
+    (λ room. ap made (sym (unless_room block call st sorted records part reaction (λ more. room (sym grows ∙ more)))) ∙ append_ordered false part t later)
+    (λ adds most. ap made (sym (unless_none block call st sorted records part reaction (grows ∙ adds) most)) ∙ append_kept false part)
     c.set_order.result result c.answered.ensures c.set_order.ensures.change c.set_order.ensures.answer) in
     record { handles = both.0; change = both.1 }
 
@@ -142,18 +135,18 @@ returns-in-Store g c =
     let full = full_at records (live st) in
     let sorted = c.requires.runs.ordered.sorted in
     let shared = is_shared c.args.plan in
-    let calls = λ (r : Reaction). part_calls old.shape old.listed shared part r.replica in
+    let appends = λ (r : Reaction). part_append shared part r.replica in
     let Follows = λ (r : Reaction). IsReacted block call st r in
     let reaction = unless_full full part (stored part t bytes) in
-    let both = subst (λ (r : Reaction). Handles d (Follows r) old new result × NextChange d (calls r) old (Follows r) new.disk (end_of result))
+    let both = subst (λ (r : Reaction). Handles d (Follows r) old new result × KeepsNext d (appends r) (Follows r) old new (end_of result))
     (sym (store_planned full part t log refl c.args.plan own c.in-Store.is))
-    (changed_next d (Follows reaction) call.group.0 call.view.0 call.stripe.0 old new (added (place_of call) (version t bytes) st) true
-    (calls_of old (version_size own) (version_calls own)) (Some Stored) c.requires.runs
+    (changed_next d (Follows reaction) old new (added (place_of call) (version t bytes) st)
+    (version_size own) true (version_calls own) (Some Stored) c.requires.runs
     (store_made block call st sorted records t bytes) (none_made block call st sorted records (stored part t bytes))
-    (store_moves block call st sorted t bytes) g.met.D.Disk.only_now (calls reaction)
-    (λ room. ap calls (sym (unless_room block call st sorted records part (stored part t bytes) room)) ∙ calls_stored old shared part _
-    ∙ ap (λ (p : Plan). stored_calls old.shape old.listed (is_shared p)) c.in-Store.is ∙ version_stored old own)
-    (λ adds most. ap calls (sym (unless_none block call st sorted records part (stored part t bytes) adds most)) ∙ calls_kept old shared part)
+    (λ layout same. store_moves block call st sorted t bytes (same.parts call.group.0 call.view.0 call.stripe.0)) g.met.D.Disk.only_now (appends reaction)
+    (λ room. ap appends (sym (unless_room block call st sorted records part (stored part t bytes) room)) ∙ append_stored shared part _
+    ∙ ap (λ (p : Plan). Some (stored_append (is_shared p))) c.in-Store.is ∙ version_stored own)
+    (λ adds most. ap appends (sym (unless_none block call st sorted records part (stored part t bytes) adds most)) ∙ append_kept shared part)
     c.add_version-answer.result result c.answered-in-Store.ensures c.add_version-answer.ensures.change c.add_version-answer.ensures.answer) in
     record { handles = both.0; change = both.1 }
 
@@ -180,12 +173,12 @@ returns-in-Collect g c =
     let full = full_at old.shape.records (live st) in
     let sorted = c.requires.runs.ordered.sorted in
     let change = changed_as block part c.in-Collect.is c.requires.change in
-    let calls = λ (p : Plan). part_calls old.shape old.listed (is_shared p) part (planned full part p).replica in
+    let appends = λ (p : Plan). part_append (is_shared p) part (planned full part p).replica in
     let Follows = λ (p : Plan). IsReacted block call st (planned full part p) in
-    let both = subst (λ (p : Plan). Handles d (Follows p) old new result × NextChange d (calls p) old (Follows p) new.disk (end_of result)) (sym c.in-Collect.is)
-    (changed_next d (Follows (Collect t)) call.group.0 call.view.0 call.stripe.0 old new (collected version_stamp (place_of call) t st) false
-    (calls_of old 30 4) None c.requires.runs (λ room. reacted_collect block call st sorted t change.0) (λ adds. absurd cc)
-    (collect_moves block call st sorted t change.1) g.met.D.Disk.only_now (calls (Collect t))
-    (λ room. calls_collected old false part t change.0 change.1) (λ adds. absurd cc)
+    let both = subst (λ (p : Plan). Handles d (Follows p) old new result × KeepsNext d (appends p) (Follows p) old new (end_of result)) (sym c.in-Collect.is)
+    (changed_next d (Follows (Collect t)) old new (collected version_stamp (place_of call) t st) 30 false
+    4 None c.requires.runs (λ room. reacted_collect block call st sorted t change.0) (λ adds. absurd cc)
+    (λ layout same. collect_moves block call st sorted t change.1 (same.parts call.group.0 call.view.0 call.stripe.0)) g.met.D.Disk.only_now (appends (Collect t))
+    (λ room. append_collected false part t change.0 change.1) (λ adds. absurd cc)
     c.collect.result result c.answered-in-Collect.ensures c.collect.ensures.change c.collect.ensures.answer) in
     record { handles = both.0; change = both.1 }

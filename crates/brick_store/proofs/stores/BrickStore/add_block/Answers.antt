@@ -24,9 +24,9 @@ returns-in_err-ready g c =
     let x = c.self.inside in
     let f = c.in_err-ready.field-0.0 in
     let q = err_from_is_err_and c.from_residual.result c.from_residual.ensures.1 in
-    let both = told_as d _ _ _ _ _ c.from_residual.result (refused f) (q.1 ∙ ap refused q.2) (told_refused d g.met.D.Disk.only_now x.blocks x.zero x.frames x.index c.args.self.now
+    let both = told_as d _ _ _ _ _ _ c.from_residual.result (refused f) (q.1 ∙ ap refused q.2) (told_refused d g.met.D.Disk.only_now x.blocks x.zero x.frames x.index c.args.self.now
     (with_version c.args.self.now.shape.block (place c.args.group c.args.view c.args.stripe) c.args.stamp (Some c.args.block))
-    (λ s. true) true (calls_of c.args.self.now 35 5) f c.self.view_is refl c.self.invariant c.in_err-ready.ensures.refused) in
+    (λ s. true) 35 true (calls_of c.args.self.now 35 5) f c.self.view_is refl c.self.invariant c.in_err-ready.ensures.refused) in
     record { change = both.0; answer = both.1 }
 
 pub invariant_of-self : goal.invariant_of-self
@@ -54,9 +54,9 @@ returns-in_err-slot g c =
     let standing = standing_same d x.blocks now x.zero x.frames x.index c.hold_new.ensures.same c.self.invariant in
     let view = brick_same x.blocks now x.frames (state_of x.index) c.hold_new.ensures.same ∙ c.self.view_is in
     let q = err_from_is_err_and c.from_residual-in_err-slot.result c.from_residual-in_err-slot.ensures.1 in
-    let both = told_as d _ _ _ _ _ c.from_residual-in_err-slot.result (refused f) (q.1 ∙ ap refused q.2) (told_stopped d g.met.D.Disk.only_now now x.zero x.frames x.index c.args.self.now
+    let both = told_as d _ _ _ _ _ _ c.from_residual-in_err-slot.result (refused f) (q.1 ∙ ap refused q.2) (told_stopped d g.met.D.Disk.only_now now x.zero x.frames x.index c.args.self.now
     (with_version c.args.self.now.shape.block (place c.args.group c.args.view c.args.stripe) c.args.stamp
-    (Some c.args.block) c.args.self.now.state) (calls_of c.args.self.now 35 5) f view (no_slot_fault f c.in_err-slot.ensures.memory) standing c.in_ok-ready.ensures.runs
+    (Some c.args.block) c.args.self.now.state) 35 (calls_of c.args.self.now 35 5) f view (no_slot_fault f c.in_err-slot.ensures.memory) standing c.in_ok-ready.ensures.runs
     (c.in_ok-ready.ensures.free refl)) in
     record { change = both.0; answer = both.1 }
 
@@ -112,7 +112,7 @@ returns g c =
     let view = brick_same x.blocks now x.frames st c.hold_new.ensures.same ∙ c.self.view_is in
     let tried = changes_put d slot c.held_under.result.now now x.zero x.frames c.commit-answer.new.frames x.index
     (forms.Logged (record { group = c.args.group; view = c.args.view; stripe = c.args.stripe; stamp = t; change = Slot false slot }))
-    (state_of c.commit-answer.new.index) (added p (entry t slot) st) c.commit-answer.result standing c.in_ok-ready.ensures.runs
+    (state_of c.commit-answer.new.index) (added p (entry t slot) st) 35 c.commit-answer.result standing c.in_ok-ready.ensures.runs
     (c.in_ok-ready.ensures.free refl)
     (slot_applied (limits_of x.index) c.args.group c.args.view c.args.stripe t slot st c.requires.group
     (c.in_ok-ready.ensures.free refl) c.in_ok-slot.ensures.slot above)
@@ -124,12 +124,12 @@ returns g c =
     let settled = same_settled now last slot st (state_of c.commit-answer.new.index) c.commit-answer.result c.forget_refused.ensures.added c.forget_refused.ensures.others c.commit-answer.ensures.not_made c.in_ok-slot.ensures.unnamed in
     let after = with_version c.args.self.now.shape.block p t (Some c.args.block) c.args.self.now.state in
     let both = subst (λ (r : Result (Unit {0}) StoreFault). Told d c.args.self.now
-    (brick_of last c.commit-answer.new.frames (state_of c.commit-answer.new.index)) after true (calls_of c.args.self.now 35 5) r)
+    (brick_of last c.commit-answer.new.frames (state_of c.commit-answer.new.index)) after 35 true (calls_of c.args.self.now 35 5) r)
     (sym c.forget_refused.ensures.answer)
-    (subst (λ (b : B). Told d c.args.self.now b after true (calls_of c.args.self.now 35 5) c.commit-answer.result) (sym (brick_same now last c.commit-answer.new.frames (state_of c.commit-answer.new.index) settled))
+    (subst (λ (b : B). Told d c.args.self.now b after 35 true (calls_of c.args.self.now 35 5) c.commit-answer.result) (sym (brick_same now last c.commit-answer.new.frames (state_of c.commit-answer.new.index) settled))
     (told_of d now x.frames c.commit-answer.new.frames st
     (state_of c.commit-answer.new.index) (added p (entry t slot) st) c.args.self.now
-    (with_version c.args.self.now.shape.block p t (Some c.args.block)) (λ s. true) (λ b. calls_of b 35 5) true _ c.commit-answer.result view
+    (with_version c.args.self.now.shape.block p t (Some c.args.block)) (λ s. true) (λ b. calls_of b 35 5) 35 true _ c.commit-answer.result view
     (with_version_seen now x.frames st p t (Some c.args.block) slot c.args.self.now view
     (cached_is x.frames.shape.block now slot c.args.block small c.in_ok-slot.ensures.held)) refl refl tried)) in
     record { change = both.0; answer = both.1 }

@@ -12,7 +12,7 @@ returns-in-None g c =
     let d = g.D.Disk in
     let old = c.args.self.now in
     let both = subst (λ (b : Option (List ℕ)). Told d old c.add_same.new.self
-    (with_version old.shape.block (place c.args.group c.args.view c.args.stripe) c.args.stamp b old.state) true
+    (with_version old.shape.block (place c.args.group c.args.view c.args.stripe) c.args.stamp b old.state) (version_size b) true
     (calls_of old (version_size b) (version_calls b)) c.add_same.result) (sym c.in-None.is) (c.add_same.ensures.change, c.add_same.ensures.answer) in
     record { change = both.0; answer = both.1 }
 
@@ -21,6 +21,6 @@ returns-in-Some g c =
     let d = g.D.Disk in
     let old = c.args.self.now in
     let both = subst (λ (b : Option (List ℕ)). Told d old c.add_block.new.self
-    (with_version old.shape.block (place c.args.group c.args.view c.args.stripe) c.args.stamp b old.state) true
+    (with_version old.shape.block (place c.args.group c.args.view c.args.stripe) c.args.stamp b old.state) (version_size b) true
     (calls_of old (version_size b) (version_calls b)) c.add_block.result) (sym c.in-Some.is) (c.add_block.ensures.change, c.add_block.ensures.answer) in
     record { change = both.0; answer = both.1 }

@@ -48,10 +48,10 @@ returns g c =
     let shown = subst (λ (b : Brick g.row.D.Denot). resolved (cached x.frames.shape.block x.blocks) p.0 ≡ made_by b.shape.block item
     (resolved (cached x.frames.shape.block x.blocks) (state_of x.index))) c.self.view_is p.1.shown in
     let call = c.commit.ensures in
-    let tried = changes_plain d x.blocks x.zero x.frames c.commit.new.frames x.index item now p.0 c.args.adds c.commit.result c.self.invariant
+    let tried = changes_plain d x.blocks x.zero x.frames c.commit.new.frames x.index item now p.0 (body_size item) c.args.adds c.commit.result c.self.invariant
     c.in_ok-ready.ensures.runs c.in_ok-ready.ensures.free p.1.is p.1.slots call.step call.made call.not_made call.change in
     let both = told_of d x.blocks x.frames c.commit.new.frames (state_of x.index) now p.0 c.args.self.now (made_by c.args.self.now.shape.block item)
-    (adds_record item) (λ b. calls_of b (body_size item) 4) c.args.adds _ c.commit.result c.self.view_is shown adds refl tried in
+    (adds_record item) (λ b. calls_of b (body_size item) 4) (body_size item) c.args.adds _ c.commit.result c.self.view_is shown adds refl tried in
     record { change = both.0; answer = both.1 }
 
 pub returns-in_err-ready : goal.returns-in_err-ready
@@ -61,7 +61,7 @@ returns-in_err-ready g c =
     let f = c.in_err-ready.field-0.0 in
     let adds = c.requires.adds ∙ sym (ap (λ (b : Brick g.row.D.Denot). adds_record item b.state) c.self.view_is) in
     let q = err_from_is_err_and c.from_residual.result c.from_residual.ensures.1 in
-    let both = told_as g.D.Disk _ _ _ _ _ c.from_residual.result (refused f) (q.1 ∙ ap refused q.2) (told_refused g.D.Disk g.met.D.Disk.only_now x.blocks
-    x.zero x.frames x.index c.args.self.now (made_by c.args.self.now.shape.block item) (adds_record item) c.args.adds
+    let both = told_as g.D.Disk _ _ _ _ _ _ c.from_residual.result (refused f) (q.1 ∙ ap refused q.2) (told_refused g.D.Disk g.met.D.Disk.only_now x.blocks
+    x.zero x.frames x.index c.args.self.now (made_by c.args.self.now.shape.block item) (adds_record item) (body_size item) c.args.adds
     (calls_of c.args.self.now (body_size item) 4) f c.self.view_is adds c.self.invariant c.in_err-ready.ensures.refused) in
     record { change = both.0; answer = both.1 }

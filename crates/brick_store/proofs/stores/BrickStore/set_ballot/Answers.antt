@@ -29,6 +29,6 @@ returns g c =
     let acc = c.accepted_of-accepted.ensures ∙ ap accepted_of c.group.ensures
     ∙ ap (λ (gs : List Group). accepted_of (slice_index_or gs c.args.group.0 no_group)) (sym (groups-resolved (cached x.frames.shape.block x.blocks) (state_of x.index)))
     ∙ ap (λ (b : Brick g.row.D.Denot). accepted_of (group_at b.state c.args.group.0)) c.self.view_is in
-    let both = subst (λ (a : Option (Ballot × List BrickId)). Told g.D.Disk old c.change.new.self (balloted c.args.group.0 c.args.promised a old.state) false
+    let both = subst (λ (a : Option (Ballot × List BrickId)). Told g.D.Disk old c.change.new.self (balloted c.args.group.0 c.args.promised a old.state) (ballots_size a) false
     (calls_of old (ballots_size a) 4) c.change.result) acc (c.change.ensures.change, c.change.ensures.answer) in
     record { change = both.0; answer = both.1 }

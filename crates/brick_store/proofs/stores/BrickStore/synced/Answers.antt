@@ -41,8 +41,8 @@ returns g c =
     ap (λ (b : Brick g.row.D.Denot). learnt_view (group_at b.state c.args.group.0)) (sym c.self.view_is)
     ∙ ap (λ (gs : List Group). learnt_view (slice_index_or gs c.args.group.0 no_group)) (groups-resolved (cached x.frames.shape.block x.blocks) (state_of x.index))
     ∙ ap learnt_view (sym c.group.ensures) ∙ c.learnt_view.ensures in
-    let both = subst (λ (n : ℕ). Told g.D.Disk old c.change.new.self (synced_to (learnt_view group) c.args.group.0 old.state) false (calls_of old n 4) c.change.result)
+    let both = subst (λ (n : ℕ). Told g.D.Disk old c.change.new.self (synced_to (learnt_view group) c.args.group.0 old.state) n false (calls_of old n 4) c.change.result)
     (known_is group.known c.learnt_view.result is)
-    (subst (λ (o : Option View). Told g.D.Disk old c.change.new.self (synced_to o c.args.group.0 old.state) false
+    (subst (λ (o : Option View). Told g.D.Disk old c.change.new.self (synced_to o c.args.group.0 old.state) (view_size c.learnt_view.result) false
     (calls_of old (view_size c.learnt_view.result) 4) c.change.result) (sym is) (c.change.ensures.change, c.change.ensures.answer)) in
     record { change = both.0; answer = both.1 }

@@ -3,7 +3,7 @@ use Rattle.std.proofs.Common.{◌≡◌, false, Ok, refl, sym, subst, rules}
 use Rattle.std.specs.Result.{OnOk}
 use Rattle.fab_disk.specs.Disk.{IsUntouched}
 use Rattle.brick_store.specs.Bricks.{Brick}
-use Rattle.node.specs.Calls.{packet_calls}
+use Rattle.node.specs.Calls.{packet_append}
 use Rattle.node.specs.Running.{state_of, KeepsUnseen}
 use Rattle.node.proofs.Moments.{untouched_same}
 use Rattle.node.proofs.Shown.{step_refused, step_still}
@@ -40,7 +40,7 @@ unfolding received requested absorbed
 returns-then-is_halted g c =
     let old = c.args.self.now in
     let change =
-    step_refused g.D.Disk g.met.D.Disk.only_now (packet_calls old.layout old.me (state_of old) c.args.packet.now old.brick.listed)
+    step_refused g.D.Disk g.met.D.Disk.only_now (packet_append old.layout old.me (state_of old) c.args.packet.now)
     (absorbed (coding old.layout) old.me (state_of old) c.args.packet.now) old c.is_halted.ensures.stands in
     search (rules, change)
 

@@ -8,7 +8,7 @@ use Rattle.frame_store.specs.declared.shapes.Shape.{Shape}
 use Rattle.coord_phase.specs.Messages.{packets_from}
 use Rattle.replica.specs.Reactions.{IsStep, member_step}
 use Rattle.replica.specs.Handling.{KeepsParts}
-use Rattle.replica.specs.Calls.{message_calls}
+use Rattle.replica.specs.Calls.{message_append, message_calls}
 use Rattle.messages.specs.declared.packets.Message.{Message}
 use Rattle.node.specs.declared.faults.NodeFault.{NodeFault}
 use Rattle.node.specs.Outcomes.{Outcome}
@@ -27,7 +27,7 @@ returns-in_default g c =
     let old = c.args.self.now in
     let change =
     step_refused g.D.Disk g.met.D.Disk.only_now
-    (message_calls old.layout old.me c.args.from (shape_at old.layout old.me) old.brick.listed (state_of old) c.args.message.now)
+    (message_append old.layout old.me c.args.from (state_of old) c.args.message.now)
     (member_step old.layout old.me c.args.from (state_of old) c.args.message.now).node old c.requires.stands in
     search (rules, change)
 
@@ -46,7 +46,7 @@ returns-in_err-answer g c =
     let change =
     refused_step d _ (Option Message) c.in_err-answer.field-0.0 c.from_residual.result _ _ c.args.self.now (running x.layout x.calls c.handle.new.store)
     (fault.1 ∙ ap (λ (e : NodeFault). Err e) fault.2) c.requires.stands
-    (change_so d x.layout x.calls from message x.store c.handle.new.store.disk c.args.self.now _ c.self.view_is c.self.invariant
+    (change_so d x.layout x.calls from message x.store c.handle.new.store c.args.self.now _ c.self.view_is c.self.invariant
     (λ told. handled.handles.stood told runs) handled.change) in
     search (rules, err, change)
 
@@ -116,11 +116,12 @@ returns-clause-change g c =
     let new = c.handle.new.store in
     let handled = c.in_ok-answer.ensures in
     let runs : x.store.halted ≡ false = ap (λ (n : Running g.row.D.Denot). n.brick.halted) c.self.view_is ∙ c.requires.runs in
+    let made = change_so d x.layout x.calls c.args.from c.args.message.now x.store new c.args.self.now Whole c.self.view_is c.self.invariant
+    (λ told. handled.handles.stood told runs) handled.change in
     record {
       stood = c.requires.stands;
-      change =
-          change_so d x.layout x.calls c.args.from c.args.message.now x.store new.disk c.args.self.now Whole c.self.view_is c.self.invariant
-          (λ told. handled.handles.stood told runs) handled.change;
+      change = made.change;
+      listed = made.listed;
       stands = λ whole told.
           subst (λ (n : Running g.row.D.Denot). Stands d (ImageShows n.layout n.me (state_of (running x.layout x.calls new))) new.disk) c.self.view_is
           (shown_so d x.layout x.calls new new.disk (invariant_of-self-2 g c) (handled.handles.stands told));

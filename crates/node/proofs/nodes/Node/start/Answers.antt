@@ -1,5 +1,5 @@
 -- What was opened is what the disk showed, restarted.
-use Rattle.std.proofs.Common.{◌≡◌, ◌⊎◌, inl, inr, refl, sym, ◌∙◌, ap, subst, rules}
+use Rattle.std.proofs.Common.{◌≡◌, ◌⊎◌, ℕ, inl, inr, refl, sym, ◌∙◌, ap, subst, rules}
 use Rattle.fab_base.specs.declared.identities.BrickId.{BrickId}
 use Rattle.fab_disk.specs.Changing.{Whole, Stands}
 use Rattle.fab_disk.specs.Disk.{IsUntouched}
@@ -7,14 +7,15 @@ use Rattle.frame_store.specs.declared.shapes.Shape.{Shape}
 use Rattle.frame_store.specs.Images.{IsNoStore}
 use Rattle.frame_store.specs.Layouts.{shape_of}
 use Rattle.version_log.specs.Versions.{Version}
-use Rattle.brick_state.specs.States.{StateOf}
+use Rattle.brick_state.specs.States.{StateOf, live}
 use Rattle.brick_store.specs.Images.{IsFound}
-use Rattle.brick_store.specs.Openings.{IsCounted, IsWornOut, Opens}
+use Rattle.brick_store.specs.Openings.{IsCounted, IsListedOnOpening, IsWornOut, Opens}
 use Rattle.brick_store.specs.Openings as stores
 use Rattle.brick_store.specs.declared.faults.OpenFault.TheVariants as faults
 use Rattle.protocol.specs.Nodes.{Node, restarted}
 use Rattle.replica.specs.Parts.{IsFirstView}
 use Rattle.node.specs.Running.{running, state_of, shape_at, ImageShows}
+use Rattle.node.proofs.Requests.{live_seen}
 use Rattle.node.proofs.Shown.{shown_so}
 use Rattle.node.proofs.Starts.{restarts_so, opens_so, refused_so}
 use Rattle.node.proofs.nodes.Node.start.Goals as goal
@@ -93,4 +94,7 @@ returns g c =
     subst (λ (brick : BrickId). Stands d (ImageShows layout brick (state_of (running layout calls store))) store.disk) c.new-calls.ensures.me
     (shown_so d layout calls store store.disk (invariant_of-result g c) (c.in-Ok.ensures.stands told)) in
     let opens = opens_so d layout me disk store.disk Whole (subst (λ (s : Shape). Opens d s disk store.disk Whole) same c.in-Ok.ensures.opens) in
-    search (rules, found, state, stands, opens)
+    let listed : d.tells → IsListedOnOpening (shape_at layout me) (d.seen disk) (state_of (running layout calls store)).live store.listed = λ told.
+    subst (λ (n : ℕ). IsListedOnOpening (shape_at layout me) (d.seen disk) n store.listed) (live_seen layout calls store)
+    (subst (λ (s : Shape). IsListedOnOpening s (d.seen disk) (live store.state) store.listed) (c.in-Ok.ensures.shape ∙ same) (c.in-Ok.ensures.listed told)) in
+    search (rules, found, state, stands, opens, listed)
