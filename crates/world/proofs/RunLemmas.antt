@@ -19,7 +19,7 @@ use Rattle.protocol.specs.Nodes.{Node, view_at}
 use Rattle.protocol.specs.Settings.{Setting}
 use Rattle.protocol.specs.Worlds.{World, Event, Stops, Starts, Before, first_world, is_up, number_of, run}
 use Rattle.protocol_laws.proofs.Books.{Books}
-use Rattle.world.specs.Runs.{Run, Step, world_of, all_events, brick_of}
+use Rattle.world.specs.Runs.{Run, Step, Taken, run_over, world_of, all_events, brick_of}
 use Rattle.world.specs.Faults.{IsEventsOf, IsStartOf, StaysDown, IsStarted, IsNoStart}
 use Rattle.world.specs.Disks.{ShowsDiskOf, ShowsDisks, KeepsDisks, LeavesContents}
 use Rattle.world.specs.Shown.{IsNumbered, Shows, ShowsBricks, ShowsPower, ComesTo, Leaves, disk_in, disks_of, came_to}
@@ -44,15 +44,6 @@ pub world_of-with_step : (r : Run) (step : Step) (disks : List MemDisk)
 world_of-with_step r step disks =
     ap (λ events. run (coding r.layout) events (first_world r.layout)) (all_events-more r.steps step)
     ∙ run-append (coding r.layout) (first_world r.layout) (all_events r.steps) step.events
-
--- what holds of the world after a step holds of the world of the run with that step
-pub stands_step : (P : World → Type 0) (layout : Layout) (old new : List Step) (step : Step) (before disks : List MemDisk) → new ≡ old ++ step ∷ []
-    → P (run (coding layout) step.events (world_of (record { layout = layout; steps = old; disks = before })))
-    → P (world_of (record { layout = layout; steps = new; disks = disks }))
-stands_step P layout old new step before disks grown holds =
-    subst P
-    (sym (ap (λ (steps : List Step). world_of (record { layout = layout; steps = steps; disks = disks })) grown
-    ∙ world_of-with_step (record { layout = layout; steps = old; disks = before }) step disks)) holds
 
 -- the disk of a brick that is shown keeps what the machine's brick keeps, or one of the two that its stop left possible
 disk_kept : (layout : Layout) (me : BrickId) (node after : Node) (up : Bool) (power : Power) → ShowsPower layout me node after up power
@@ -81,6 +72,13 @@ disks_shown layout state steps shows = record {
       disks_kept layout state.bricks.items _ _ _ _ shows.bricks i (slice_get state.bricks.items i) disk refl
       (sym (slice_get-map (λ (brick : Brick). disk_in brick.power) state.bricks.items i) ∙ at);
 }
+
+-- so of what a trail has taken
+pub taken_shown : (layout : Layout) (state : Simulation) (taken : Taken) → Shows layout state (world_of (run_over layout taken))
+    → taken.disks ≡ disks_of state.bricks.items → ShowsDisks (run_over layout taken)
+taken_shown layout state taken shows same =
+    subst (λ (disks : List MemDisk). ShowsDisks (record { layout = layout; steps = taken.steps; disks = disks })) (sym same)
+    (disks_shown layout state taken.steps shows)
 
 -- the log of a part that there is
 pub log_at_part : (r : Run) (b g s : ℕ) (group : Group) (log : List Version) → group_of r.layout g ≡ Some group → s < group.stripes
@@ -133,14 +131,11 @@ run_grows setting w events =
     run_each (HasAtLeast (length w.marks)) (λ x. Unit {0}) setting (λ x known. grow_cases setting (length w.marks) x) events w (λ more. tt) (omega arith)
 
 -- so a run with one step more has no fewer
-pub marks_grow : (layout : Layout) (old new : List Step) (step : Step) (before disks : List MemDisk) → new ≡ old ++ step ∷ []
-    → length (world_of (record { layout = layout; steps = old; disks = before })).marks
-    ≤ length (world_of (record { layout = layout; steps = new; disks = disks })).marks
-marks_grow layout old new step before disks grown =
-    let w : World = world_of (record { layout = layout; steps = old; disks = before }) in
-    subst (λ (v : World). length w.marks ≤ length v.marks)
-    (sym (ap (λ (steps : List Step). world_of (record { layout = layout; steps = steps; disks = disks })) grown
-    ∙ world_of-with_step (record { layout = layout; steps = old; disks = before }) step disks)) (run_grows (coding layout) w step.events)
+pub marks_grow : (old new : Run) (line : Line) (outcome : Outcome) → RunsTo old new line outcome
+    → length (world_of old).marks ≤ length (world_of new).marks
+marks_grow old new line outcome ran =
+    subst (λ (v : World). length (world_of old).marks ≤ length v.marks)
+    (sym (ap world_of ran.runs.run ∙ world_of-with_step old ran.step new.disks)) (run_grows (coding old.layout) (world_of old) ran.step.events)
 
 -- what a world's books say of its open calls
 pub numbered_from_books : (setting : Setting) (w : World) → Books setting w → IsNumbered w
@@ -189,84 +184,73 @@ text_is old new line step outcome marks before text runs prints are count is =
     is ∙ ap (λ (xs : List Mark). outcome_text outcome xs) (rest ∙ made) ∙ prints
     ∙ ap (λ (l : Line). line_text (coding old.layout) (world_of old) l step.events) (sym runs.line_is)
 
--- a step that a trail took is one that was run
-pub runs_to : (layout : Layout) (old new : List Step) (before disks : List MemDisk) (state : Simulation) (line : Line) (outcome : Outcome)
-    → disks ≡ disks_of state.bricks.items
-    → (events : List Event) × ComesTo layout (world_of (record { layout = layout; steps = old; disks = before })) before state line outcome events
-    × (new ≡ old ++ record { line = line; events = events } ∷ [])
-    → RunsTo (record { layout = layout; steps = old; disks = before }) (record { layout = layout; steps = new; disks = disks }) line outcome
-runs_to layout old new before disks state line outcome same (events, comes, grown) =
-    let r : Run = record { layout = layout; steps = old; disks = before } in
-    record {
-      step = record { line = line; events = events };
-      runs = record {
-        line_is = refl;
-        events_are = subst (λ (d : List MemDisk). IsEventsOf layout (world_of r) before d line events) (sym same) comes.are;
-        run = ap (λ (steps : List Step). record { layout = layout; steps = steps; disks = disks }) grown;
-        disks = subst (λ (d : List MemDisk). KeepsDisks (coding layout) (world_of r) events before d) (sym same) comes.kept;
-        shows = subst (λ (d : List MemDisk). ShowsDisks (record { layout = layout; steps = new; disks = d })) (sym same)
-            (disks_shown layout state new
-            (stands_step (Shows layout state) layout old new (record { line = line; events = events }) before disks grown comes.shows));
-      };
-      prints = ap (λ (v : World). outcome_text outcome (new_marks (world_of r) v))
-          (ap (λ (steps : List Step). world_of (record { layout = layout; steps = steps; disks = disks })) grown
-          ∙ world_of-with_step r (record { line = line; events = events }) disks) ∙ comes.prints;
-    }
+-- What a trail took over a layout, and what it has taken once a line was run and left this state.
+module _ (layout : Layout) (old new : Taken) (state : Simulation) (line : Line) where
+  abbrev before : Run
+  before = run_over layout old
 
--- and the state shows the world behind it
-pub stands_run : (layout : Layout) (old new : List Step) (before disks : List MemDisk) (state : Simulation) (line : Line) (outcome : Outcome)
-    → (events : List Event) × ComesTo layout (world_of (record { layout = layout; steps = old; disks = before })) before state line outcome events
-    × (new ≡ old ++ record { line = line; events = events } ∷ [])
-    → Shows layout state (world_of (record { layout = layout; steps = new; disks = disks }))
-stands_run layout old new before disks state line outcome (events, comes, grown) =
-    stands_step (Shows layout state) layout old new (record { line = line; events = events }) before disks grown comes.shows
+  abbrev disks : List MemDisk
+  disks = disks_of state.bricks.items
 
--- what a line leaves for which no memory was left
-pub leaves_some : (layout : Layout) (old new : List Step) (before disks : List MemDisk) (state : Simulation) (line : Line)
-    → disks ≡ disks_of state.bricks.items
-    → (steps : List Step) × Leaves layout (world_of (record { layout = layout; steps = old; disks = before })) before state line steps
-    × (new ≡ old ++ steps)
-    → LeavesSome (record { layout = layout; steps = old; disks = before }) (record { layout = layout; steps = new; disks = disks }) line
-leaves_some layout old new before disks state line same (steps, leaves, grown) = left leaves
-  where
-    r : Run
-    r = record { layout = layout; steps = old; disks = before }
+  -- the state shows the world after a step
+  shown_after : (step : Step) → Shows layout state (run (coding layout) step.events (world_of before))
+      → Shows layout state (world_of (with_step before step disks))
+  shown_after step shows = subst (λ (v : World). Shows layout state v) (sym (world_of-with_step before step disks)) shows
 
-    s : Run
-    s = record { layout = layout; steps = new; disks = disks }
+  -- a step that it took is one that was run, and the state shows the world behind it
+  module _ (outcome : Outcome) (ran : (events : List Event) × ComesTo layout (world_of before) old.disks state line outcome events
+      × (new ≡ record { steps = old.steps ++ record { line = line; events = events } ∷ []; disks = disks })) where
+    abbrev step : Step
+    step = record { line = line; events = ran.0 }
 
-    left : Leaves layout (world_of r) before state line steps → LeavesSome r s line
-    left (inl (stays, none)) =
-        inl (record {
-          layout = refl;
-          steps = grown ∙ ap (λ (more : List Step). old ++ more) none ∙ append-nil old;
-          contents = ap (λ (d : List MemDisk). map content_of d) same ∙ stays.contents;
-        })
-    left (inr (events, stops, one)) =
-        inr (
-          record { line = line; events = events },
-          record {
+    pub runs_to : RunsTo before (run_over layout new) line outcome
+    runs_to =
+        subst (λ (t : Taken). RunsTo before (run_over layout t) line outcome) (sym ran.2)
+        (record {
+          step = step;
+          runs = record {
             line_is = refl;
-            events_are = stops.are;
-            run = ap (λ (steps : List Step). record { layout = layout; steps = steps; disks = disks })
-                (grown ∙ ap (λ (more : List Step). old ++ more) one);
-            disks = subst (λ (d : List MemDisk). LeavesContents (coding layout) (world_of r) events before d) (sym same) stops.kept;
-          },
-        )
+            events_are = ran.1.are;
+            run = refl;
+            disks = ran.1.kept;
+            shows = disks_shown layout state (old.steps ++ step ∷ []) (shown_after step ran.1.shows);
+          };
+          prints = ap (λ (v : World). outcome_text outcome (new_marks (world_of before) v)) (world_of-with_step before step disks) ∙ ran.1.prints;
+        })
 
--- and the state shows the world behind it
-pub stands_left : (layout : Layout) (old new : List Step) (before disks : List MemDisk) (state : Simulation) (line : Line)
-    → (steps : List Step) × Leaves layout (world_of (record { layout = layout; steps = old; disks = before })) before state line steps
-    × (new ≡ old ++ steps)
-    → Shows layout state (world_of (record { layout = layout; steps = new; disks = disks }))
-stands_left layout old new before disks state line (steps, leaves, grown) = left leaves
-  where
-    v : List Step → World
-    v steps = world_of (record { layout = layout; steps = steps; disks = disks })
+    pub stands_run : Shows layout state (world_of (run_over layout new))
+    stands_run = subst (λ (t : Taken). Shows layout state (world_of (run_over layout t))) (sym ran.2) (shown_after step ran.1.shows)
 
-    left : Leaves layout (v old) before state line steps → Shows layout state (v new)
-    left (inl (stays, none)) =
-        subst (λ (x : List Step). Shows layout state (v x)) (sym (grown ∙ ap (λ (more : List Step). old ++ more) none ∙ append-nil old)) stays.shows
-    left (inr (events, stops, one)) =
-        stands_step (Shows layout state) layout old new (record { line = line; events = events }) before disks
-        (grown ∙ ap (λ (more : List Step). old ++ more) one) stops.shows
+  -- so it is where no memory was left for a line
+  module _ (left : (steps : List Step) × Leaves layout (world_of before) old.disks state line steps
+      × (new ≡ record { steps = old.steps ++ steps; disks = disks })) where
+    abbrev after : List Step → Run
+    after steps = record { layout = layout; steps = old.steps ++ steps; disks = disks }
+
+    pub leaves_some : LeavesSome before (run_over layout new) line
+    leaves_some = subst (λ (t : Taken). LeavesSome before (run_over layout t) line) (sym left.2) (some left.0 left.1)
+      where
+        some : (steps : List Step) → Leaves layout (world_of before) old.disks state line steps → LeavesSome before (after steps) line
+        some steps (inl (stays, none)) =
+            inl (record {
+              layout = refl;
+              steps = ap (λ (more : List Step). old.steps ++ more) none ∙ append-nil old.steps;
+              contents = stays.contents;
+            })
+        some steps (inr (events, stops, one)) =
+            inr (
+              record { line = line; events = events },
+              record { line_is = refl; events_are = stops.are; run = ap after one; disks = stops.kept },
+            )
+
+    pub stands_left : Shows layout state (world_of (run_over layout new))
+    stands_left = subst (λ (t : Taken). Shows layout state (world_of (run_over layout t))) (sym left.2) (some left.0 left.1)
+      where
+        some : (steps : List Step) → Leaves layout (world_of before) old.disks state line steps → Shows layout state (world_of (after steps))
+        some steps (inl (stays, none)) =
+            subst (λ (more : List Step). Shows layout state (world_of (after more))) (sym none)
+            (subst (λ (all : List Step). Shows layout state (world_of (record { layout = layout; steps = all; disks = disks }))) (sym (append-nil old.steps))
+            stays.shows)
+        some steps (inr (events, stops, one)) =
+            subst (λ (more : List Step). Shows layout state (world_of (after more))) (sym one)
+            (shown_after (record { line = line; events = events }) stops.shows)

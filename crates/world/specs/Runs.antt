@@ -28,6 +28,15 @@ pub record Run : Type 0 where
   pub steps : List Step
   pub disks : List MemDisk
 
+-- the steps that were taken, and the disks that they leave
+pub record Taken : Type 0 where
+  pub steps : List Step
+  pub disks : List MemDisk
+
+-- the run of these over a layout
+abbrev pub run_over : Layout → Taken → Run
+run_over layout taken = record { layout = layout; steps = taken.steps; disks = taken.disks }
+
 -- the brick of a number
 abbrev pub brick_of : ℕ → BrickId
 brick_of b = record { 0 = b }

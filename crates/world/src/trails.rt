@@ -1,21 +1,19 @@
 //! The steps that a world took. They stand in proofs alone, and take no memory.
 
-ghost use Rattle.std.specs.Prelude.{List};
 ghost use Rattle.std.specs.Borrow.{ftrue};
-ghost use Rattle.std.specs.Coded.{coded_list};
-ghost use Rattle.fab_disk.specs.declared.mem_disk.MemDisk.{MemDisk};
+ghost use Rattle.std.specs.Coded.{codes};
 ghost use Rattle.fab_disk.specs.contracts.mem_disk.MemDisk as disk;
-ghost use Rattle.world.specs.Runs.{Step};
+ghost use Rattle.world.specs.Runs.{Taken};
 
 use crate::simulations::{Outcome, Simulation};
 use layout::Layout;
 use lines::Line;
 use std::marker::Model;
 
-/// The steps so far. It has no bytes.
+/// The steps so far, and the disks that they leave. It has no bytes.
 #[derive(Drop)]
 pub struct Trail {
-    pub ghost steps: { List Step },
+    pub ghost taken: { Taken } by { Prim.hlevel (codes, disk.the_row.coded) },
 }
 
 impl Model for Trail {
@@ -23,38 +21,15 @@ impl Model for Trail {
     ghost also_owns = { λ _. ftrue };
 }
 
-/// What disks there were at a moment. It has no bytes.
-#[derive(Drop)]
-pub struct Shelf {
-    pub ghost disks: { List MemDisk } by { coded_list disk.the_row.coded },
-}
-
-impl Model for Shelf {
-    // It owns nothing, as above.
-    ghost also_owns = { λ _. ftrue };
-}
-
-impl Shelf {
-    ghost use Rattle.std.specs.Prelude.{◌≡◌};
-    ghost use Rattle.world.specs.Shown.{disks_of};
-
-    /// The disks of this state.
-    pub fn of(_state: &Simulation) -> Shelf
-        ensures { result.disks ≡ disks_of _state.now.bricks.items }
-    {
-        Shelf {}
-    }
-}
-
 impl Trail {
-    ghost use Rattle.std.specs.Prelude.{◌≡◌, [], ◌∷◌, ◌++◌};
+    ghost use Rattle.std.specs.Prelude.{◌≡◌, List, [], ◌∷◌, ◌++◌};
     ghost use Rattle.protocol.specs.Worlds.{Event};
-    ghost use Rattle.world.specs.Runs.{world_of};
-    ghost use Rattle.world.specs.Shown.{Comes, ComesTo, Leaves};
+    ghost use Rattle.world.specs.Runs.{Step, run_over, world_of};
+    ghost use Rattle.world.specs.Shown.{Comes, ComesTo, Leaves, disks_of};
 
     /// No step yet.
-    pub fn new() -> Trail
-        ensures { result.steps ≡ [] }
+    pub fn new(_state: &Simulation) -> Trail
+        ensures { result.taken ≡ record { steps = []; disks = disks_of _state.now.bricks.items } }
     {
         Trail {}
     }
@@ -62,38 +37,27 @@ impl Trail {
     /// One step more, of a line: which events it is was decided by the disks.
     pub fn with(
         _before: &Trail,
-        _shelf: &Shelf,
         _layout: &Layout,
         _line: &Line,
         _outcome: &Outcome,
         _state: &Simulation,
     ) -> Trail
-        requires { Comes _layout.now
-            (world_of (record { layout = _layout.now; steps = _before.now.steps; disks = _shelf.now.disks }))
-            _shelf.now.disks _state.now _line.now _outcome.now }
-        ensures { (events : List Event) × ComesTo _layout.now
-            (world_of (record { layout = _layout.now; steps = _before.now.steps; disks = _shelf.now.disks }))
-            _shelf.now.disks _state.now _line.now _outcome.now events
-            × (result.steps ≡ _before.now.steps ++ record { line = _line.now; events = events } ∷ []) }
+        requires { Comes _layout.now (world_of (run_over _layout.now _before.now.taken)) _before.now.taken.disks _state.now _line.now _outcome.now }
+        ensures { (events : List Event)
+            × ComesTo _layout.now (world_of (run_over _layout.now _before.now.taken)) _before.now.taken.disks _state.now _line.now _outcome.now events
+            × (result.taken ≡ record { steps = _before.now.taken.steps ++ record { line = _line.now; events = events } ∷ [];
+            disks = disks_of _state.now.bricks.items }) }
     {
         Trail {}
     }
 
     /// What a line adds for which no memory was left: no step, or one that was cut short.
-    pub fn left(
-        _before: &Trail,
-        _shelf: &Shelf,
-        _layout: &Layout,
-        _line: &Line,
-        _state: &Simulation,
-    ) -> Trail
-        requires { (steps : List Step) × Leaves _layout.now
-            (world_of (record { layout = _layout.now; steps = _before.now.steps; disks = _shelf.now.disks }))
-            _shelf.now.disks _state.now _line.now steps }
-        ensures { (steps : List Step) × Leaves _layout.now
-            (world_of (record { layout = _layout.now; steps = _before.now.steps; disks = _shelf.now.disks }))
-            _shelf.now.disks _state.now _line.now steps
-            × (result.steps ≡ _before.now.steps ++ steps) }
+    pub fn left(_before: &Trail, _layout: &Layout, _line: &Line, _state: &Simulation) -> Trail
+        requires { (steps : List Step)
+            × Leaves _layout.now (world_of (run_over _layout.now _before.now.taken)) _before.now.taken.disks _state.now _line.now steps }
+        ensures { (steps : List Step)
+            × Leaves _layout.now (world_of (run_over _layout.now _before.now.taken)) _before.now.taken.disks _state.now _line.now steps
+            × (result.taken ≡ record { steps = _before.now.taken.steps ++ steps; disks = disks_of _state.now.bricks.items }) }
     {
         Trail {}
     }

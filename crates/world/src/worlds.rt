@@ -7,7 +7,7 @@ use crate::bricks::Power;
 use crate::simulations::{Outcome, Simulation};
 use crate::stripe_entries::StripeEntries;
 use crate::texts::{idle_text, marks_text, refusal_text};
-use crate::trails::{Shelf, Trail};
+use crate::trails::Trail;
 use crate::walks;
 use fab_base::{BrickId, Bytes, GroupId, NoMem, StripeNo};
 use layout::Layout;
@@ -107,11 +107,12 @@ impl World {
         ensures disks { IfOk result ShowsDisks }
     {
         let simulation = Simulation::new(alloc, &layout)?;
+        let trail = Trail::new(&simulation);
         Ok(World {
             alloc,
             layout,
             simulation,
-            trail: Trail::new(),
+            trail,
         })
     }
 
@@ -149,21 +150,14 @@ impl World {
         ensures err { OnErr result (LeavesSome self.old self.new line.now) }
         ensures disks { ShowsDisks self.new }
     {
-        let shelf = Shelf::of(&self.simulation);
         match self.simulation.run(self.alloc, &self.layout, line) {
             Ok(outcome) => {
-                self.trail = Trail::with(
-                    &self.trail,
-                    &shelf,
-                    &self.layout,
-                    line,
-                    &outcome,
-                    &self.simulation,
-                );
+                self.trail =
+                    Trail::with(&self.trail, &self.layout, line, &outcome, &self.simulation);
                 Ok(outcome)
             }
             Err(refused) => {
-                self.trail = Trail::left(&self.trail, &shelf, &self.layout, line, &self.simulation);
+                self.trail = Trail::left(&self.trail, &self.layout, line, &self.simulation);
                 Err(refused)
             }
         }

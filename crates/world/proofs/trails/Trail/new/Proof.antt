@@ -1,13 +1,16 @@
--- A trail begins with no step.
+-- A trail begins with no step, and the disks of its state.
 use mathlib.Core.Path.{refl}
 use mathlib.Core.List.{[], ◌∷◌}
 use seplogic.Ra.Ura.{Ura}
-use mir.Val.{vstruct, vnil}
+use mir.Syntax.{named}
+use mir.Val.{Val, vptr, vstruct, vnil}
 use base.Logic.{SProp, ent, emp, via, fst∗}
+use base.Fml.{Fml}
 use prog.Memory.{Memory}
 use prog.Routine.{Routine}
 use prog.Wp.{Calls, Loops, WpFn, Tables}
 use types.Logic.{Logic}
+use contract.Lifetimes.{Lfts, Shares}
 use contract.Monad.{Fun}
 use contract.Running.{tables, tables_of}
 use sound.WpLaws.{WpFn-mono}
@@ -15,45 +18,59 @@ use types.Kit.{‵, raw, ◌$◌, ◌∵◌, !, qed, move, suffices, done}
 use types.Run.{no_more, returns, enter}
 use types.Part.{agg}
 use types.ByLocal.{alloc_all, pass_all, free_all, look_at, sets}
+use denote.Exit.{yes}
 use denote.RattleType.{owns}
+use denote.Ref.{shr_vals, shr_Tells}
 use denote.Shadow.{pure_i}
-use denote.Triple.Entry.{on_entry, alive}
+use denote.Signature.{plain, types_at}
+use denote.Triple.Entry.{on_entry, alive, Args}
 use denote.Triple.Spec.{Meets, triple_of}
 use denote.Triple.Table.{entered}
-use denote.Triple.Walked.{says, Stays, walk_of, Walks, ends_at, walked, walk_Meets}
+use denote.Triple.Walked.{says, stay_none_ref, Stays, walk_of, Walks, ends_at, walked, Goes-none_ref, walk_Meets}
 use Rattle.world.specs.contracts.trails.Trail.new.Key.{name as key}
 use Rattle.world.specs.contracts.trails.Trail.new as f
 use Rattle.world.proofs.trails.Trail.new.Statement as stated
 use Rattle.world.proofs.trails.Trail.new.Code as code
 use Rattle.world.specs.contracts.trails.Trail as made
+use Rattle.world.specs.contracts.simulations.Simulation as state
+use Rattle.world.specs.Shown.{disks_of}
 
 abbrev stayed : Stays (f.ended).signature.params (f.ended).kept
-stayed = tt
+stayed = (stay_none_ref (0 ∷ []) tt (plain (λ _. state.the_row)) yes, tt)
 
 module _ {M : Type 1} {𝓤 : Ura M} (𝓛 : Logic 𝓤) (mem : Memory → SProp 𝓤) (run : Routine → Fun 𝓤) (C : Calls 𝓤 𝓛.H) (Λ : Loops 𝓤 𝓛.H) where
   open 𝓛 use {H}
 
-  abbrev bound : (walk_of 𝓛 f.ended stayed (f.clauses 𝓛 mem run)).Ghost
-  bound = ((tt, tt, tt, tt, tt), tt)
+  module _ (κs : Lfts 1) (qs : Shares 1) (a : Args f.signature κs) where
+    abbrev p0 : Val
+    p0 = vptr a.0.ref_ptr.0 a.0.ref_ptr.1
 
-  walk : ent 𝓤 (on_entry 𝓛 f.signature tt tt tt tt) (WpFn 𝓤 H C Λ code.function [] ((walk_of 𝓛 f.ended stayed (f.clauses 𝓛 mem run)).post bound))
-  walk =
-      qed 𝓛 (raw (alive 𝓛 f.signature tt tt) ∷ ‵ (owns [] tt tt) ∷ []) ∵ enter ! C Λ code.function [] _ $
-      alloc_all ! (λ l. pass_all ! refl tt $ sets ! (agg ! (no_more !)) refl (tt, tt) $
-      returns ! (look_at ! 0 refl) $ free_all ! refl $
-      suffices ! _ (ends_at 𝓛 f.ended stayed (f.clauses 𝓛 mem run) bound (vstruct vnil) (record { steps = [] }) tt tt) $
-      says ! refl $ pure_i ! (made.the_row.own_val (record { steps = [] }) (vstruct vnil ∷ [])) ((λ vss. (tt, tt)), tt) ((tt, (refl, tt)), tt) $
-      move ! (1 ∷ 2 ∷ 0 ∷ []) $ done !)
+    abbrev bound : (walk_of 𝓛 f.ended stayed (f.clauses 𝓛 mem run)).Ghost
+    bound = ((κs, qs, tt, a, (p0 ∷ [], tt)), tt)
+
+    abbrev passed : Fml
+    passed = owns (types_at f.signature.params κs) a (p0 ∷ [], tt)
+
+    walk : ent 𝓤 (on_entry 𝓛 f.signature κs qs a (p0 ∷ [], tt))
+        (WpFn 𝓤 H C Λ code.function (p0 ∷ []) ((walk_of 𝓛 f.ended stayed (f.clauses 𝓛 mem run)).post bound))
+    walk =
+        qed 𝓛 (raw (alive 𝓛 f.signature κs qs) ∷ ‵ passed ∷ []) ∵ enter ! C Λ code.function (p0 ∷ []) _ $
+        alloc_all ! (λ l. pass_all ! refl ((tt, tt), tt) $ sets ! (agg ! (no_more !)) refl (tt, tt) $
+        returns ! (look_at ! 0 refl) $ free_all ! refl $
+        suffices ! _ (ends_at 𝓛 f.ended stayed (f.clauses 𝓛 mem run) bound (vstruct vnil) (record { taken = record { steps = []; disks = disks_of a.0.now.bricks.items } }) (tt, tt) (tt, tt)) $
+        says ! refl $ pure_i ! (made.the_row.own_val (record { taken = record { steps = []; disks = disks_of a.0.now.bricks.items } }) (vstruct vnil ∷ [])) ((λ vss. (tt, tt)), tt) ((tt, (refl, tt)), tt) $
+        move ! (1 ∷ 2 ∷ 0 ∷ []) $ done !)
 
   walks : Walks 𝓛 f.ended stayed (WpFn 𝓤 H C Λ code.function) (f.clauses 𝓛 mem run)
   walks =
-      walked 𝓛 f.ended stayed (f.clauses 𝓛 mem run) (WpFn 𝓤 H C Λ code.function) (λ κs. tt) (λ κs. tt)
-      (λ κs qs bounds a g are. via 𝓤 _ (fst∗ 𝓤 _ (emp 𝓤)) walk)
+      walked 𝓛 f.ended stayed (f.clauses 𝓛 mem run) (WpFn 𝓤 H C Λ code.function) (λ κs. (shr_vals, tt))
+      (λ κs. (shr_Tells (named 0) κs.0 state.the_row, tt))
+      (λ κs qs bounds a g are. via 𝓤 _ (fst∗ 𝓤 _ (emp 𝓤)) (walk κs qs a))
 
 meets : {M : Type 1} {𝓤 : Ura M} (𝓛 : Logic 𝓤) (mem : Memory → SProp 𝓤) (run : Routine → Fun 𝓤) (𝓣 : Tables 𝓤 𝓛.H)
     → Meets 𝓛 f.signature (WpFn 𝓤 𝓛.H 𝓣.C 𝓣.Λ code.function) (f.spec 𝓛 mem run)
 meets {𝓤 = 𝓤} 𝓛 mem run 𝓣 =
-    walk_Meets 𝓛 f.ended stayed tt (f.clauses 𝓛 mem run) (WpFn 𝓤 𝓛.H 𝓣.C 𝓣.Λ code.function)
+    walk_Meets 𝓛 f.ended stayed (Goes-none_ref 𝓛 1 (0 ∷ []) tt (plain (λ _. state.the_row)) yes, tt) (f.clauses 𝓛 mem run) (WpFn 𝓤 𝓛.H 𝓣.C 𝓣.Λ code.function)
     (WpFn-mono 𝓤 𝓛.H 𝓛.laws 𝓣 code.function) (walks 𝓛 mem run 𝓣.C 𝓣.Λ)
 
 pub new_spec : {M : Type 1} → stated.statement M

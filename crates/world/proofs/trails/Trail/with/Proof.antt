@@ -33,21 +33,20 @@ use Rattle.world.specs.contracts.trails.Trail.with as f
 use Rattle.world.proofs.trails.Trail.with.Statement as stated
 use Rattle.world.proofs.trails.Trail.with.Code as code
 use Rattle.world.specs.contracts.trails.Trail as made
-use Rattle.world.specs.contracts.trails.Shelf as shelf
 use Rattle.layout.specs.contracts.layouts.Layout as layout
 use Rattle.lines.specs.contracts.forms.Line as line
 use Rattle.world.specs.contracts.simulations.Outcome as outcome
 use Rattle.world.specs.contracts.simulations.Simulation as state
-use Rattle.world.specs.Runs.{world_of}
-use Rattle.world.specs.Shown.{Comes}
+use Rattle.world.specs.Runs.{run_over, world_of}
+use Rattle.world.specs.Shown.{Comes, disks_of}
 
 abbrev stayed : Stays (f.ended).signature.params (f.ended).kept
-stayed = (stay_none_ref (0 ∷ []) tt (plain (λ _. made.the_row)) yes, (stay_none_ref (1 ∷ []) tt (plain (λ _. shelf.the_row)) yes, (stay_none_ref (2 ∷ []) tt (plain (λ _. layout.the_row)) yes, (stay_none_ref (3 ∷ []) tt (plain (λ _. line.the_row)) yes, (stay_none_ref (4 ∷ []) tt (plain (λ _. outcome.the_row)) yes, (stay_none_ref (5 ∷ []) tt (plain (λ _. state.the_row)) yes, tt))))))
+stayed = (stay_none_ref (0 ∷ []) tt (plain (λ _. made.the_row)) yes, (stay_none_ref (1 ∷ []) tt (plain (λ _. layout.the_row)) yes, (stay_none_ref (2 ∷ []) tt (plain (λ _. line.the_row)) yes, (stay_none_ref (3 ∷ []) tt (plain (λ _. outcome.the_row)) yes, (stay_none_ref (4 ∷ []) tt (plain (λ _. state.the_row)) yes, tt)))))
 
 module _ {M : Type 1} {𝓤 : Ura M} (𝓛 : Logic 𝓤) (mem : Memory → SProp 𝓤) (run : Routine → Fun 𝓤) (C : Calls 𝓤 𝓛.H) (Λ : Loops 𝓤 𝓛.H) where
   open 𝓛 use {H}
 
-  module _ (κs : Lfts 6) (qs : Shares 6) (a : Args f.signature κs) where
+  module _ (κs : Lfts 5) (qs : Shares 5) (a : Args f.signature κs) where
     abbrev p0 : Val
     p0 = vptr a.0.ref_ptr.0 a.0.ref_ptr.1
 
@@ -63,39 +62,35 @@ module _ {M : Type 1} {𝓤 : Ura M} (𝓛 : Logic 𝓤) (mem : Memory → SProp
     abbrev p4 : Val
     p4 = vptr a.1.1.1.1.0.ref_ptr.0 a.1.1.1.1.0.ref_ptr.1
 
-    abbrev p5 : Val
-    p5 = vptr a.1.1.1.1.1.0.ref_ptr.0 a.1.1.1.1.1.0.ref_ptr.1
-
     abbrev bound : (walk_of 𝓛 f.ended stayed (f.clauses 𝓛 mem run)).Ghost
-    bound = ((κs, qs, tt, a, (p0 ∷ [], (p1 ∷ [], (p2 ∷ [], (p3 ∷ [], (p4 ∷ [], (p5 ∷ [], tt))))))), tt)
+    bound = ((κs, qs, tt, a, (p0 ∷ [], (p1 ∷ [], (p2 ∷ [], (p3 ∷ [], (p4 ∷ [], tt)))))), tt)
 
     abbrev passed : Fml
-    passed = owns (types_at f.signature.params κs) a (p0 ∷ [], (p1 ∷ [], (p2 ∷ [], (p3 ∷ [], (p4 ∷ [], (p5 ∷ [], tt))))))
+    passed = owns (types_at f.signature.params κs) a (p0 ∷ [], (p1 ∷ [], (p2 ∷ [], (p3 ∷ [], (p4 ∷ [], tt)))))
 
     abbrev wanted : Type 0
-    wanted = Comes a.1.1.0.now (world_of (record { layout = a.1.1.0.now; steps = a.0.now.steps; disks = a.1.0.now.disks })) a.1.0.now.disks
-        a.1.1.1.1.1.0.now a.1.1.1.0.now a.1.1.1.1.0.now
+    wanted = Comes a.1.0.now (world_of (run_over a.1.0.now a.0.now.taken)) a.0.now.taken.disks a.1.1.1.1.0.now a.1.1.0.now a.1.1.1.0.now
 
-    walk : wanted → ent 𝓤 (on_entry 𝓛 f.signature κs qs a (p0 ∷ [], (p1 ∷ [], (p2 ∷ [], (p3 ∷ [], (p4 ∷ [], (p5 ∷ [], tt)))))))
-        (WpFn 𝓤 H C Λ code.function (p0 ∷ p1 ∷ p2 ∷ p3 ∷ p4 ∷ p5 ∷ []) ((walk_of 𝓛 f.ended stayed (f.clauses 𝓛 mem run)).post bound))
+    walk : wanted → ent 𝓤 (on_entry 𝓛 f.signature κs qs a (p0 ∷ [], (p1 ∷ [], (p2 ∷ [], (p3 ∷ [], (p4 ∷ [], tt))))))
+        (WpFn 𝓤 H C Λ code.function (p0 ∷ p1 ∷ p2 ∷ p3 ∷ p4 ∷ []) ((walk_of 𝓛 f.ended stayed (f.clauses 𝓛 mem run)).post bound))
     walk (events, comes) =
-        qed 𝓛 (raw (alive 𝓛 f.signature κs qs) ∷ ‵ passed ∷ []) ∵ enter ! C Λ code.function (p0 ∷ p1 ∷ p2 ∷ p3 ∷ p4 ∷ p5 ∷ []) _ $
-        alloc_all ! (λ l. pass_all ! refl ((tt, tt), ((tt, tt), ((tt, tt), ((tt, tt), ((tt, tt), ((tt, tt), tt)))))) $ sets ! (agg ! (no_more !)) refl (tt, tt) $
+        qed 𝓛 (raw (alive 𝓛 f.signature κs qs) ∷ ‵ passed ∷ []) ∵ enter ! C Λ code.function (p0 ∷ p1 ∷ p2 ∷ p3 ∷ p4 ∷ []) _ $
+        alloc_all ! (λ l. pass_all ! refl ((tt, tt), ((tt, tt), ((tt, tt), ((tt, tt), ((tt, tt), tt))))) $ sets ! (agg ! (no_more !)) refl (tt, tt) $
         returns ! (look_at ! 0 refl) $ free_all ! refl $
-        suffices ! _ (ends_at 𝓛 f.ended stayed (f.clauses 𝓛 mem run) bound (vstruct vnil) (record { steps = a.0.now.steps ++ record { line = a.1.1.1.0.now; events = events } ∷ [] }) (tt, (tt, (tt, (tt, (tt, (tt, tt)))))) (tt, (tt, (tt, (tt, (tt, (tt, tt))))))) $
-        says ! (events, comes, refl) $ pure_i ! (made.the_row.own_val (record { steps = a.0.now.steps ++ record { line = a.1.1.1.0.now; events = events } ∷ [] }) (vstruct vnil ∷ [])) ((λ vss. (tt, tt)), tt) ((tt, (refl, tt)), tt) $
+        suffices ! _ (ends_at 𝓛 f.ended stayed (f.clauses 𝓛 mem run) bound (vstruct vnil) (record { taken = record { steps = a.0.now.taken.steps ++ record { line = a.1.1.0.now; events = events } ∷ []; disks = disks_of a.1.1.1.1.0.now.bricks.items } }) (tt, (tt, (tt, (tt, (tt, tt))))) (tt, (tt, (tt, (tt, (tt, tt)))))) $
+        says ! (events, comes, refl) $ pure_i ! (made.the_row.own_val (record { taken = record { steps = a.0.now.taken.steps ++ record { line = a.1.1.0.now; events = events } ∷ []; disks = disks_of a.1.1.1.1.0.now.bricks.items } }) (vstruct vnil ∷ [])) ((λ vss. (tt, tt)), tt) ((tt, (refl, tt)), tt) $
         move ! (1 ∷ 2 ∷ 0 ∷ []) $ done !)
 
   walks : Walks 𝓛 f.ended stayed (WpFn 𝓤 H C Λ code.function) (f.clauses 𝓛 mem run)
   walks =
-      walked 𝓛 f.ended stayed (f.clauses 𝓛 mem run) (WpFn 𝓤 H C Λ code.function) (λ κs. (shr_vals, (shr_vals, (shr_vals, (shr_vals, (shr_vals, (shr_vals, tt)))))))
-      (λ κs. (shr_Tells (named 0) κs.0 made.the_row, (shr_Tells (named 1) κs.1.0 shelf.the_row, (shr_Tells (named 2) κs.1.1.0 layout.the_row, (shr_Tells (named 3) κs.1.1.1.0 line.the_row, (shr_Tells (named 4) κs.1.1.1.1.0 outcome.the_row, (shr_Tells (named 5) κs.1.1.1.1.1.0 state.the_row, tt)))))))
+      walked 𝓛 f.ended stayed (f.clauses 𝓛 mem run) (WpFn 𝓤 H C Λ code.function) (λ κs. (shr_vals, (shr_vals, (shr_vals, (shr_vals, (shr_vals, tt))))))
+      (λ κs. (shr_Tells (named 0) κs.0 made.the_row, (shr_Tells (named 1) κs.1.0 layout.the_row, (shr_Tells (named 2) κs.1.1.0 line.the_row, (shr_Tells (named 3) κs.1.1.1.0 outcome.the_row, (shr_Tells (named 4) κs.1.1.1.1.0 state.the_row, tt))))))
       (λ κs qs bounds a g are. needs 𝓤 (wanted κs qs a) _ (walk κs qs a))
 
 meets : {M : Type 1} {𝓤 : Ura M} (𝓛 : Logic 𝓤) (mem : Memory → SProp 𝓤) (run : Routine → Fun 𝓤) (𝓣 : Tables 𝓤 𝓛.H)
     → Meets 𝓛 f.signature (WpFn 𝓤 𝓛.H 𝓣.C 𝓣.Λ code.function) (f.spec 𝓛 mem run)
 meets {𝓤 = 𝓤} 𝓛 mem run 𝓣 =
-    walk_Meets 𝓛 f.ended stayed (Goes-none_ref 𝓛 6 (0 ∷ []) tt (plain (λ _. made.the_row)) yes, (Goes-none_ref 𝓛 6 (1 ∷ []) tt (plain (λ _. shelf.the_row)) yes, (Goes-none_ref 𝓛 6 (2 ∷ []) tt (plain (λ _. layout.the_row)) yes, (Goes-none_ref 𝓛 6 (3 ∷ []) tt (plain (λ _. line.the_row)) yes, (Goes-none_ref 𝓛 6 (4 ∷ []) tt (plain (λ _. outcome.the_row)) yes, (Goes-none_ref 𝓛 6 (5 ∷ []) tt (plain (λ _. state.the_row)) yes, tt)))))) (f.clauses 𝓛 mem run) (WpFn 𝓤 𝓛.H 𝓣.C 𝓣.Λ code.function)
+    walk_Meets 𝓛 f.ended stayed (Goes-none_ref 𝓛 5 (0 ∷ []) tt (plain (λ _. made.the_row)) yes, (Goes-none_ref 𝓛 5 (1 ∷ []) tt (plain (λ _. layout.the_row)) yes, (Goes-none_ref 𝓛 5 (2 ∷ []) tt (plain (λ _. line.the_row)) yes, (Goes-none_ref 𝓛 5 (3 ∷ []) tt (plain (λ _. outcome.the_row)) yes, (Goes-none_ref 𝓛 5 (4 ∷ []) tt (plain (λ _. state.the_row)) yes, tt))))) (f.clauses 𝓛 mem run) (WpFn 𝓤 𝓛.H 𝓣.C 𝓣.Λ code.function)
     (WpFn-mono 𝓤 𝓛.H 𝓛.laws 𝓣 code.function) (walks 𝓛 mem run 𝓣.C 𝓣.Λ)
 
 pub with_spec : {M : Type 1} → stated.statement M

@@ -2,7 +2,7 @@
 use Rattle.std.proofs.Common.{length, sym, ap, ◌∙◌, subst}
 use Rattle.world.specs.Runs.{Run, world_of}
 use Rattle.world.specs.Disks.{ShowsDisks}
-use Rattle.world.proofs.RunLemmas.{text_is, disks_shown}
+use Rattle.world.proofs.RunLemmas.{text_is, taken_shown}
 use Rattle.world.proofs.worlds.World.step.Goals as goal
 
 pub returns-clause-ok : goal.returns-clause-ok
@@ -25,9 +25,9 @@ returns-clause-ok c =
 pub returns-in_err-line-clause-disks : goal.returns-in_err-line-clause-disks
 returns-in_err-line-clause-disks c =
     subst ShowsDisks c.self.view_is
-    (disks_shown c.self.inside.layout c.self.inside.simulation c.self.inside.trail.steps c.self.invariant.shows)
+    (taken_shown c.self.inside.layout c.self.inside.simulation c.self.inside.trail.taken c.self.invariant.shows c.self.invariant.disks)
 
 pub returns-in-None-clause-disks : goal.returns-in-None-clause-disks
 returns-in-None-clause-disks c =
     subst ShowsDisks c.self.view_is
-    (disks_shown c.self.inside.layout c.self.inside.simulation c.self.inside.trail.steps c.self.invariant.shows)
+    (taken_shown c.self.inside.layout c.self.inside.simulation c.self.inside.trail.taken c.self.invariant.shows c.self.invariant.disks)
