@@ -67,11 +67,11 @@ fn refused() -> io::Error {
     io::Error::from(io::ErrorKind::InvalidData)
 }
 
-/// The folder of this process, and its first port.
+/// The folder of this process, and the port of its session.
 #[derive(Drop)]
 struct Place {
     folder: String,
-    port: u32,
+    session_port: u32,
 }
 
 impl Place {
@@ -82,7 +82,11 @@ impl Place {
         let folder = format!(in alloc; "{}/brick-cases-{number}", above.as_str())?;
         fs::create_dir(rt, folder.as_str())?;
         let port = FIRST_PORT + number % PROCESSES * 64;
-        let place = Place { folder, port };
+        let session_port = port + TCP_PORT;
+        let place = Place {
+            folder,
+            session_port,
+        };
         let rest = fs::read_to_string(rt, "layout")?;
         let layout = format!(in alloc; "port = {port}\n{rest}")?;
         let name = place.name(alloc, "@layout")?;
@@ -93,7 +97,7 @@ impl Place {
     /// What a word stands for.
     fn name(&self, alloc: Global, word: &str) -> io::Result<String> {
         if word == "@port" {
-            return Ok(format!(in alloc; "{}", self.port + TCP_PORT)?);
+            return Ok(format!(in alloc; "{}", self.session_port)?);
         }
         let Some(name) = word.strip_prefix('@') else {
             return Ok(String::from_str(alloc, word)?);
