@@ -5,6 +5,7 @@ use Rattle.fab_base.specs.declared.identities.GroupId.{GroupId}
 use Rattle.fab_base.specs.declared.identities.ViewNo.{ViewNo}
 use Rattle.fab_base.specs.declared.identities.StripeNo.{StripeNo}
 use Rattle.fab_base.specs.Stamps.{stamp_below, stamp_same, first_stamp}
+use Rattle.fab_base.specs.Layouts.{most_groups}
 use Rattle.stamp_store.specs.declared.kept_records.Kept.TheVariants.{Boot, Ballots, Order}
 use Rattle.stamp_store.specs.declared.kept_records.Kept.TheVariants as kinds
 use Rattle.stamp_store.specs.declared.log_records.LogChange.{LogChange}
@@ -76,14 +77,14 @@ placed p st (Some s) = Some (with_stripe p s st)
 -- One record more. None where it can't be: a group above 63, a view below 2, one live record too many, or as of a log's change.
 unfoldable pub applied : Limits → Record → StateOf Entry → Option (StateOf Entry)
 applied limits (forms.Kept (Boot count)) st = Some (booted count st)
-applied limits (forms.Kept (kinds.View g view synced)) st = if nat_lt g.0 64 && nat_le 2 view.number.0 then Some (viewed g.0 view synced st) else None
-applied limits (forms.Kept (Ballots g v promised accepted)) st = if nat_lt g.0 64 then Some (balloted g.0 promised accepted st) else None
+applied limits (forms.Kept (kinds.View g view synced)) st = if nat_lt g.0 most_groups && nat_le 2 view.number.0 then Some (viewed g.0 view synced st) else None
+applied limits (forms.Kept (Ballots g v promised accepted)) st = if nat_lt g.0 most_groups then Some (balloted g.0 promised accepted st) else None
 applied limits (forms.Kept (Order g v s t)) st =
-    if nat_lt g.0 64
+    if nat_lt g.0 most_groups
     then (if adds_order t (stripe_at st (place g v s)) && is_full limits st then None else Some (ordered (place g v s) t st))
     else None
 applied limits (forms.Logged r) st =
-    if nat_lt r.group.0 64
+    if nat_lt r.group.0 most_groups
     then placed (place r.group r.view r.stripe) st (log_changed limits (is_full limits st) r.change r.stamp (stripe_at st (place r.group r.view r.stripe)))
     else None
 

@@ -6,6 +6,7 @@ use Rattle.std.specs.List.{AllByRecursion}
 use Rattle.std.specs.List.Sorted.{IsStrictlySortedBy}
 use Rattle.std.specs.Map.{keys_of}
 use Rattle.fab_base.specs.declared.member_lists.View.{View}
+use Rattle.fab_base.specs.Layouts.{most_groups}
 use Rattle.brick_state.specs.States.{Place, StripeOf, StateOf, place_cmp, is_first, live}
 use Rattle.brick_state.specs.Folds.{Limits, is_slot}
 use Rattle.brick_state.specs.Rewrites.{start_of}
@@ -21,7 +22,7 @@ Rises limits under (e ∷ entries) = IsAbove under e × ((is_slot limits e.block
 
 -- something happened to the stripe; only in view 1 there is a version from the start, and only a version takes it away
 pub record IsKeptStripe (limits : Limits) (p : Place) (s : StripeOf Entry) : Type 0 where
-  pub group : p.0 < 64
+  pub group : p.0 < most_groups
   pub changed : is_first p s ≡ false
   pub start : s.from_start ≡ true → (p.1 == 1) ≡ true
   pub no_start : s.from_start ≡ false → s.added ≡ [] → (p.1 == 1) ≡ false

@@ -11,6 +11,7 @@ use Rattle.fab_base.specs.declared.stamps.Ballot.{Ballot}
 use Rattle.fab_base.specs.declared.identities.BrickId.{BrickId}
 use Rattle.fab_base.specs.declared.member_lists.View.{View}
 use Rattle.fab_base.specs.Stamps.{stamp_below, stamp_same, first_stamp}
+use Rattle.fab_base.specs.Layouts.{most_groups}
 use Rattle.brick_state.specs.declared.groups.Group.{Group}
 use Rattle.brick_state.specs.Entries.{Entry}
 use Rattle.brick_state.specs.declared.stripes.Stripe.{Stripe}
@@ -123,7 +124,7 @@ group_at st g = slice_index_or st.groups g no_group
 
 -- nothing is kept: the state of a store that was just made
 abbrev pub empty : {E : Type 0} → StateOf E
-empty = record { boot = 0; groups = replicate 64 no_group; stripes = [] }
+empty = record { boot = 0; groups = replicate most_groups no_group; stripes = [] }
 
 -- a boot count
 abbrev pub booted : {E : Type 0} → ℕ → StateOf E → StateOf E

@@ -1,6 +1,7 @@
 //! The index: what a brick keeps, in memory.
 
 ghost use Rattle.std.specs.Prelude.{◌≡◌, ◌≤◌, ◌&&◌, not, length};
+ghost use Rattle.fab_base.specs.Layouts.{most_groups};
 ghost use Rattle.fab_base.specs.Stamps.{stamp_same, first_stamp};
 ghost use Rattle.brick_state.specs.Folds.{slot_named};
 
@@ -82,7 +83,7 @@ impl Index {
 
     /// What is kept of a group.
     pub fn group(&self, group: u32) -> &Group
-        requires { group < 64 }
+        requires { group < most_groups }
         ensures { result.now ≡ group_at (state_of self.now) group }
     {
         &self.groups[group as usize]
@@ -202,7 +203,7 @@ impl Index {
     }
 
     fn set_view(&mut self, group: u32, view: &View, synced: bool) -> bool
-        ensures answer { Answers (state_of self.new) (if nat_lt group 64 && nat_le 2 view.now.number.0 then Some
+        ensures answer { Answers (state_of self.new) (if nat_lt group most_groups && nat_le 2 view.now.number.0 then Some
             (viewed group view.now synced (state_of self.old)) else None) result }
         ensures refused { result ≡ false → state_of self.new ≡ state_of self.old }
         ensures limits { limits_of self.new ≡ limits_of self.old }
@@ -227,7 +228,7 @@ impl Index {
         promised: Ballot,
         accepted: &Option<(Ballot, Members)>,
     ) -> bool
-        ensures answer { Answers (state_of self.new) (if nat_lt group 64 then Some
+        ensures answer { Answers (state_of self.new) (if nat_lt group most_groups then Some
             (balloted group promised accepted.now (state_of self.old)) else None) result }
         ensures refused { result ≡ false → state_of self.new ≡ state_of self.old }
         ensures limits { limits_of self.new ≡ limits_of self.old }
@@ -242,7 +243,7 @@ impl Index {
 
     fn set_order(&mut self, place: Place, stamp: Stamp) -> Result<bool, NoMem>
         ensures answer { IfOk result (Answers (state_of self.new)
-            (if nat_lt place.0 64 then (if adds_order stamp (stripe_at (state_of self.old) place) && is_full (limits_of self.old)
+            (if nat_lt place.0 most_groups then (if adds_order stamp (stripe_at (state_of self.old) place) && is_full (limits_of self.old)
             (state_of self.old) then None else Some (ordered place stamp (state_of self.old))) else None)) }
         ensures refused { result ≡ Ok false → state_of self.new ≡ state_of self.old }
         ensures err { OnErr result (state_of self.new ≡ state_of self.old) }
@@ -270,7 +271,7 @@ impl Index {
 
     fn change_log(&mut self, logged: &Logged) -> Result<bool, NoMem>
         ensures answer { IfOk result (Answers (state_of self.new)
-            (if nat_lt logged.now.group.0 64 then placed (place logged.now.group logged.now.view logged.now.stripe) (state_of self.old)
+            (if nat_lt logged.now.group.0 most_groups then placed (place logged.now.group logged.now.view logged.now.stripe) (state_of self.old)
             (log_changed (limits_of self.old) (is_full (limits_of self.old) (state_of self.old)) logged.now.change logged.now.stamp
             (stripe_at (state_of self.old) (place logged.now.group logged.now.view logged.now.stripe))) else None)) }
         ensures refused { result ≡ Ok false → state_of self.new ≡ state_of self.old }

@@ -1,6 +1,7 @@
 //! The records that bring back what is kept from nothing.
 
 ghost use Rattle.std.specs.Prelude.{◌≡◌, ◌≤◌, ◌++◌, ◌∷◌, [], length, OnOk};
+ghost use Rattle.fab_base.specs.Layouts.{most_groups};
 ghost use Rattle.brick_state.specs.Rewrites.{learnt_number, view_records, ballot_records, group_records, groups_records, order_records, version_change, version_record, version_records, start_of, stripe_records, stripes_records};
 ghost use Rattle.brick_state.specs.States.{stripe_of};
 ghost use Rattle.brick_state.specs.Maps.{listed, listed_in, placed};
@@ -15,7 +16,7 @@ use std::collections::BTreeMap;
 
 /// Adds the records of all groups.
 pub fn put_groups(records: &mut Vec<Record>, groups: &[Group]) -> Result<(), NoMem>
-    requires { length groups.now ≤ 64 }
+    requires { length groups.now ≤ most_groups }
     ensures { OnOk result (records.new.items ≡ records.old.items ++ groups_records 0 groups.now) }
 {
     for (number, group) in groups.iter().enumerate() {

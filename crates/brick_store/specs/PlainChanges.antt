@@ -1,6 +1,7 @@
 -- The changes that put no block of their own in a slot.
 use Rattle.std.specs.Prelude.{◌≡◌, ℕ, ◌≤◌, ◌<◌, Bool, true, false, length, Some, None}
 use Rattle.fab_base.specs.declared.stamps.Stamp.{Stamp}
+use Rattle.fab_base.specs.Layouts.{most_groups}
 use Rattle.stamp_store.specs.declared.kept_records.Kept.TheVariants.{Boot, Ballots, Order}
 use Rattle.stamp_store.specs.declared.kept_records.Kept.TheVariants as kinds
 use Rattle.stamp_store.specs.declared.log_records.LogChange.{LogChange}
@@ -37,11 +38,11 @@ CanMakeLog size p t (Slot bottom slot) st = ⊥
 abbrev pub CanMake : ℕ → Record → StateOf Version → Type 0
 CanMake size (forms.Kept (Boot count)) st = ⊥
 CanMake size (forms.Kept (kinds.View g view false)) st =
-    (g.0 < 64) × (learnt_of (group_at st g.0) < view.number.0) × ((1 ≤ length view.members) × (1 ≤ length view.prior))
-CanMake size (forms.Kept (kinds.View g view true)) st = (g.0 < 64) × (learnt_view (group_at st g.0) ≡ Some view)
-CanMake size (forms.Kept (Ballots g v promised accepted)) st = (g.0 < 64) × AcceptedHasMembers accepted
-CanMake size (forms.Kept (Order g v s t)) st = g.0 < 64
-CanMake size (forms.Logged r) st = (r.group.0 < 64) × CanMakeLog size (place r.group r.view r.stripe) r.stamp r.change st
+    (g.0 < most_groups) × (learnt_of (group_at st g.0) < view.number.0) × ((1 ≤ length view.members) × (1 ≤ length view.prior))
+CanMake size (forms.Kept (kinds.View g view true)) st = (g.0 < most_groups) × (learnt_view (group_at st g.0) ≡ Some view)
+CanMake size (forms.Kept (Ballots g v promised accepted)) st = (g.0 < most_groups) × AcceptedHasMembers accepted
+CanMake size (forms.Kept (Order g v s t)) st = g.0 < most_groups
+CanMake size (forms.Logged r) st = (r.group.0 < most_groups) × CanMakeLog size (place r.group r.view r.stripe) r.stamp r.change st
 
 -- whether it is one live record more
 abbrev pub log_adds : LogChange → Bool

@@ -1,6 +1,7 @@
 //! What a store tells of what it keeps. No look-up needs memory.
 
 ghost use Rattle.std.specs.Prelude.{◌≡◌, ◌<◌, ◌≤◌, ◌↔◌, ℕ, List, None, IsTrue, false, option_map};
+ghost use Rattle.fab_base.specs.Layouts.{most_groups};
 ghost use Rattle.fab_disk.specs.Disk.{KeepsRoom};
 ghost use Rattle.brick_state.specs.States.{live, group_at};
 ghost use Rattle.brick_state.specs.Times.{top_time};
@@ -26,16 +27,16 @@ impl<D: Disk> BrickStore<D> {
     /// The greatest view learnt of a group, above 1, and whether all its stripes are known to be in it. None before a view was
     /// learnt. There is none of a group from 64 on.
     pub fn known_view(&self, group: GroupId) -> Option<(View, bool)>
-        requires { group.0 < 64 }
+        requires { group.0 < most_groups }
         ensures value { result ≡ (group_at self.now.state group.0).known }
-        ensures none { (other : ℕ) → 64 ≤ other → (group_at self.now.state other).known ≡ None }
+        ensures none { (other : ℕ) → most_groups ≤ other → (group_at self.now.state other).known ≡ None }
     {
         known_of(self.index.group(group.0))
     }
 
     /// The number of the greatest view learnt of a group, 1 before a view was learnt.
     pub fn learnt(&self, group: GroupId) -> ViewNo
-        requires { group.0 < 64 }
+        requires { group.0 < most_groups }
         ensures { result.0 ≡ learnt_of (group_at self.now.state group.0) }
     {
         ViewNo(learnt_number(self.index.group(group.0)))
@@ -44,7 +45,7 @@ impl<D: Disk> BrickStore<D> {
     /// Whether the logs of a view of a group are kept: it is the learnt view, or the one before it until all stripes are known
     /// to be in the learnt one.
     pub fn serves(&self, group: GroupId, view: ViewNo) -> bool
-        requires { group.0 < 64 }
+        requires { group.0 < most_groups }
         ensures { IsTrue result ↔ IsServed (group_at self.now.state group.0) view.0 }
     {
         is_served(self.index.group(group.0), view)
@@ -52,7 +53,7 @@ impl<D: Disk> BrickStore<D> {
 
     /// The ballot promised for the successor of the learnt view.
     pub fn promised(&self, group: GroupId) -> Option<Ballot>
-        requires { group.0 < 64 }
+        requires { group.0 < most_groups }
         ensures { result ≡ option_map (λ kept. kept.0) (group_at self.now.state group.0).ballots }
     {
         promised_of(self.index.group(group.0))
@@ -60,7 +61,7 @@ impl<D: Disk> BrickStore<D> {
 
     /// The ballot accepted last for the successor of the learnt view, and its members.
     pub fn accepted(&self, group: GroupId) -> Option<(Ballot, Members)>
-        requires { group.0 < 64 }
+        requires { group.0 < most_groups }
         ensures { result ≡ accepted_of (group_at self.now.state group.0) }
     {
         accepted_of(self.index.group(group.0))

@@ -2,6 +2,7 @@
 
 ghost use Rattle.std.specs.Prelude.{◌≡◌, ◌<◌, ◌≤◌, Some, None, IsSome, Err, IsOk, true, false, length};
 ghost use Rattle.std.specs.Option.{ForSome};
+ghost use Rattle.fab_base.specs.Layouts.{most_groups};
 ghost use Rattle.brick_state.specs.States.{stripe_at, ordered, collected, viewed, balloted, group_at};
 ghost use Rattle.brick_state.specs.Folds.{place};
 ghost use Rattle.brick_store.specs.Blocks.{log_at, version_stamp, HasStamp, IsServed, adds_stamp, IsNext, with_version, accepted_of, learnt_of, all_synced};
@@ -76,7 +77,7 @@ impl<D: Disk> BrickStore<D> {
         stripe: StripeNo,
         stamp: Stamp,
     ) -> Result<(), StoreFault>
-        requires group { group.0 < 64 }
+        requires group { group.0 < most_groups }
         requires view { IsServed (group_at self.old.state group.0) view.0 }
         ensures change { BrickChange D.Disk (calls_of self.old stamped_size append_calls) self.old
             (ordered (place group view stripe) stamp self.old.state) self.new.disk (end_of result) }
@@ -104,7 +105,7 @@ impl<D: Disk> BrickStore<D> {
         view: ViewNo,
         promised: Ballot,
     ) -> Result<(), StoreFault>
-        requires group { group.0 < 64 }
+        requires group { group.0 < most_groups }
         requires view { view.0 ≡ learnt_of (group_at self.old.state group.0) }
         ensures change { BrickChange D.Disk (calls_of self.old (ballots_size (accepted_of (group_at self.old.state group.0))) append_calls) self.old
             (balloted group.0 promised (accepted_of (group_at self.old.state group.0)) self.old.state) self.new.disk (end_of result) }
@@ -132,7 +133,7 @@ impl<D: Disk> BrickStore<D> {
         ballot: Ballot,
         members: Members,
     ) -> Result<(), StoreFault>
-        requires group { group.0 < 64 }
+        requires group { group.0 < most_groups }
         requires view { view.0 ≡ learnt_of (group_at self.old.state group.0) }
         requires members { 1 ≤ length members }
         ensures change { BrickChange D.Disk (calls_of self.old (ballots_size (Some (ballot, members))) append_calls) self.old
@@ -155,7 +156,7 @@ impl<D: Disk> BrickStore<D> {
     /// # Errors
     /// [`StoreFault::Halted`], [`StoreFault::Disk`]; [`StoreFault::NoMemory`], before the disk changed.
     pub fn learn(&mut self, group: GroupId, view: View) -> Result<(), StoreFault>
-        requires group { group.0 < 64 }
+        requires group { group.0 < most_groups }
         requires above { learnt_of (group_at self.old.state group.0) < view.number.0 }
         requires members { (1 ≤ length view.members) × (1 ≤ length view.prior) }
         ensures change { BrickChange D.Disk (calls_of self.old (view_size view) append_calls) self.old
@@ -176,7 +177,7 @@ impl<D: Disk> BrickStore<D> {
     /// # Errors
     /// [`StoreFault::Halted`], [`StoreFault::Disk`]; [`StoreFault::NoMemory`], before the disk changed.
     pub fn synced(&mut self, group: GroupId, view: ViewNo) -> Result<(), StoreFault>
-        requires group { group.0 < 64 }
+        requires group { group.0 < most_groups }
         requires view { view.0 ≡ learnt_of (group_at self.old.state group.0) }
         requires learnt { IsSome (group_at self.old.state group.0).known }
         ensures change { BrickChange D.Disk (calls_of self.old (known_size (group_at self.old.state group.0).known) append_calls) self.old
@@ -204,7 +205,7 @@ impl<D: Disk> BrickStore<D> {
         stripe: StripeNo,
         stamp: Stamp,
     ) -> Result<(), StoreFault>
-        requires group { group.0 < 64 }
+        requires group { group.0 < most_groups }
         requires view { IsServed (group_at self.old.state group.0) view.0 }
         requires held { HasStamp stamp (log_at self.old.shape.block self.old.state (place group view stripe)) }
         ensures change { BrickChange D.Disk (calls_of self.old stamped_size append_calls) self.old
@@ -234,7 +235,7 @@ impl<D: Disk> BrickStore<D> {
         stamp: Stamp,
         block: Option<Bytes>,
     ) -> Result<(), StoreFault>
-        requires group { group.0 < 64 }
+        requires group { group.0 < most_groups }
         requires view { IsServed (group_at self.old.state group.0) view.0 }
         requires above { IsNext stamp (log_at self.old.shape.block self.old.state (place group view stripe)) block }
         requires block { ForSome block (λ bytes. length bytes ≡ self.old.shape.block) }
@@ -270,7 +271,7 @@ impl<D: Disk> BrickStore<D> {
         stripe: StripeNo,
         stamp: Stamp,
     ) -> Result<(), StoreFault>
-        requires group { group.0 < 64 }
+        requires group { group.0 < most_groups }
         requires above { IsNext stamp (log_at self.old.shape.block self.old.state (place group view stripe)) None }
         ensures change { BrickChange D.Disk (calls_of self.old stamped_size append_calls) self.old
             (with_version self.old.shape.block (place group view stripe) stamp None self.old.state) self.new.disk (end_of result) }
@@ -296,7 +297,7 @@ impl<D: Disk> BrickStore<D> {
         stamp: Stamp,
         block: Bytes,
     ) -> Result<(), StoreFault>
-        requires group { group.0 < 64 }
+        requires group { group.0 < most_groups }
         requires above { IsNext stamp (log_at self.old.shape.block self.old.state (place group view stripe)) (Some block) }
         requires block { length block ≡ self.old.shape.block }
         ensures change { BrickChange D.Disk (calls_of self.old (version_size (Some block)) (version_calls (Some block))) self.old

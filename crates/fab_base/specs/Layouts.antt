@@ -5,6 +5,10 @@ use Rattle.fab_base.specs.declared.identities.BrickId.{BrickId}
 use Rattle.fab_base.specs.declared.member_lists.View.{View}
 use Rattle.fab_base.specs.declared.segments.Segment.{Segment}
 
+-- how many groups a layout may have; of so many a brick's store keeps views and ballots
+abbrev pub most_groups : ℕ
+most_groups = 64
+
 -- a group: the members of its view 1, by seat; the data blocks of a stripe; and how many stripes
 pub record Group : Type 0 where
   pub members : List BrickId

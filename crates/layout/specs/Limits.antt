@@ -3,7 +3,7 @@ use Rattle.std.specs.Prelude.{◌≡◌, ℕ, ◌+◌, ◌*◌, ◌<◌, ◌≤�
 use Rattle.std.specs.List.{IsDistinct, AllByRecursion}
 use Rattle.std.specs.Str.{bytes_eq}
 use Rattle.fab_base.specs.declared.segments.Segment.{Segment}
-use Rattle.fab_base.specs.Layouts.{Group, Volume, Layout, group_of}
+use Rattle.fab_base.specs.Layouts.{Group, Volume, Layout, group_of, most_groups}
 use Rattle.quorum.specs.Quorums.{IsWithinLimits}
 use Rattle.layout.specs.Names.{is_name}
 use Rattle.layout.specs.Segments.{AreApart, segments_of}
@@ -52,6 +52,6 @@ pub record IsLayout (layout : Layout) : Type 0 where
   pub some_port : 1 ≤ layout.port
   pub few_ports : layout.port ≤ 65472
   pub some_group : 1 ≤ length layout.groups
-  pub few_groups : length layout.groups ≤ 64
+  pub few_groups : length layout.groups ≤ most_groups
   pub each : (g : ℕ) (group : Group) → group_of layout g ≡ Some group → IsGroup layout.block layout.bricks group
   pub volumes : AreVolumes layout.groups layout.volumes

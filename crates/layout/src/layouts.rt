@@ -1,7 +1,7 @@
 //! Layouts.
 
 ghost use Rattle.std.specs.Prelude.{◌≡◌, ◌<◌, length, option_copied, IfSome, IfOk};
-ghost use Rattle.fab_base.specs.Layouts.{group_of};
+ghost use Rattle.fab_base.specs.Layouts.{group_of, most_groups};
 ghost use Rattle.layout.specs.Checks.{layout_with};
 ghost use Rattle.layout.specs.Limits.{IsLayout};
 
@@ -200,7 +200,7 @@ impl Layout {
     /// The group of this number, if there is one.
     pub fn group(&self, group: GroupId) -> Option<&Group>
         ensures found { option_copied result ≡ group_of self.now group.0 }
-        ensures few { IfSome result (λ found. group.0 < 64) }
+        ensures few { IfSome result (λ found. group.0 < most_groups) }
     {
         self.groups.get(group.0 as usize)
     }

@@ -3,7 +3,7 @@ use Rattle.std.specs.Prelude.{ℕ, zero, suc, List, [], ◌∷◌, ◌++◌, cod
 use Rattle.std.specs.Fmt.{decimal}
 use Rattle.reg_model.specs.declared.marks.Mark.{Mark}
 use Rattle.reg_model.specs.declared.marks.Happening.{Happening}
-use Rattle.fab_base.specs.Layouts.{Layout, Group, group_of}
+use Rattle.fab_base.specs.Layouts.{Layout, Group, group_of, most_groups}
 use Rattle.protocol.specs.Settings.{Setting}
 use Rattle.protocol.specs.Worlds.{World, first_world, run}
 use Rattle.protocol.specs.Happenings.{happenings_of}
@@ -46,10 +46,6 @@ stripes_of (Some group) = group.stripes
 unfoldable pub groups_text : Layout → World → ℕ → List ℕ
 groups_text layout w zero = []
 groups_text layout w (suc group) = groups_text layout w group ++ stripes_text w group (stripes_of (group_of layout group))
-
--- the most groups of a layout
-abbrev pub most_groups : ℕ
-most_groups = 64
 
 -- the last line: how many lines of the schedule, and marks of each kind
 abbrev pub count_text : ℕ → List Mark → List ℕ

@@ -1,11 +1,11 @@
 //! The texts that close an output.
 
 ghost use Rattle.std.specs.Prelude.{◌≡◌, ◌++◌, IfOk, codes, count_by, string_bytes};
-ghost use Rattle.fab_base.specs.Layouts.{group_of};
+ghost use Rattle.fab_base.specs.Layouts.{group_of, most_groups};
 ghost use Rattle.world.specs.Runs.{world_of};
 ghost use Rattle.world.specs.Walks.{AreEntriesOf};
 ghost use Rattle.transcript.specs.Kinds.{is_begin, is_answered, is_aborted, is_crash};
-ghost use Rattle.printed.specs.Outputs.{happened_text, stripes_text, stripes_of, groups_text, most_groups, count_text, closing_text};
+ghost use Rattle.printed.specs.Outputs.{happened_text, stripes_text, stripes_of, groups_text, count_text, closing_text};
 
 use fab_base::{Answer, GroupId, NoMem, StripeNo};
 use reg_model::{Happening, Mark};

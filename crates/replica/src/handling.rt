@@ -3,7 +3,7 @@
 ghost use Rattle.std.specs.Prelude.{◌≡◌, ◌≢◌, ◌<◌, ◌≤◌, true, Option, Err, IsSome, IfSome, IsTrue, length, option_map};
 ghost use Rattle.brick_state.specs.States.{live};
 ghost use Rattle.frame_store.specs.Layouts.{shape_of};
-ghost use Rattle.fab_base.specs.Layouts.{seat_in};
+ghost use Rattle.fab_base.specs.Layouts.{seat_in, most_groups};
 ghost use Rattle.protocol.specs.Nodes.{Node, view_at, group_at, is_served, fits_block, full_at};
 ghost use Rattle.messages.specs.declared.packets.Message.TheVariants as message;
 ghost use Rattle.messages.specs.declared.replies.Reply as told;
@@ -58,7 +58,7 @@ fn carry_out<D: Disk>(
     call: Call,
     plan: Plan,
 ) -> Result<Option<Reply>, ReplicaFault>
-    requires group { call.group.0 < 64 }
+    requires group { call.group.0 < most_groups }
     requires first { call.view.0 ≡ 1 }
     requires view { IsFirstView store.old.state }
     requires runs { Runs D.Disk store.old }
@@ -107,7 +107,7 @@ fn member_served<D: Disk>(
     ensures seat { (node : Node) → IsPartsOf layout.now store.now.state node → option_map (λ member. (member.m, member.seat)) result
         ≡ served_seat layout.now (me_of store.now) node call request.now (group_at layout.now node call.group.0) }
     ensures block { IfSome result (λ member. member.block ≡ layout.now.block) }
-    ensures group { IsSome result → call.group.0 < 64 }
+    ensures group { IsSome result → call.group.0 < most_groups }
     ensures first { IsSome result → call.view.0 ≡ 1 }
     ensures fits { IfSome result (λ member. IsTrue (fits_block member.block member.m member.seat request.now)) }
 {
