@@ -8,6 +8,7 @@
 
 mod calls;
 mod clocks;
+mod commands;
 mod ends;
 mod fault;
 mod links;
@@ -18,6 +19,7 @@ mod system;
 
 pub use calls::Calls;
 pub use clocks::Clock;
+pub use commands::{NO_MEMORY, command_words};
 pub use ends::{Sink, Source};
 pub use fab_base::IoFault;
 pub use fault::raise;
