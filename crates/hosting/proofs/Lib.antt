@@ -1,5 +1,4 @@
 pub mod Exits
-mod Splits
 pub mod CommandLines
 pub mod Names
 pub mod Wanting

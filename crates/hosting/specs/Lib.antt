@@ -7,4 +7,3 @@ pub mod Rounds
 pub mod Reading
 pub mod Hosting
 pub mod Hosted
-pub mod Splits

@@ -3,9 +3,8 @@
 ghost use Rattle.std.specs.Prelude.{◌≡◌, map, IfOk};
 ghost use Rattle.hosting.specs.Commands.{access_of, form, line_of_tokens, line_of};
 
-use crate::tokens::split;
 use fab_base::{Bytes, NoMem};
-use lines::{LINE_LIMIT, parse_hex, parse_number};
+use lines::{LINE_LIMIT, parse_hex, parse_number, split};
 use std::alloc::Global;
 
 /// What is to be done with bytes of a volume.

@@ -11,7 +11,6 @@ mod reading;
 mod replies;
 mod rooms;
 mod rounds;
-mod tokens;
 
 pub use clients::ClientEnd;
 pub use commands::{Access, Command, Line, parse};

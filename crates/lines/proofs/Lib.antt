@@ -13,3 +13,4 @@ pub mod Answering
 pub mod HeadLines
 pub mod ScheduleLines
 mod BrickTokens
+pub mod Splits

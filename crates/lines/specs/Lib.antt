@@ -3,3 +3,4 @@ pub mod Grammar
 pub mod Lines
 pub mod Reading
 pub mod LineReader
+pub mod Splits

@@ -11,4 +11,4 @@ pub use brick_lists::BrickList;
 pub use contents::{content_of, is_layout_end};
 pub use forms::{Access, Fault, LINE_LIMIT, Line, parse};
 pub use reader::{LineReader, NextLine, READ_LEN};
-pub use tokens::{parse_hex, parse_number};
+pub use tokens::{parse_hex, parse_number, split};

@@ -1,7 +1,7 @@
 -- The tokens that were found, and those of the rest, are those of the line.
 use Rattle.std.proofs.Common.{◌≡◌, ◌++◌, map, length}
 use Rattle.lines.specs.Tokens.{tokens}
-use Rattle.hosting.proofs.tokens.split.Given as goal
+use Rattle.lines.proofs.tokens.split.Given as goal
 
 abbrev pub invariant-loop-found : goal.invariant-loop-found
 invariant-loop-found l = map (λ token. token.now) l.found.items ++ tokens l.rest ≡ tokens l.content

@@ -5,7 +5,7 @@ use Rattle.memchr.specs.Find.{Nowhere, Passes, is_byte}
 use Rattle.std.proofs.lemmas.List.{take_more, get_or-take, get_or_default, length-take-le}
 use Rattle.std.proofs.lemmas.List.Splits.{slice_split_none, slice_split_at}
 use Rattle.lines.specs.Tokens.{tokens}
-use Rattle.hosting.specs.Splits.{one_token}
+use Rattle.lines.specs.Splits.{one_token}
 
 -- the last token, where no space is left
 pub tokens-last : (piece : List ℕ) → All (λ byte. (byte == 32) ≡ false) piece → tokens piece ≡ one_token piece

@@ -1,7 +1,7 @@
 use Rattle.std.proofs.Common.{◌≡◌, ◌+◌, ◌-◌, ◌<◌, length, take, drop, subst, All, false, ◌==◌, arith, le_refl, ap, length-drop}
 use Rattle.std.proofs.lemmas.List.{take_rest, take_all}
-use Rattle.hosting.proofs.Splits.{tokens-last, tokens-at, none_before}
-use Rattle.hosting.proofs.tokens.cut.Goals as goal
+use Rattle.lines.proofs.Splits.{tokens-last, tokens-at, none_before}
+use Rattle.lines.proofs.tokens.cut.Goals as goal
 
 pub returns-in-Some : goal.returns-in-Some
 returns-in-Some c =
