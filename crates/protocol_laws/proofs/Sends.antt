@@ -80,7 +80,7 @@ module _ (setting : Setting) (views : Views) (sound : IsSound setting) (w : Worl
   -- the coordinator in its next phase
   abbrev d_in : Phase → Coordinator
   d_in p =
-      record { group = c.group; ask = c.ask; stamp = t; round = round; base = base; content = content; call = next_phase c.call; phase = p; counted = [] }
+      record { group = c.group; prior = c.prior; ask = c.ask; stamp = t; round = round; base = base; content = content; call = next_phase c.call; phase = p; counted = [] }
 
   abbrev d : Coordinator
   d = d_in phase
@@ -289,7 +289,7 @@ module _ (setting : Setting) (views : Views) (sound : IsSound setting) (w : Worl
           stamps_other = λ i b k other. stamps_other stamps me.0 boot c.call.seq (c.call.phase + 1) begun i b k (λ brick same. other brick);
           tops = λ g e s. inl refl;
           logs = λ g e s k version at. inl (k, at);
-          lowest = λ g e s x log at. inl (log, at);
+          lowest = λ g e s x log within at. inl (log, at);
           calls = calls;
           packets = packets;
         }),

@@ -23,7 +23,7 @@ use Rattle.protocol.specs.Replicas.{Replica, Reaction, first_replica, fresh_repl
 use Rattle.protocol.specs.declared.phases.Phase.{Phase}
 use Rattle.protocol.specs.declared.phases.Phase.TheVariants.{Looks, LooksAt, Orders, OrdersAt, Recovers, Descends, Modifies, Bases, Stores}
 use Rattle.protocol.specs.Coordinators.{Coordinator, Next, Ignores, Waits, Sends, Makes, Ends, with_reply, once_full, counted_at, counts_at, on_reply, request_of}
-use Rattle.protocol.specs.Nodes.{Node, NodeStep, view_at, view_floor, put, first_node, no_step, phase_packets, new_coordinator, began, invoked, replica_at, full_at, requested, known_after, with_call, carried_out, has_later_time, new_stamp, fresh_stamp, group_at, replied_at, replied, received, absorbed, ticked, stopped, restarted}
+use Rattle.protocol.specs.Nodes.{Node, NodeStep, view_at, view_floor, put, first_node, no_step, phase_packets, new_coordinator, began, invoked, replica_at, full_at, requested, known_after, with_call, carried_out, has_later_time, new_stamp, fresh_stamp, group_at, replied_at, replied, received, absorbed, ticked, stopped, restarted, has_accepted}
 use Rattle.protocol.specs.Worlds.{World, Event, After, first_world, packet_during, left_after, world_found, world_started, run}
 use Rattle.protocol.proofs.Events.{EventCases, step_on, started_each, always, world_counting}
 use Rattle.protocol.proofs.Packets.{OfEach, each_none, each_both, each_member, each_collect, each_reply, each_ticked}
@@ -31,7 +31,7 @@ use Rattle.protocol_laws.specs.Laws.{stamp_asked}
 use Rattle.protocol_laws.proofs.Left.{after_stepped, packet_was_sent, during_was_sent}
 use Rattle.protocol_laws.proofs.Outcomes.{ReordersFits, RecoversFits, RebuildsFits, NextFits, once_full_fits}
 use Rattle.protocol_laws.proofs.Reactions.{IsAfter, StoresBlock, handle_after, after_log, after_order, store_asked}
-use Rattle.protocol.proofs.Served.{request_each, parts_each}
+use Rattle.protocol.proofs.Served.{request_each, parts_each, IsServed, IsCollect}
 use Rattle.protocol.proofs.Tables.{put_each, get_one}
 use Rattle.protocol_laws.proofs.Tops.{view_above}
 
@@ -99,12 +99,25 @@ pub asked_view : (layout : Layout) (node : Node) (call : Call) (request : Reques
 asked_view layout node call request has asks view t is =
     let some = has.views call.group.0 in view_same call.view.0 t (omega (arith, view, some)) (asks t is)
 
--- and not below what the brick has learnt, where it has accepted nothing
+-- a brick that handles a request which asks at a stamp has accepted no list to follow the call's view
+abbrev pub IsFreeFor : Node → Call → Request → Type 0
+IsFreeFor node call request = (t : Stamp) → stamp_asked request ≡ Some t → has_accepted node call.group.0 ≡ false
+
+-- so has one that handles a request at its seat
+pub served_free : (layout : Layout) (me : BrickId) (node : Node) (call : Call) (request : Request) (group : Group) (seat : ℕ)
+    → IsServed layout me node call request group seat → IsFreeFor node call request
+served_free layout me node call request group seat served t asks = ⊎_elim
+    (λ (free : has_accepted node call.group.0 ≡ false). free)
+    (λ (collects : IsCollect request).
+    absurd (let never : None ≡ Some t = ap stamp_asked (sym collects.1) ∙ asks in cc))
+    served.free
+
+-- and what it asks at is not below what the brick has learnt, where it has accepted nothing
 pub asks_above : (layout : Layout) (node : Node) (call : Call) (request : Request) → NodeViews layout node → RequestIsOf call request
-    → call.view.0 ≡ view_at node call.group.0 → node.accepted call.group.0 ≡ false → (t : Stamp) → stamp_asked request ≡ Some t
+    → call.view.0 ≡ view_at node call.group.0 → IsFreeFor node call request → (t : Stamp) → stamp_asked request ≡ Some t
     → stamp_below t (view_floor node call.group.0) ≡ false
 asks_above layout node call request has asks view free t is =
-    view_above node call.group.0 t free (asked_view layout node call request has asks view t is ∙ view)
+    view_above node call.group.0 t (free t is) (asked_view layout node call request has asks view t is ∙ view)
 
 -- a member handles a request
 module _ (setting : Setting) (node : Node) (call : Call) (request : Request) (has : NodeViews setting.layout node)
@@ -271,9 +284,9 @@ invoked_views setting me now node ask has = in_group (group_at setting.layout no
         }
 
 -- a brick stops, and starts again
-closed_views : (layout : Layout) (node : Node) (boot seq known busy : ℕ) → NodeViews layout node
-    → NodeViews layout (record node { boot = boot; seq = seq; known = known; busy = busy; calls = λ k. None })
-closed_views layout node boot seq known busy has = record {
+closed_views : (layout : Layout) (node : Node) (boot seq known round busy : ℕ) → NodeViews layout node
+    → NodeViews layout (record node { boot = boot; seq = seq; known = known; round = round; busy = busy; calls = λ k. None; proposal = None; job = None })
+closed_views layout node boot seq known round busy has = record {
   views = has.views;
   parts = has.parts;
   fresh = has.fresh;
@@ -282,11 +295,11 @@ closed_views layout node boot seq known busy has = record {
 
 stopped_views : (layout : Layout) (node : Node) → NodeViews layout node → NodeViews layout (stopped node)
 unfolding stopped
-stopped_views layout node has = closed_views layout node node.boot node.seq node.known 0 has
+stopped_views layout node has = closed_views layout node node.boot node.seq node.known node.round 0 has
 
 restarted_views : (layout : Layout) (openings : ℕ) (node : Node) → NodeViews layout node → NodeViews layout (restarted openings node)
 unfolding restarted
-restarted_views layout openings node has = closed_views layout node (node.boot + openings) 0 0 0 has
+restarted_views layout openings node has = closed_views layout node (node.boot + openings) 0 0 0 0 has
 
 -- what its store may hold, once a handling was cut short, or none
 left_views : (setting : Setting) (brick : BrickId) (node : Node) (packet : Option Packet) → NodeViews setting.layout node
