@@ -39,7 +39,7 @@ use Rattle.messages.specs.declared.requests.Version.{Version}
 use Rattle.messages.specs.declared.requests.Want.{Want}
 use Rattle.protocol.specs.Calms.{IsCalm, IsReady, early, goes_among, is_one_of}
 use Rattle.protocol.specs.Coordinators.{Coordinator, block_written}
-use Rattle.protocol.specs.Nodes.{first_phase, group_at, has_block, has_length, phase_packets, replica_at, view_at}
+use Rattle.protocol.specs.Nodes.{first_phase, group_at, has_block, has_length, phase_packets, replica_at, view_at, has_accepted}
 use Rattle.protocol.specs.Replicas.{Replica, below, is_held, newest_of, top_of}
 use Rattle.protocol.specs.Settings.{IsSound, Setting, are_bytes}
 use Rattle.protocol.specs.Worlds.{Operation, World}
@@ -307,8 +307,8 @@ module _ (setting : Setting) (sound : IsSound setting) (lengths : EncodesBlocks 
             let inside : nat_lt c.call.stripe.0 c.group.stripes ≡ true
             = ap (λ (z : StripeNo). nat_lt z.0 c.group.stripes) known.call.stripe ∙ lt_so c.ask.stripe.0 c.group.stripes known.call.within in
             ap (λ (b : Bool). b && (nat_eq c.call.view.0 (view_at (w.nodes brick.0) c.call.group.0)
-            && not ((w.nodes brick.0).accepted c.call.group.0))) inside
-            ∙ ap (λ (b : Bool). b && not ((w.nodes brick.0).accepted c.call.group.0)) (eq-eqb c.call.view.0 (view_at (w.nodes brick.0) c.call.group.0) (sym is.view))
+            && not (has_accepted (w.nodes brick.0) c.call.group.0))) inside
+            ∙ ap (λ (b : Bool). b && not (has_accepted (w.nodes brick.0) c.call.group.0)) (eq-eqb c.call.view.0 (view_at (w.nodes brick.0) c.call.group.0) (sym is.view))
             ∙ ap (λ (b : Bool). not b) is.serves;
       }
     where

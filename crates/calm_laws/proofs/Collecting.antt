@@ -36,11 +36,11 @@ pub record Keeps (stage : Stage) (c : Coordinator) (first w : World) (brick : Br
 -- so it does in a later world, by its log there
 keeps_on : (stage : Stage) (c : Coordinator) (first w later : World) (brick : BrickId) (old new : List Version) (more : List Packet)
     → Keeps stage c first w brick old → later.up ≡ w.up → ((i : ℕ) → (later.nodes i).learnt ≡ (w.nodes i).learnt)
-    → ((i : ℕ) → (later.nodes i).accepted ≡ (w.nodes i).accepted) → (replica_at (later.nodes brick.0) c.call).log ≡ new
+    → ((i : ℕ) → (later.nodes i).ballots ≡ (w.nodes i).ballots) → (replica_at (later.nodes brick.0) c.call).log ≡ new
     → later.packets ≡ w.packets ++ more → Keeps stage c first later brick new
-keeps_on stage c first w later brick old new more keeps up learnt accepted log_is packets = record {
+keeps_on stage c first w later brick old new more keeps up learnt ballots log_is packets = record {
   member = serves_on stage w later c c brick (record { group = refl; boot = refl; seq = refl; of_group = refl; view = refl; stripe = refl }) up learnt
-      accepted keeps.member;
+      ballots keeps.member;
   log_is = log_is;
   packets = λ number packet is.
       ap (λ (l : List Packet). packet_of l number) packets ∙ packet_kept w.packets more number packet (keeps.packets number packet is);
@@ -85,14 +85,14 @@ module _ (stage : Stage) (c : Coordinator) (first : World) (me : BrickId) (t : S
       counted = record w { replies = replies_with stage.setting w (collect to phase); reached = put w.reached number true }
 
       by_step : (step : NodeStep) → step.told ≡ [] → step.answers ≡ [] → step.node.learnt ≡ (w.nodes to.0).learnt
-          → step.node.accepted ≡ (w.nodes to.0).accepted → Keeps stage c first (world_stepped stage.setting counted to step) brick log
-      by_step step told answers learnt accepted =
+          → step.node.ballots ≡ (w.nodes to.0).ballots → Keeps stage c first (world_stepped stage.setting counted to step) brick log
+      by_step step told answers learnt ballots =
           let no_tellings : record step { told = []; answers = [] } ≡ step
-          = (λ i. record { node = step.node; packets = step.packets; told = sym told i; answers = sym answers i }) in
+          = (λ i. record { node = step.node; packets = step.packets; told = sym told i; answers = sym answers i; reports = step.reports }) in
           subst (λ (z : NodeStep). Keeps stage c first (world_stepped stage.setting counted to z) brick log) no_tellings
           (keeps_on stage c first w (world_stepped stage.setting counted to (record step { told = []; answers = [] })) brick log log step.packets keeps refl
           (put_field (λ (z : Node). z.learnt) w.nodes to.0 step.node learnt)
-          (put_field (λ (z : Node). z.accepted) w.nodes to.0 step.node accepted)
+          (put_field (λ (z : Node). z.ballots) w.nodes to.0 step.node ballots)
           (ap (λ (z : Node). (replica_at z c.call).log) (put_other w.nodes to.0 step.node brick.0 (λ same. other (sym same))) ∙ keeps.log_is) refl)
 
   -- a Collect to this brick
@@ -110,7 +110,7 @@ module _ (stage : Stage) (c : Coordinator) (first : World) (me : BrickId) (t : S
       (keeps_on stage c first w (world_stepped stage.setting counted brick (reacted brick me (w.nodes brick.0) (call_in phase) change)) brick log
       (not_below t log) (reacted brick me (w.nodes brick.0) (call_in phase) change).packets keeps refl
       (put_field (λ (z : Node). z.learnt) w.nodes brick.0 (with_replica (w.nodes brick.0) (call_in phase) change) refl)
-      (put_field (λ (z : Node). z.accepted) w.nodes brick.0 (with_replica (w.nodes brick.0) (call_in phase) change) refl)
+      (put_field (λ (z : Node). z.ballots) w.nodes brick.0 (with_replica (w.nodes brick.0) (call_in phase) change) refl)
       (ap (λ (z : Node). (replica_at z c.call).log) (put_same w.nodes brick.0 (with_replica (w.nodes brick.0) (call_in phase) change))
       ∙ ap (λ (r : Replica). r.log) (part_put (w.nodes brick.0) (call_in phase) change)
       ∙ collected_log stage.setting.code stage.group.m (full_at stage.setting.layout.records (w.nodes brick.0).live) seat (replica_at (w.nodes brick.0) c.call) t

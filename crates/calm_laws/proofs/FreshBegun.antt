@@ -95,6 +95,7 @@ module _ (setting : Setting) (w : World) (books : Books setting w) (numbered : I
       base = None;
       answered = false;
       mark = w.marked + 1;
+      closed = None;
       view = view_at (w.nodes brick.0) ask.group.0;
       floor = λ j. top_at (w.nodes j) ask.group.0 ask.stripe.0;
     }

@@ -47,7 +47,7 @@ pub record IsHeard (stage : Stage) (w : World) (c : Coordinator) (node : Node) (
   pub call : node.calls c.call.seq ≡ Some d
   pub known_is : node.known ≡ known
   pub learnt : node.learnt ≡ (w.nodes stage.me.0).learnt
-  pub accepted : node.accepted ≡ (w.nodes stage.me.0).accepted
+  pub ballots : node.ballots ≡ (w.nodes stage.me.0).ballots
   pub replicas : node.replicas ≡ (w.nodes stage.me.0).replicas
   pub live : node.live ≡ (w.nodes stage.me.0).live
 
@@ -76,7 +76,7 @@ heard_move stage n w later s node d known number rest sent shows nodes up clocks
       ∙ ap (λ (z : Node). z.calls s.c.call.seq) (put_same w.nodes stage.me.0 node) ∙ heard.call;
   known = ap (λ (f : ℕ → Node). (f stage.me.0).known) nodes ∙ ap (λ (z : Node). z.known) (put_same w.nodes stage.me.0 node) ∙ heard.known_is;
   learnt = λ i. ap (λ (f : ℕ → Node). (f i).learnt) nodes ∙ put_field (λ (z : Node). z.learnt) w.nodes stage.me.0 node heard.learnt i;
-  accepted = λ i. ap (λ (f : ℕ → Node). (f i).accepted) nodes ∙ put_field (λ (z : Node). z.accepted) w.nodes stage.me.0 node heard.accepted i;
+  ballots = λ i. ap (λ (f : ℕ → Node). (f i).ballots) nodes ∙ put_field (λ (z : Node). z.ballots) w.nodes stage.me.0 node heard.ballots i;
   parts = λ brick one. record {
     replica = ap (λ (f : ℕ → Node). replica_at (f brick.0) s.c.call) nodes
         ∙ put_field (λ (z : Node). replica_at z s.c.call) w.nodes stage.me.0 node
@@ -107,7 +107,7 @@ pub record IsClosed (stage : Stage) (w : World) (c : Coordinator) (node : Node) 
   pub boot : node.boot ≡ (w.nodes stage.me.0).boot
   pub call : node.calls c.call.seq ≡ None
   pub learnt : node.learnt ≡ (w.nodes stage.me.0).learnt
-  pub accepted : node.accepted ≡ (w.nodes stage.me.0).accepted
+  pub ballots : node.ballots ≡ (w.nodes stage.me.0).ballots
   pub replicas : node.replicas ≡ (w.nodes stage.me.0).replicas
 
 -- the operation, as the world has it then
@@ -152,7 +152,7 @@ closes_at stage n w later s node seen stored shows nodes up packets closed o end
   members = λ brick one.
       serves_on stage w later s.c s.c brick same_itself up
       (λ i. ap (λ (f : ℕ → Node). (f i).learnt) nodes ∙ put_field (λ (z : Node). z.learnt) w.nodes stage.me.0 node closed.learnt i)
-      (λ i. ap (λ (f : ℕ → Node). (f i).accepted) nodes ∙ put_field (λ (z : Node). z.accepted) w.nodes stage.me.0 node closed.accepted i)
+      (λ i. ap (λ (f : ℕ → Node). (f i).ballots) nodes ∙ put_field (λ (z : Node). z.ballots) w.nodes stage.me.0 node closed.ballots i)
       (shows.members brick one);
   kept = λ brick one.
       ap (λ (f : ℕ → Node). replica_at (f brick.0) s.c.call) nodes
@@ -198,7 +198,7 @@ module _ (stage : Stage) (n : ℕ) (w : World) (s : Scene) (from : BrickId) (cal
       (record s { known = known; queue = rest ++ [] }) packet rest [] shows head
       (heard_move stage n w (world_by stage w (1 + head.place) packet (carried_out stage.setting stage.me me_node known s.c Ignores)) s
       (with_known me_node known) s.c known (1 + head.place) rest [] shows refl refl refl
-      (record { boot = refl; call = shows.call; known_is = refl; learnt = refl; accepted = refl; replicas = refl; live = refl })
+      (record { boot = refl; call = shows.call; known_is = refl; learnt = refl; ballots = refl; replicas = refl; live = refl })
       (record { operation = shows.operation; is = shows.is; brick = refl; boot = refl; seq = refl })
       (record { numbers = refl; reached = refl; packets = refl; own = tt })
       (record { group = refl; boot = refl; seq = refl; of_group = refl; view = refl; stripe = refl })))))
@@ -220,7 +220,7 @@ module _ (stage : Stage) (n : ℕ) (w : World) (s : Scene) (from : BrickId) (cal
         call = put_same me_node.calls s.c.call.seq (Some d);
         known_is = refl;
         learnt = refl;
-        accepted = refl;
+        ballots = refl;
         replicas = refl;
         live = refl;
       })
@@ -243,7 +243,7 @@ module _ (stage : Stage) (n : ℕ) (w : World) (s : Scene) (from : BrickId) (cal
         call = put_same me_node.calls s.c.call.seq (Some d);
         known_is = refl;
         learnt = refl;
-        accepted = refl;
+        ballots = refl;
         replicas = refl;
         live = refl;
       })
@@ -278,7 +278,7 @@ module _ (stage : Stage) (n : ℕ) (w : World) (s : Scene) (from : BrickId) (cal
         call = put_same me_node.calls s.c.call.seq (Some d);
         known_is = refl;
         learnt = refl;
-        accepted = refl;
+        ballots = refl;
         replicas = refl;
         live = refl;
       })
@@ -317,7 +317,7 @@ module _ (stage : Stage) (n : ℕ) (w : World) (s : Scene) (from : BrickId) (cal
 
       node_closed : IsClosed stage w s.c node
       node_closed =
-          record { boot = refl; call = put_same me_node.calls s.c.call.seq None; learnt = refl; accepted = refl; replicas = refl }
+          record { boot = refl; call = put_same me_node.calls s.c.call.seq None; learnt = refl; ballots = refl; replicas = refl }
 
       -- the world after the end
       ended : (number : ℕ) (seen : Option Stamp) → EndsAt stage s.c.phase s.c.stamp s.parts seen stored

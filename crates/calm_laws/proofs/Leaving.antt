@@ -14,7 +14,7 @@ use Rattle.messages.specs.declared.requests.Request.{Request}
 use Rattle.messages.specs.declared.requests.Version.{Version}
 use Rattle.protocol.specs.Calms.{IsCalm}
 use Rattle.protocol.specs.Coordinators.{Coordinator}
-use Rattle.protocol.specs.Nodes.{Node, collect_packets, is_served, replica_at, to_members, view_at}
+use Rattle.protocol.specs.Nodes.{Node, collect_packets, is_served, replica_at, to_members, view_at, has_accepted}
 use Rattle.protocol.specs.Replicas.{Replica, not_below}
 use Rattle.protocol.specs.Settings.{IsSound, Setting}
 use Rattle.protocol.specs.Worlds.{Delivers, Event, Operation, World, first_world, is_up, run}
@@ -86,10 +86,10 @@ shown_log : (layout : Layout) (v : World) (brick : BrickId) (group : Group) (cal
     → call.stripe.0 ≡ s → is_up layout v brick ≡ true → is_served group (v.nodes brick.0) call ≡ true
     → log_in layout v brick g s ≡ Some (replica_at (v.nodes brick.0) call).log
 shown_log layout v brick group call g s group_is of_group of_stripe up served =
-    let within = and_parts (nat_lt call.stripe.0 group.stripes) (nat_eq call.view.0 (view_at node call.group.0) && not (node.accepted call.group.0)) served in
+    let within = and_parts (nat_lt call.stripe.0 group.stripes) (nat_eq call.view.0 (view_at node call.group.0) && not (has_accepted node call.group.0)) served in
     let view : call.view.0 ≡ view_at node call.group.0
     = eqb-true call.view.0 (view_at node call.group.0)
-    (and_parts (nat_eq call.view.0 (view_at node call.group.0)) (not (node.accepted call.group.0)) within.1).0 in
+    (and_parts (nat_eq call.view.0 (view_at node call.group.0)) (not (has_accepted node call.group.0)) within.1).0 in
     let there : is_stripe (group_of layout g) s ≡ true
     = ap (λ (z : Option Group). is_stripe z s) group_is ∙ ap (λ (j : ℕ). nat_lt j group.stripes) (sym of_stripe) ∙ within.0 in
     cond-true (is_stripe (group_of layout g) s && is_up layout v brick) (Some (node.replicas g (view_at node g) s).log) None

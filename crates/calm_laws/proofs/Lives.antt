@@ -18,7 +18,7 @@ use Rattle.messages.specs.declared.replies.Reply.TheVariants.{Later, Stored, Ord
 use Rattle.protocol.specs.Settings.{Code}
 use Rattle.protocol.specs.Replicas.{Replica, Reaction, top_of, is_held, is_wanted, told_version, looked_up, stays, unless_full, promised, stored, below, not_below, drops_start, collected, ignored, handle, modified_block, first_replica, modified_on, newest_of}
 use Rattle.messages.specs.declared.calls.Call.{Call}
-use Rattle.protocol.specs.Nodes.{Node, NodeStep, put, requested, with_replica, replica_at, full_at, seat_served, is_served, fitting_seat, view_at}
+use Rattle.protocol.specs.Nodes.{Node, NodeStep, put, requested, with_replica, replica_at, full_at, seat_served, is_served, fitting_seat, view_at, has_accepted}
 use Rattle.protocol.specs.Worlds.{World, Event, first_world, run}
 use Rattle.fab_base.specs.Layouts.{seat_in}
 use Rattle.protocol.specs.Settings.{Setting}
@@ -397,7 +397,7 @@ request_counts setting me from node call request first counts =
         (λ (z : Option ℕ). z ≡ Some seat → call.stripe.0 < group.stripes)
         (λ served found.
         ltb-true call.stripe.0 group.stripes
-        (and_parts (nat_lt call.stripe.0 group.stripes) (nat_eq call.view.0 (view_at node call.group.0) && not (node.accepted call.group.0)) served).0)
+        (and_parts (nat_lt call.stripe.0 group.stripes) (nat_eq call.view.0 (view_at node call.group.0) && not (has_accepted node call.group.0)) served).0)
         (λ isnt bad. let never : None ≡ Some seat = bad in cc) at
 
 -- all bricks do

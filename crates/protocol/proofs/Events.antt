@@ -11,7 +11,7 @@ use Rattle.protocol.specs.declared.tellings.Told.{Told}
 use Rattle.protocol.specs.declared.tellings.Told.TheVariants.{Made, Seen}
 use Rattle.protocol.specs.declared.tellings.Answered.{Answered}
 use Rattle.protocol.specs.Nodes.{Node, NodeStep, put, invoked, received}
-use Rattle.protocol.specs.Worlds.{World, Found, Before, After, Event, Invokes, Delivers, Sets, Ticks, Stops, Starts, first_world, is_brick, is_up, may_begin, may_start, replies_with, delivered, packet_of, world_began, world_told, world_tells, world_answered, world_answers, world_stepped, world_ticked, world_stopped, world_found, world_started, happens, run}
+use Rattle.protocol.specs.Worlds.{World, Choices, Found, Before, After, Event, Invokes, Delivers, Sets, Ticks, Stops, Starts, first_world, is_brick, is_up, may_begin, may_start, replies_with, delivered, packet_of, world_began, world_told, world_tells, world_answered, world_answers, world_stepped, world_ticked, world_stopped, world_found, world_started, happens, run}
 
 -- a brick's step on a packet
 abbrev pub step_on : Setting → World → Packet → NodeStep
@@ -119,16 +119,16 @@ pub onward : (P : World → Type 0) (setting : Setting) → ((events : List Even
     → (events more : List Event) → P (run setting more (run setting events (first_world setting.layout)))
 onward P setting all events more = subst P (run-append setting (first_world setting.layout) events more) (all (events ++ more))
 
--- A brick's step keeps a fact that is not of bricks, of what they have held or of packets, where what it tells and what it answers do.
+-- A brick's step keeps a fact that is not of bricks, of what they have held, of choices or of packets, where what it tells and what it answers do.
 pub stepped_each : (P : World → Type 0) (setting : Setting) (me : BrickId) (step : NodeStep)
     → (made : (x : World) (seq : ℕ) (t : Stamp) (base : Option Stamp) → P x → P (world_told setting x me (Made seq t base)))
     → (seen : (x : World) (seq : ℕ) (v : Stamp) → P x → P (world_told setting x me (Seen seq v)))
     → (answers : (x : World) (answered : Answered) → P x → P (world_answered x me answered))
-    → (keeps : (x : World) (nodes : ℕ → Node) (held : ℕ → ℕ → ℕ → Stamp → Bool) (packets : List Packet) → P x
-    → P (record x { nodes = nodes; held = held; packets = packets }))
+    → (keeps : (x : World) (nodes : ℕ → Node) (held : ℕ → ℕ → ℕ → Stamp → Bool) (packets : List Packet) (choices : Choices) → P x
+    → P (record x { nodes = nodes; held = held; packets = packets; choices = choices }))
     → (w : World) → P w → P (world_stepped setting w me step)
 stepped_each P setting me step made seen answers keeps w holds =
-    keeps (world_answers (world_tells setting w me step.told) me step.answers) _ _ _ (answer step.answers _ (tell step.told w holds))
+    keeps (world_answers (world_tells setting w me step.told) me step.answers) _ _ _ _ (answer step.answers _ (tell step.told w holds))
   where
     tell : (told : List Told) (x : World) → P x → P (world_tells setting x me told)
     tell [] x now = now

@@ -8,7 +8,7 @@ use Rattle.messages.specs.declared.requests.Request.{Request}
 use Rattle.fab_base.specs.Layouts.{Group, seat_in}
 use Rattle.protocol.specs.Settings.{Setting}
 use Rattle.protocol.specs.Replicas.{Replica, Reaction, handle}
-use Rattle.protocol.specs.Nodes.{Node, NodeStep, view_at, group_at, put, no_step, with_replica, replica_at, full_at, reacted, requested_at, is_served, fits_block, fitting_seat, seat_served, requested_in, requested}
+use Rattle.protocol.specs.Nodes.{Node, NodeStep, view_at, has_accepted, group_at, put, no_step, with_replica, replica_at, full_at, reacted, requested_at, is_served, fits_block, fitting_seat, seat_served, requested_in, requested}
 use Rattle.protocol.proofs.Tables.{put_each}
 
 -- a brick ignores a request, or handles it at its seat
@@ -33,8 +33,8 @@ request_each P setting me from node call request ignored handled = in_group (gro
         (fitting_seat setting.layout.block group.m request (seat_in group.members me.0)) None
         (λ (z : Option ℕ). seat_served setting.layout me node call request group ≡ z → P (requested_at setting group.m me from node call request z))
         (λ served.
-        let view = and_parts (nat_lt call.stripe.0 group.stripes) (nat_eq call.view.0 (view_at node call.group.0) && not (node.accepted call.group.0)) served in
-        let same = and_parts (nat_eq call.view.0 (view_at node call.group.0)) (not (node.accepted call.group.0)) view.1 in
+        let view = and_parts (nat_lt call.stripe.0 group.stripes) (nat_eq call.view.0 (view_at node call.group.0) && not (has_accepted node call.group.0)) served in
+        let same = and_parts (nat_eq call.view.0 (view_at node call.group.0)) (not (has_accepted node call.group.0)) view.1 in
         at_seat group is (eqb-true call.view.0 (view_at node call.group.0) same.0)
         (fitting_seat setting.layout.block group.m request (seat_in group.members me.0))) (λ isnt at. ignored)
         refl
@@ -58,13 +58,13 @@ served_seat setting me node call request group seat at =
 
 -- and the brick has accepted no list to follow the view
 pub served_open : (setting : Setting) (me : BrickId) (node : Node) (call : Call) (request : Request) (group : Group) (seat : ℕ)
-    → seat_served setting.layout me node call request group ≡ Some seat → node.accepted call.group.0 ≡ false
+    → seat_served setting.layout me node call request group ≡ Some seat → has_accepted node call.group.0 ≡ false
 served_open setting me node call request group seat at =
     cond_both (is_served group node call) (fitting_seat setting.layout.block group.m request (seat_in group.members me.0)) None
-    (λ (z : Option ℕ). z ≡ Some seat → node.accepted call.group.0 ≡ false)
+    (λ (z : Option ℕ). z ≡ Some seat → has_accepted node call.group.0 ≡ false)
     (λ served fits.
-    let view = and_parts (nat_lt call.stripe.0 group.stripes) (nat_eq call.view.0 (view_at node call.group.0) && not (node.accepted call.group.0)) served in
-    not-true (node.accepted call.group.0) (and_parts (nat_eq call.view.0 (view_at node call.group.0)) (not (node.accepted call.group.0)) view.1).1)
+    let view = and_parts (nat_lt call.stripe.0 group.stripes) (nat_eq call.view.0 (view_at node call.group.0) && not (has_accepted node call.group.0)) served in
+    not-true (has_accepted node call.group.0) (and_parts (nat_eq call.view.0 (view_at node call.group.0)) (not (has_accepted node call.group.0)) view.1).1)
     (λ isnt none. absurd (let never : None ≡ Some seat = none in cc))
     at
 

@@ -29,11 +29,12 @@ use Rattle.reg_model.specs.Registers.{read_of, after_op}
 use Rattle.protocol.specs.Settings.{Code, Piece}
 use Rattle.protocol.specs.Replicas.{is_changed}
 
--- An open operation at its coordinator: the group, with the members of the operation's view; what is asked; its stamp; how many rounds of
+-- An open operation at its coordinator: the group, with the members of the operation's view; the members of the view before that; what is asked; its stamp; how many rounds of
 -- ordering it has begun; the version that it makes its own on, once it found one; the content that it stores, once it knows that, or what its data
 -- block changes by, while it modifies; the call of its present phase; and the replies that count in it.
 pub record Coordinator : Type 0 where
   pub group : Group
+  pub prior : List BrickId
   pub ask : Ask
   pub stamp : Stamp
   pub round : ℕ

@@ -1,7 +1,8 @@
 -- One brick: the members' parts of stripes that it keeps, and the operations that it coordinates.
-use Rattle.std.specs.Prelude.{ℕ, zero, suc, ◌+◌, ◌-◌, ◌*◌, ◌^◌, Bool, true, false, not, nat_eq, nat_lt, ◌&&◌, ◌||◌, if◌then◌else◌, List, [], ◌∷◌, ◌++◌, length, Option, Some, None, max}
+use Rattle.std.specs.Prelude.{ℕ, zero, suc, ◌+◌, ◌-◌, ◌*◌, ◌^◌, Bool, true, false, not, nat_eq, nat_lt, ◌&&◌, ◌||◌, if◌then◌else◌, List, [], ◌∷◌, ◌++◌, length, Option, Some, None, is_some, max}
 use Rattle.fab_base.specs.declared.identities.BrickId.{BrickId}
 use Rattle.fab_base.specs.declared.identities.ViewNo.{ViewNo}
+use Rattle.fab_base.specs.declared.member_lists.View.{View}
 use Rattle.fab_base.specs.declared.stamps.Stamp.{Stamp}
 use Rattle.fab_base.specs.declared.asks.Ask.{Ask}
 use Rattle.fab_base.specs.declared.asks.Op.{Op}
@@ -15,30 +16,39 @@ use Rattle.messages.specs.declared.replies.Reply.{Reply}
 pub use Rattle.protocol.specs.declared.tellings.Told.{Told}
 pub use Rattle.protocol.specs.declared.tellings.Told.TheVariants.{Made, Seen}
 pub use Rattle.protocol.specs.declared.tellings.Answered.{Answered}
+pub use Rattle.protocol.specs.declared.tellings.Report.{Report}
 pub use Rattle.protocol.specs.Requests.{to_members, resent_to}
+use Rattle.synod_laws.specs.Synods.{Kept, last_of}
+use Rattle.protocol.specs.Proposals.{Proposal}
+use Rattle.protocol.specs.Jobs.{Job}
 use Rattle.fab_base.specs.Layouts.{Layout, Group, group_of, seat_in}
 use Rattle.protocol.specs.Settings.{Setting, are_bytes}
 use Rattle.protocol.specs.Views.{Learnt, first_learnt, group_kept, floor_of}
 use Rattle.protocol.specs.Replicas.{Replica, Reaction, fresh_replica, handle, is_changed, stamp_max, top_of}
-use Rattle.protocol.specs.Coordinators.{Phase, Looks, LooksAt, Orders, OrdersAt, Coordinator, Counted, Next, Ignores, Waits, Sends, Makes, Ends, has_seat, request_of, on_reply}
+use Rattle.protocol.specs.Coordinators.{Phase, Looks, LooksAt, Orders, OrdersAt, Coordinator, Next, Ignores, Waits, Sends, Makes, Ends, request_of, on_reply}
 
 -- a function with one value changed
 abbrev pub put : {A : Type 0} → (ℕ → A) → ℕ → A → ℕ → A
 put f k v i = if nat_eq i k then v else f i
 
--- a brick: how often its store was opened, its last call number, the greatest time that it knows, how many
--- operations it has open, how many live records its store keeps, the view that it has learnt of each group, whether it has accepted a list of
--- members to follow that, its part of each stripe (by group, view and stripe), and its open operations (by call number)
+-- A brick: how often its store was opened, its last call number, the greatest time that it knows, the greatest round of a ballot that it used or heard
+-- of, how many operations it has open, how many live records its store keeps, and how many of these are of each view (by group and view), the view
+-- that it has learnt of each group, what it keeps of ballots for the successor of that, its part of each stripe (by group, view and stripe), its open operations
+-- (by call number), its proposal of a successor, and its synchronisation of a view.
 pub record Node : Type 0 where
   pub boot : ℕ
   pub seq : ℕ
   pub known : ℕ
+  pub round : ℕ
   pub busy : ℕ
   pub live : ℕ
+  pub live_in : ℕ → ℕ → ℕ
   pub learnt : ℕ → Learnt
-  pub accepted : ℕ → Bool
+  pub ballots : ℕ → Kept (List BrickId)
   pub replicas : ℕ → ℕ → ℕ → Replica
   pub calls : ℕ → Option Coordinator
+  pub proposal : Option Proposal
+  pub job : Option Job
 
 -- a brick whose fresh store was just opened
 abbrev pub first_node : Layout → Node
@@ -47,17 +57,25 @@ first_node layout =
       boot = 1;
       seq = 0;
       known = 0;
+      round = 0;
       busy = 0;
       live = 0;
+      live_in = λ group view. 0;
       learnt = first_learnt layout;
-      accepted = λ group. false;
+      ballots = λ group. None;
       replicas = λ group view stripe. fresh_replica layout.block view;
       calls = λ k. None;
+      proposal = None;
+      job = None;
     }
 
 -- the number of the view that a brick has learnt of a group
 abbrev pub view_at : Node → ℕ → ℕ
 view_at node group = (node.learnt group).view.number.0
+
+-- a brick has accepted a list of members to follow the view that it has learnt of a group: the last number of all has no successor
+abbrev pub has_accepted : Node → ℕ → Bool
+has_accepted node group = nat_lt (view_at node group) (2 ^ 32 - 1) && is_some (last_of (node.ballots group))
 
 -- a group, with the members of the view that a brick has learnt of it
 abbrev pub group_at : Layout → Node → ℕ → Option Group
@@ -65,22 +83,24 @@ group_at layout node group = group_kept layout (node.learnt group).view.members 
 
 -- what a brick has learnt of a group's views and accepted puts it above all stamps of the views before
 abbrev pub view_floor : Node → ℕ → Stamp
-view_floor node group = floor_of (if node.accepted group then view_at node group + 1 else view_at node group)
+view_floor node group = floor_of (if has_accepted node group then view_at node group + 1 else view_at node group)
 
 -- the stamp below which a brick takes nothing for a stripe, over all views
 unfoldable pub top_at : Node → ℕ → ℕ → Stamp
 top_at node group stripe = stamp_max (view_floor node group) (top_of (node.replicas group (view_at node group) stripe))
 
--- What a step leaves, the packets that it sends, what it tells of operations' versions, and the answers that it gives, each in order.
+-- What a step leaves, the packets that it sends, what it tells of operations' versions, the answers that it gives, and what it reports of the brick's
+-- proposal and synchronisation, each in order.
 pub record NodeStep : Type 0 where
   pub node : Node
   pub packets : List Packet
   pub told : List Told
   pub answers : List Answered
+  pub reports : List Report
 
--- a step that sends these packets, and tells and answers nothing
+-- a step that sends these packets, and tells, answers and reports nothing
 abbrev pub sending : Node → List Packet → NodeStep
-sending node packets = record { node = node; packets = packets; told = []; answers = [] }
+sending node packets = record { node = node; packets = packets; told = []; answers = []; reports = [] }
 
 abbrev pub no_step : Node → NodeStep
 no_step node = sending node []
@@ -167,24 +187,25 @@ given_content (WriteBlock j bytes) = []
 given_content ReadStripe = []
 given_content (WriteStripe bytes) = bytes
 
--- the coordinator of a new operation, in a view of the group with these members
-abbrev pub coordinator_in : Group → ViewNo → BrickId → ℕ → Node → Ask → Coordinator
+-- the coordinator of a new operation, in a view of the group, which the view's members keep
+abbrev pub coordinator_in : Group → View → BrickId → ℕ → Node → Ask → Coordinator
 coordinator_in group view me now node ask =
     record {
       group = group;
+      prior = view.prior;
       ask = ask;
-      stamp = new_stamp me view now node.boot node.known;
+      stamp = new_stamp me view.number now node.boot node.known;
       round = 1;
       base = None;
       content = given_content ask.op;
-      call = record { boot = node.boot; seq = node.seq + 1; phase = 1; group = ask.group; view = view; stripe = ask.stripe };
+      call = record { boot = node.boot; seq = node.seq + 1; phase = 1; group = ask.group; view = view.number; stripe = ask.stripe };
       phase = first_phase ask.op;
       counted = [];
     }
 
 -- the same, in the view that its brick has learnt
 abbrev pub new_coordinator : Group → BrickId → ℕ → Node → Ask → Coordinator
-new_coordinator group me now node ask = coordinator_in group (node.learnt ask.group.0).view.number me now node ask
+new_coordinator group me now node ask = coordinator_in group (node.learnt ask.group.0).view me now node ask
 
 -- the brick with a new open operation
 abbrev pub opened : Node → Coordinator → Node
@@ -211,11 +232,17 @@ abbrev pub with_part : (ℕ → ℕ → ℕ → Replica) → Call → Replica �
 with_part replicas call replica =
     put replicas call.group.0 (put (replicas call.group.0) call.view.0 (put (replicas call.group.0 call.view.0) call.stripe.0 replica))
 
+-- live records of each view, by group and view, with those of a call's view changed by a reaction
+abbrev pub with_live : (ℕ → ℕ → ℕ) → Call → Reaction → ℕ → ℕ → ℕ
+with_live live_in call reaction =
+    put live_in call.group.0 (put (live_in call.group.0) call.view.0 (live_in call.group.0 call.view.0 + reaction.adds - reaction.drops))
+
 -- the brick with its part of a stripe changed, and its live records counted
 abbrev pub with_replica : Node → Call → Reaction → Node
 with_replica node call reaction =
     record node {
       live = node.live + reaction.adds - reaction.drops;
+      live_in = with_live node.live_in call reaction;
       replicas = with_part node.replicas call reaction.replica;
     }
 
@@ -241,7 +268,7 @@ requested_at setting m me from node call request (Some seat) =
 -- a call is of a stripe that the group has, and of the view that the brick has learnt, while it has accepted none to follow that
 abbrev pub is_served : Group → Node → Call → Bool
 is_served group node call =
-    nat_lt call.stripe.0 group.stripes && (nat_eq call.view.0 (view_at node call.group.0) && not (node.accepted call.group.0))
+    nat_lt call.stripe.0 group.stripes && (nat_eq call.view.0 (view_at node call.group.0) && not (has_accepted node call.group.0))
 
 -- What a request has a seat store is a block: it has the length of one; or it changes one of the m data blocks, by as many bytes, or by none where
 -- the seat's block stays as it is.
@@ -301,6 +328,7 @@ carried_out setting me node known c (Makes d) =
       packets = phase_packets setting me d;
       told = Made c.call.seq d.stamp d.base ∷ [];
       answers = [];
+      reports = [];
     }
 carried_out setting me node known c (Ends answer seen stored) =
     record {
@@ -308,6 +336,7 @@ carried_out setting me node known c (Ends answer seen stored) =
       packets = collect_packets me c stored;
       told = seen_told c.call.seq seen;
       answers = record { seq = c.call.seq; answer = answer } ∷ [];
+      reports = [];
     }
 
 -- a reply to this open operation, if there is one; a new round would have a stamp of its view
@@ -359,14 +388,15 @@ ticked setting me node = resent_up_to setting me node.calls node.seq
 abbrev pub no_calls : ℕ → Option Coordinator
 no_calls k = None
 
--- a brick that stopped: its open operations are gone, and what it keeps of stripes stays
+-- a brick that stopped: its open operations, its proposal and its synchronisation are gone, and what it keeps of stripes stays
 unfoldable pub stopped : Node → Node
-stopped node = record node { busy = 0; calls = no_calls }
+stopped node = record node { busy = 0; calls = no_calls; proposal = None; job = None }
 
 -- a stopped brick whose store was opened so many times since, the last time to run: it has made no call, and
--- knows no time
+-- knows no time and no round
 unfoldable pub restarted : ℕ → Node → Node
-restarted openings node = record node { boot = node.boot + openings; seq = 0; known = 0; busy = 0; calls = no_calls }
+restarted openings node =
+    record node { boot = node.boot + openings; seq = 0; known = 0; round = 0; busy = 0; calls = no_calls; proposal = None; job = None }
 
 -- the store can be opened so many times, at least once: it counts its openings, up to 2^32 - 1
 abbrev pub may_open : ℕ → Node → Bool

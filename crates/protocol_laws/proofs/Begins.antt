@@ -93,6 +93,7 @@ module _ (setting : Setting) (views : Views) (w : World) (stamps : Stamping) (me
         base = None;
         answered = false;
         mark = w.marked + 1;
+        closed = None;
         view = view_at (w.nodes me.0) ask.group.0;
         floor = λ i. top_at (w.nodes i) ask.group.0 ask.stripe.0;
       }

@@ -16,7 +16,7 @@ use Rattle.protocol.specs.Settings.{Setting}
 use Rattle.protocol.specs.declared.phases.Counted.{Counted}
 use Rattle.protocol.specs.Coordinators.{Coordinator}
 use Rattle.protocol.specs.Nodes.{Node, has_length, no_calls, stopped, has_block}
-use Rattle.protocol.specs.Worlds.{World, Operation, own_mark, is_answer, number_of, world_stopped}
+use Rattle.protocol.specs.Worlds.{World, Operation, own_mark, is_answer, number_of, world_stopped, Choices}
 use Rattle.protocol_laws.proofs.Books.{Books, OperationBooks, CallBooks, IsOperation, IsCall}
 use Rattle.protocol_laws.proofs.MarkNumbers.{own_by}
 use Rattle.protocol_laws.proofs.BooksKept.{KeepsNumbers, operation_stays, operation_kept, call_kept, number_at, calls_apart, cases_call, keeps_all}
@@ -56,8 +56,8 @@ pub record Ended (w : World) (i k : ℕ) (c : Coordinator) (before o : Operation
   pub other_operations : (m : ℕ) → m ≢ number_of w i k → operations m ≡ w.operations m
 
 -- the world with these bricks, packets, operations and counted replies, and an End of operation n
-abbrev pub ended_world : World → (ℕ → Node) → (ℕ → ℕ → ℕ → Stamp → Bool) → List Packet → (ℕ → Option Operation) → (ℕ → ℕ → List Counted) → ℕ → Answer → World
-ended_world w nodes held packets operations replies n answer =
+abbrev pub ended_world : World → (ℕ → Node) → (ℕ → ℕ → ℕ → Stamp → Bool) → List Packet → (ℕ → Option Operation) → (ℕ → ℕ → List Counted) → Choices → ℕ → Answer → World
+ended_world w nodes held packets operations replies choices n answer =
     record {
       nodes = nodes;
       after = w.after;
@@ -69,6 +69,7 @@ ended_world w nodes held packets operations replies n answer =
       begun = w.begun;
       operations = operations;
       numbers = w.numbers;
+      choices = choices;
       past = w.past;
       contents = w.contents;
       held = held;
@@ -78,11 +79,11 @@ ended_world w nodes held packets operations replies n answer =
 
 module _ (setting : Setting) (w : World) (i k : ℕ) (c : Coordinator) (before o : Operation) (answer : Answer) (nodes : ℕ → Node) (held : ℕ → ℕ → ℕ → Stamp → Bool)
     (packets : List Packet)
-    (operations : ℕ → Option Operation) (replies : ℕ → ℕ → List Counted) (books : Books setting w)
+    (operations : ℕ → Option Operation) (replies : ℕ → ℕ → List Counted) (choices : Choices) (books : Books setting w)
     (ended : Ended w i k c before o answer nodes operations) where
   -- the world after the end
   abbrev later : World
-  later = ended_world w nodes held packets operations replies (number_of w i k) answer
+  later = ended_world w nodes held packets operations replies choices (number_of w i k) answer
 
   call : CallBooks setting w i k c
   call = books.calls i k c ended.was
@@ -215,12 +216,16 @@ module _ (setting : Setting) (w : World) (brick : BrickId) (during : Option ℕ)
     boot = (w.nodes i).boot;
     seq = (w.nodes i).seq;
     known = (w.nodes i).known;
+    round = (w.nodes i).round;
     busy = 0;
     live = (w.nodes i).live;
+    live_in = (w.nodes i).live_in;
     learnt = (w.nodes i).learnt;
-    accepted = (w.nodes i).accepted;
+    ballots = (w.nodes i).ballots;
     replicas = (w.nodes i).replicas;
     calls = no_calls;
+    proposal = None;
+    job = None;
   }
 
   -- the world once it has stopped
@@ -231,7 +236,7 @@ module _ (setting : Setting) (w : World) (brick : BrickId) (during : Option ℕ)
   pub stopped_keeps : (j : ℕ) → KeepsNumbers (w.nodes j) (shut.nodes j)
   unfolding stopped
   stopped_keeps j = put_each (λ (x : ℕ) (y : Node). KeepsNumbers (w.nodes x) y) w.nodes i node
-      (record { boot = refl; seq = refl; learnt = refl; accepted = refl; parts = λ g e s. inl refl; known = omega arith })
+      (record { boot = refl; seq = refl; learnt = refl; ballots = refl; parts = λ g e s. inl refl; known = omega arith })
       (λ x other. keeps_all (w.nodes x)) j
 
   -- this brick has no call left, and others keep theirs

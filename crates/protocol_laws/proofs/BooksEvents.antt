@@ -24,7 +24,7 @@ use Rattle.protocol.specs.declared.phases.Phase.TheVariants.{Looks, LooksAt, Ord
 use Rattle.protocol.specs.declared.phases.Counted.{Counted}
 use Rattle.protocol.specs.Coordinators.{Coordinator, Next, Ignores, Waits, Sends, Makes, Ends, most_rounds, with_reply, once_full, counted_at, counts_at, on_reply}
 use Rattle.protocol.specs.Nodes.{Node, NodeStep, put, no_step, has_block, has_length, refusal_in, refusal_of, began, invoked, with_replica, replica_at, full_at, reply_packets, requested, absorbed, ticked, may_open, has_later_time, next_time, new_stamp, fresh_stamp, known_after, with_call, with_known, carried_out, phase_packets, collect_packets, sending, replied_at, replied, received, group_at}
-use Rattle.protocol.specs.Worlds.{World, world_found, Operation, Found, Before, After, Found, Before, After, Event, is_answer, first_world, is_brick, is_up, may_begin, number_of, may_start, world_found, world_began, world_stepped, with_made, with_seen, with_answer, with_content, replies_with, run, with_held}
+use Rattle.protocol.specs.Worlds.{World, world_found, Operation, Found, Before, After, Found, Before, After, Event, is_answer, first_world, is_brick, is_up, may_begin, number_of, may_start, world_found, world_began, world_stepped, with_made, with_seen, with_answer, with_content, replies_with, run, with_held, choices_after}
 use Rattle.protocol_laws.specs.Laws.{WasSent}
 use Rattle.protocol.proofs.Served.{request_each}
 use Rattle.protocol_laws.proofs.Left.{IsLeft, Leaves, always_leaves, found_down}
@@ -56,7 +56,7 @@ module _ (setting : Setting) (w : World) where
       → KeepsNumbers (w.nodes brick.0) node → ((l : ℕ) → node.calls l ≡ (w.nodes brick.0).calls l)
       → Books setting (stepped replies brick (sending node packets))
   books_nothing replies brick node packets books keeps calls =
-      books_quiet setting w (put w.nodes brick.0 node) (with_held w.held brick.0 node) w.clocks (w.packets ++ packets) replies w.reached books (keeps_put w brick.0 node keeps)
+      books_quiet setting w (put w.nodes brick.0 node) (with_held w.held brick.0 node) w.clocks (w.packets ++ packets) replies w.reached _ books (keeps_put w brick.0 node keeps)
       (λ j l. put_each (λ (x : ℕ) (y : Node). y.calls l ≡ (w.nodes x).calls l) w.nodes brick.0 node (calls l) (λ x other. refl) j)
 
   -- a brick that changes nothing
@@ -247,6 +247,7 @@ module _ (setting : Setting) (w : World) (replies : Replies) (me : BrickId) (now
   abbrev then' : Coordinator
   then' = record {
     group = c.group;
+    prior = c.prior;
     ask = c.ask;
     stamp = c.stamp;
     round = c.round;
@@ -350,6 +351,7 @@ module _ (setting : Setting) (w : World) (replies : Replies) (me : BrickId) (now
     base = mine.operation.base;
     answered = is_answer answer;
     mark = mine.operation.mark;
+    closed = mine.operation.closed;
     view = mine.operation.view;
     floor = mine.operation.floor;
   }
@@ -358,12 +360,15 @@ module _ (setting : Setting) (w : World) (replies : Replies) (me : BrickId) (now
   books_ends : (answer : Answer) (seen stored : Option Stamp) → EndFits c.phase answer seen → (mark : ℕ) → mark ≡ n → (operations : ℕ → Option Operation)
       → operations n ≡ Some (ended answer seen) → ((m : ℕ) → m ≢ n → operations m ≡ w.operations m)
       → Books setting (ended_world w (put w.nodes i (with_call node known (node.busy - 1) k None))
-      (with_held w.held i (with_call node known (node.busy - 1) k None)) (w.packets ++ collect_packets me c stored) operations replies mark answer)
+      (with_held w.held i (with_call node known (node.busy - 1) k None)) (w.packets ++ collect_packets me c stored) operations replies
+      (choices_after w.choices me (with_call node known (node.busy - 1) k None) []) mark answer)
   books_ends answer seen stored fits mark own operations is_ended others =
       subst (λ (m : ℕ). Books setting (ended_world w (put w.nodes i (with_call node known (node.busy - 1) k None))
-      (with_held w.held i (with_call node known (node.busy - 1) k None)) (w.packets ++ collect_packets me c stored) operations replies m answer)) (sym own)
+      (with_held w.held i (with_call node known (node.busy - 1) k None)) (w.packets ++ collect_packets me c stored) operations replies
+      (choices_after w.choices me (with_call node known (node.busy - 1) k None) []) m answer)) (sym own)
       (books_ended setting w i k c mine.operation (ended answer seen) answer (put w.nodes i (with_call node known (node.busy - 1) k None))
-      (with_held w.held i (with_call node known (node.busy - 1) k None)) (w.packets ++ collect_packets me c stored) operations replies books
+      (with_held w.held i (with_call node known (node.busy - 1) k None)) (w.packets ++ collect_packets me c stored) operations replies
+      (choices_after w.choices me (with_call node known (node.busy - 1) k None) []) books
       (record {
         was = is_call;
         operation_was = mine.operation_is;
@@ -388,7 +393,7 @@ module _ (setting : Setting) (w : World) (replies : Replies) (me : BrickId) (now
   books_carried_out Ignores fits = absurd fits
   books_carried_out (Waits d) fits =
       books_turned setting w i k c d mine.operation mine.operation (put w.nodes i (with_call node known node.busy k (Some d))) (with_held w.held i (with_call node known node.busy k (Some d))) (w.packets ++ [])
-      w.operations w.contents replies books
+      w.operations w.contents replies _ books
       (record {
         was = is_call;
         operation_was = mine.operation_is;
@@ -407,7 +412,7 @@ module _ (setting : Setting) (w : World) (replies : Replies) (me : BrickId) (now
   books_carried_out (Sends d) fits =
       let time : ℕ = max known d.stamp.time in
       books_turned setting w i k c d mine.operation mine.operation (put w.nodes i (with_call node time node.busy k (Some d))) (with_held w.held i (with_call node time node.busy k (Some d)))
-      (w.packets ++ phase_packets setting me d) w.operations w.contents replies books
+      (w.packets ++ phase_packets setting me d) w.operations w.contents replies _ books
       (record {
         was = is_call;
         operation_was = mine.operation_is;
@@ -435,12 +440,13 @@ module _ (setting : Setting) (w : World) (replies : Replies) (me : BrickId) (now
         base = d.base;
         answered = mine.operation.answered;
         mark = mine.operation.mark;
+        closed = mine.operation.closed;
         view = mine.operation.view;
         floor = mine.operation.floor;
       } in
       books_turned setting w i k c d mine.operation o (put w.nodes i (with_call node known node.busy k (Some d))) (with_held w.held i (with_call node known node.busy k (Some d)))
       (w.packets ++ phase_packets setting me d) (put w.operations n (with_made d.stamp d.base (w.operations n)))
-      (with_content setting.layout.block w.contents d.stamp d.base (w.operations n)) replies books
+      (with_content setting.layout.block w.contents d.stamp d.base (w.operations n)) replies _ books
       (record {
         was = is_call;
         operation_was = mine.operation_is;
@@ -521,7 +527,7 @@ module _ (setting : Setting) (w : World) where
   pub books_beside : (replies : Replies) (reached : ℕ → Bool) → Books setting w
       → Books setting (record w { replies = replies; reached = reached })
   books_beside replies reached books =
-      books_quiet setting w w.nodes w.held w.clocks w.packets replies reached books (λ i. keeps_all (w.nodes i)) (λ i k. refl)
+      books_quiet setting w w.nodes w.held w.clocks w.packets replies reached _ books (λ i. keeps_all (w.nodes i)) (λ i k. refl)
 
 -- a message is handled
 books_handled : (setting : Setting) (w : World) (number : ℕ) (packet : Packet) → Books setting w → Books setting (world_handled setting w number packet)
@@ -635,7 +641,7 @@ module _ (setting : Setting) (w : World) where
   books_found brick Before down leaves books = books
   books_found brick After down leaves books =
       let keeps : (i : ℕ) → KeepsCalls (w.nodes i) ((world_found w brick After).nodes i) = found_keeps brick After down leaves in
-      books_quiet setting w (put w.nodes brick.0 (w.after brick.0)) (with_held w.held brick.0 (w.after brick.0)) w.clocks w.packets w.replies w.reached books (λ i. (keeps i).0) (λ i. (keeps i).1)
+      books_quiet setting w (put w.nodes brick.0 (w.after brick.0)) (with_held w.held brick.0 (w.after brick.0)) w.clocks w.packets w.replies w.reached _ books (λ i. (keeps i).0) (λ i. (keeps i).1)
 
   -- a brick may start that is down, and its store is opened at least once
   pub start_fits : (brick : BrickId) (openings : ℕ) → may_start setting.layout w brick openings ≡ true
@@ -653,9 +659,9 @@ module _ (setting : Setting) (w : World) where
     begins = λ brick ask may. books_invoked setting w brick (w.clocks brick.0) ask books may;
     handles = λ number packet at up. books_handled setting w number packet books;
     sets = λ brick time is.
-        books_quiet setting w w.nodes w.held (put w.clocks brick.0 time) w.packets w.replies w.reached books (λ i. keeps_all (w.nodes i)) (λ i k. refl);
+        books_quiet setting w w.nodes w.held (put w.clocks brick.0 time) w.packets w.replies w.reached _ books (λ i. keeps_all (w.nodes i)) (λ i k. refl);
     ticks = λ brick up.
-        books_quiet setting w w.nodes w.held w.clocks (w.packets ++ ticked setting brick (w.nodes brick.0)) w.replies w.reached books
+        books_quiet setting w w.nodes w.held w.clocks (w.packets ++ ticked setting brick (w.nodes brick.0)) w.replies w.reached _ books
         (λ i. keeps_all (w.nodes i)) (λ i k. refl);
     stops = λ brick during up. books_stopped setting w brick during books;
     starts = λ brick openings found may.

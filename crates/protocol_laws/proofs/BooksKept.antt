@@ -132,21 +132,21 @@ pub record KeepsNumbers (node later : Node) : Type 0 where
   pub boot : later.boot ≡ node.boot
   pub seq : later.seq ≡ node.seq
   pub learnt : later.learnt ≡ node.learnt
-  pub accepted : later.accepted ≡ node.accepted
+  pub ballots : later.ballots ≡ node.ballots
   pub parts : (g e s : ℕ) → (later.replicas g e s ≡ node.replicas g e s) ⊎ (e ≡ view_at node g)
   pub known : node.known ≤ later.known
 
 -- so does one that stays as it is, that learns a time, or one of whose calls goes on
 pub keeps_all : (node : Node) → KeepsNumbers node node
-keeps_all node = record { boot = refl; seq = refl; learnt = refl; accepted = refl; parts = λ g e s. inl refl; known = omega arith }
+keeps_all node = record { boot = refl; seq = refl; learnt = refl; ballots = refl; parts = λ g e s. inl refl; known = omega arith }
 
 pub keeps_known : (node : Node) (known : ℕ) → node.known ≤ known → KeepsNumbers node (with_known node known)
-keeps_known node known grows = record { boot = refl; seq = refl; learnt = refl; accepted = refl; parts = λ g e s. inl refl; known = grows }
+keeps_known node known grows = record { boot = refl; seq = refl; learnt = refl; ballots = refl; parts = λ g e s. inl refl; known = grows }
 
 pub keeps_with_call : (node : Node) (known busy seq : ℕ) (call : Option Coordinator) → node.known ≤ known
     → KeepsNumbers node (with_call node known busy seq call)
 keeps_with_call node known busy seq call grows =
-    record { boot = refl; seq = refl; learnt = refl; accepted = refl; parts = λ g e s. inl refl; known = grows }
+    record { boot = refl; seq = refl; learnt = refl; ballots = refl; parts = λ g e s. inl refl; known = grows }
 
 -- a part that changes is of the view that its brick has learnt
 pub keeps_replica : (node : Node) (call : Call) (reaction : Reaction) → call.view.0 ≡ view_at node call.group.0
@@ -155,7 +155,7 @@ keeps_replica node call reaction view = record {
   boot = refl;
   seq = refl;
   learnt = refl;
-  accepted = refl;
+  ballots = refl;
   parts = parts_each (λ g e s r. (r ≡ node.replicas g e s) ⊎ (e ≡ view_at node g)) node call reaction (inr view) (λ g e s. inl refl);
   known = omega arith;
 }

@@ -10,7 +10,7 @@ use Rattle.protocol.specs.Settings.{Setting}
 use Rattle.protocol.specs.declared.phases.Counted.{Counted}
 use Rattle.protocol.specs.Coordinators.{Coordinator, most_rounds}
 use Rattle.protocol.specs.Nodes.{Node}
-use Rattle.protocol.specs.Worlds.{World, Operation, own_mark, number_of}
+use Rattle.protocol.specs.Worlds.{World, Operation, own_mark, number_of, Choices}
 use Rattle.protocol_laws.proofs.Books.{Books, OperationBooks, CallBooks, IsOperation, IsCall, MadeInPhase, InRound}
 use Rattle.protocol_laws.proofs.MarkNumbers.{own_by}
 use Rattle.protocol_laws.proofs.BooksKept.{KeepsNumbers, operation_kept, call_kept, number_at, calls_apart, cases_call}
@@ -53,8 +53,8 @@ pub record Turned (w : World) (i k : ℕ) (c d : Coordinator) (before o : Operat
   pub other_operations : (m : ℕ) → m ≢ number_of w i k → operations m ≡ w.operations m
 
 -- the world with these bricks, packets, operations, contents and counted replies
-abbrev pub turned_world : World → (ℕ → Node) → (ℕ → ℕ → ℕ → Stamp → Bool) → List Packet → (ℕ → Option Operation) → (ℕ → ℕ → Stamp → List ℕ) → (ℕ → ℕ → List Counted) → World
-turned_world w nodes held packets operations contents replies =
+abbrev pub turned_world : World → (ℕ → Node) → (ℕ → ℕ → ℕ → Stamp → Bool) → List Packet → (ℕ → Option Operation) → (ℕ → ℕ → Stamp → List ℕ) → (ℕ → ℕ → List Counted) → Choices → World
+turned_world w nodes held packets operations contents replies choices =
     record {
       nodes = nodes;
       after = w.after;
@@ -66,6 +66,7 @@ turned_world w nodes held packets operations contents replies =
       begun = w.begun;
       operations = operations;
       numbers = w.numbers;
+      choices = choices;
       past = w.past;
       contents = contents;
       held = held;
@@ -74,11 +75,11 @@ turned_world w nodes held packets operations contents replies =
     }
 
 module _ (setting : Setting) (w : World) (i k : ℕ) (c d : Coordinator) (before o : Operation) (nodes : ℕ → Node) (held : ℕ → ℕ → ℕ → Stamp → Bool) (packets : List Packet)
-    (operations : ℕ → Option Operation) (contents : ℕ → ℕ → Stamp → List ℕ) (replies : ℕ → ℕ → List Counted) (books : Books setting w)
+    (operations : ℕ → Option Operation) (contents : ℕ → ℕ → Stamp → List ℕ) (replies : ℕ → ℕ → List Counted) (choices : Choices) (books : Books setting w)
     (turned : Turned w i k c d before o nodes operations) where
   -- the world after the turn
   abbrev later : World
-  later = turned_world w nodes held packets operations contents replies
+  later = turned_world w nodes held packets operations contents replies choices
 
   call : CallBooks setting w i k c
   call = books.calls i k c turned.was

@@ -92,7 +92,7 @@ module _ (setting : Setting) where
       → KeepsParts (w.nodes i) node
   left_keeps w i node rises views = ⊎_elim
       (λ (same : node ≡ w.nodes i).
-      keeps_same (w.nodes i) node (ap (λ (z : Node). z.learnt) same, ap (λ (z : Node). z.accepted) same, ap (λ (z : Node). z.replicas) same))
+      keeps_same (w.nodes i) node (ap (λ (z : Node). z.learnt) same, ap (λ (z : Node). z.ballots) same, ap (λ (z : Node). z.replicas) same))
       (λ (handled : (packet : Packet) × (packet.to ≡ record { 0 = i }) × WasSent w packet
       × (node ≡ absorbed setting (record { 0 = i }) (w.nodes i) packet)).
       subst (λ (z : Node). KeepsParts (w.nodes i) z) (sym handled.3)

@@ -1,22 +1,24 @@
 -- A brick that has learnt view 1 of each group, and no other.
 use Rattle.std.proofs.Common.{◌≡◌, ◌≢◌, ℕ, Bool, false, [], Option, Some, None, refl, ap, ◌∙◌}
-use Rattle.std.specs.Prelude.{if◌then◌else◌}
+use Rattle.std.specs.Prelude.{if◌then◌else◌, List}
 use Rattle.std.specs.Option.{option_map}
 use Rattle.std.proofs.lemmas.Bool.{ne_eqb}
+use Rattle.fab_base.specs.declared.identities.BrickId.{BrickId}
 use Rattle.fab_base.specs.Stamps.{first_stamp}
+use Rattle.synod_laws.specs.Synods.{Kept}
 use Rattle.fab_base.specs.Layouts.{Layout, Group, group_of}
 use Rattle.protocol.specs.Views.{Learnt, first_learnt, members_of, kept_by, group_kept}
 use Rattle.protocol.specs.Replicas.{Replica, first_replica, fresh_replica}
 use Rattle.protocol.specs.Nodes.{Node, view_at, group_at}
 
 -- no list of members was accepted to follow view 1
-abbrev pub none_accepted : ℕ → Bool
-none_accepted g = false
+abbrev pub none_accepted : ℕ → Kept (List BrickId)
+none_accepted g = None
 
 -- a brick that has learnt view 1 of each group, accepted no list to follow it, and keeps nothing in other views
 pub record IsInFirst (layout : Layout) (node : Node) : Type 0 where
   pub learnt : node.learnt ≡ first_learnt layout
-  pub accepted : node.accepted ≡ none_accepted
+  pub ballots : node.ballots ≡ none_accepted
   pub others : (g e s : ℕ) → e ≢ 1 → node.replicas g e s ≡ fresh_replica layout.block e
 
 -- a group is kept by its members

@@ -39,7 +39,7 @@ AreInFirst setting w = (i : ℕ) → NodeInFirst setting.layout (w.nodes i)
 first_kept : (layout : Layout) (node later : Node) → KeepsNumbers node later → IsInFirst layout node → IsInFirst layout later
 first_kept layout node later keeps first = record {
   learnt = keeps.learnt ∙ first.learnt;
-  accepted = keeps.accepted ∙ first.accepted;
+  ballots = keeps.ballots ∙ first.ballots;
   others = λ g e s other. ⊎_elim
       (λ (same : later.replicas g e s ≡ node.replicas g e s). same ∙ first.others g e s other)
       (λ (is : e ≡ view_at node g). absurd (other (is ∙ view_first layout node g first)))
@@ -78,7 +78,7 @@ next_first layout fresh c (Ends answer seen held) fits has = tt
 call_put : (layout : Layout) (node : Node) (known busy seq : ℕ) (call : Option Coordinator) → NodeInFirst layout node
     → ((c : Coordinator) → call ≡ Some c → CallInFirst layout c) → NodeInFirst layout (with_call node known busy seq call)
 call_put layout node known busy seq call has new = record {
-  brick = record { learnt = has.brick.learnt; accepted = has.brick.accepted; others = has.brick.others };
+  brick = record { learnt = has.brick.learnt; ballots = has.brick.ballots; others = has.brick.others };
   calls = put_each (λ k z. (c : Coordinator) → z ≡ Some c → CallInFirst layout c) node.calls seq call new (λ k other. has.calls k);
 }
 
@@ -91,7 +91,7 @@ module _ (setting : Setting) where
   carried_first : (me : BrickId) (node : Node) (known : ℕ) (c : Coordinator) (next : Next) → NodeInFirst setting.layout node
       → NextInFirst setting.layout next → NodeInFirst setting.layout (carried_out setting me node known c next).node
   carried_first me node known c Ignores has is =
-      record { brick = record { learnt = has.brick.learnt; accepted = has.brick.accepted; others = has.brick.others }; calls = has.calls }
+      record { brick = record { learnt = has.brick.learnt; ballots = has.brick.ballots; others = has.brick.others }; calls = has.calls }
   carried_first me node known c (Waits d) has is = call_put setting.layout node _ _ _ (Some d) has (λ e same. some_call setting.layout d e is same)
   carried_first me node known c (Sends d) has is = call_put setting.layout node _ _ _ (Some d) has (λ e same. some_call setting.layout d e is same)
   carried_first me node known c (Makes d) has is = call_put setting.layout node _ _ _ (Some d) has (λ e same. some_call setting.layout d e is same)
@@ -112,7 +112,7 @@ module _ (setting : Setting) where
           (once_full_fits setting.layout.block setting.code fresh (with_reply c seat from reply)) (record { view = is.view; group = is.group })
 
       at_call : (z : Option Coordinator) → node.calls call.seq ≡ z → NodeInFirst setting.layout (replied_at setting me now from node call reply z).node
-      at_call None is = record { brick = record { learnt = has.brick.learnt; accepted = has.brick.accepted; others = has.brick.others }; calls = has.calls }
+      at_call None is = record { brick = record { learnt = has.brick.learnt; ballots = has.brick.ballots; others = has.brick.others }; calls = has.calls }
       at_call (Some c) is =
           carried_first me node (known_after node.known reply) c _ has
           (decides c (fresh_stamp me c.call.view now node.boot (known_after node.known reply)) (has.calls call.seq c is)
@@ -138,7 +138,7 @@ module _ (setting : Setting) where
       in_group (Some group) is =
           let c : Coordinator = new_coordinator group me now node ask in
           record {
-            brick = record { learnt = has.brick.learnt; accepted = has.brick.accepted; others = has.brick.others };
+            brick = record { learnt = has.brick.learnt; ballots = has.brick.ballots; others = has.brick.others };
             calls = put_each (λ k z. (d : Coordinator) → z ≡ Some d → CallInFirst setting.layout d) node.calls (node.seq + 1) (Some c)
                 (λ d same. some_call setting.layout c d (record {
                   view = view_first setting.layout node ask.group.0 has.brick;
@@ -148,10 +148,10 @@ module _ (setting : Setting) where
           }
 
 -- a brick stops, and starts again
-closed_first : (layout : Layout) (node : Node) (boot seq known busy : ℕ) → NodeInFirst layout node
-    → NodeInFirst layout (record node { boot = boot; seq = seq; known = known; busy = busy; calls = λ k. None })
-closed_first layout node boot seq known busy has = record {
-  brick = record { learnt = has.brick.learnt; accepted = has.brick.accepted; others = has.brick.others };
+closed_first : (layout : Layout) (node : Node) (boot seq known round busy : ℕ) → NodeInFirst layout node
+    → NodeInFirst layout (record node { boot = boot; seq = seq; known = known; round = round; busy = busy; calls = λ k. None; proposal = None; job = None })
+closed_first layout node boot seq known round busy has = record {
+  brick = record { learnt = has.brick.learnt; ballots = has.brick.ballots; others = has.brick.others };
   calls = λ k c is. absurd (let never : None ≡ Some c = is in cc);
 }
 
@@ -172,13 +172,13 @@ module _ (setting : Setting) where
         (received_first setting (w.clocks packet.to.0) packet.from packet.to packet.message (w.nodes packet.to.0) (have packet.to.0));
     sets = λ brick time is. have;
     ticks = λ brick up. have;
-    stops = λ brick during up. put_first w brick.0 _ have (closed_first setting.layout (w.nodes brick.0) _ _ _ 0 (have brick.0));
+    stops = λ brick during up. put_first w brick.0 _ have (closed_first setting.layout (w.nodes brick.0) _ _ _ _ 0 (have brick.0));
     starts = λ brick openings found may.
         (let keeps = found_keeps setting w brick found (start_fits setting w brick openings may).0 leaves in
         let there : AreInFirst setting (world_found w brick found)
         = λ i. kept_first setting.layout (w.nodes i) ((world_found w brick found).nodes i) (keeps i) (have i) in
         put_first (world_found w brick found) brick.0 _ there
-        (closed_first setting.layout ((world_found w brick found).nodes brick.0) _ 0 0 0 (there brick.0)));
+        (closed_first setting.layout ((world_found w brick found).nodes brick.0) _ 0 0 0 0 (there brick.0)));
   }
 
   -- so they are in every run
@@ -186,7 +186,7 @@ module _ (setting : Setting) where
   always_in_first =
       always_where (AreInFirst setting) (Leaves setting) setting (always_leaves setting)
       (λ i. record {
-        brick = record { learnt = refl; accepted = refl; others = λ g e s other. refl };
+        brick = record { learnt = refl; ballots = refl; others = λ g e s other. refl };
         calls = λ k c is. absurd (let never : None ≡ Some c = is in cc);
       })
       (first_cases)

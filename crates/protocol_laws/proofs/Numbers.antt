@@ -50,7 +50,7 @@ numbered_cases setting w numbered = record {
   begins = λ brick ask may. numbered_more w.marks (Begin (length w.marks) (w.marked + 1) brick ask) w.marked refl numbered;
   handles = λ number packet at up.
       stepped_each IsNumbered setting packet.to (step_on setting w packet) (λ x seq t base holds. holds) (λ x seq v holds. holds)
-      (λ x one holds. numbered_on x.marks (End (length x.marks) _ one.answer) x.marked refl holds) (λ x nodes held packets holds. holds)
+      (λ x one holds. numbered_on x.marks (End (length x.marks) _ one.answer) x.marked refl holds) (λ x nodes held packets choices holds. holds)
       (world_counting setting w number packet) numbered;
   sets = λ brick time is. numbered;
   ticks = λ brick up. numbered;

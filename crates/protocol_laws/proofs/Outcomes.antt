@@ -192,14 +192,14 @@ NextFits fresh c (Makes d) = MakesFits c d
 NextFits fresh c (Ends answer seen stored) = EndFits c.phase answer seen × AnswerFits fresh c answer
 
 -- a coordinator of these parts
-abbrev at : Group → Ask → Stamp → ℕ → Option Stamp → List ℕ → Call → Phase → List Counted → Coordinator
-at group ask stamp round base content call phase counted =
-    record { group = group; ask = ask; stamp = stamp; round = round; base = base; content = content; call = call; phase = phase; counted = counted }
+abbrev at : Group → List BrickId → Ask → Stamp → ℕ → Option Stamp → List ℕ → Call → Phase → List Counted → Coordinator
+at group prior ask stamp round base content call phase counted =
+    record { group = group; prior = prior; ask = ask; stamp = stamp; round = round; base = base; content = content; call = call; phase = phase; counted = counted }
 
-module _ (group : Group) (ask : Ask) (stamp : Stamp) (round : ℕ) (base : Option Stamp) (content : List ℕ) (call : Call) (counted : List Counted) where
+module _ (group : Group) (prior : List BrickId) (ask : Ask) (stamp : Stamp) (round : ℕ) (base : Option Stamp) (content : List ℕ) (call : Call) (counted : List Counted) where
   -- the coordinator in a phase
   abbrev within : Phase → Coordinator
-  within phase = at group ask stamp round base content call phase counted
+  within phase = at group prior ask stamp round base content call phase counted
 
   waits_fits : (phase : Phase) → WaitsFits (within phase) (within phase)
   waits_fits phase = record {
@@ -429,5 +429,5 @@ module _ (group : Group) (ask : Ask) (stamp : Stamp) (round : ℕ) (base : Optio
 pub once_full_fits : (block : ℕ) (code : Code) (fresh : Option Stamp) (c : Coordinator) → NextFits fresh c (once_full block code fresh c)
 once_full_fits block code fresh c =
     cond_both (nat_lt (length c.counted) (quorum_of c.group)) _ _ (λ (next : Next). NextFits fresh c next)
-    (λ few. waits_fits c.group c.ask c.stamp c.round c.base c.content c.call c.counted c.phase)
-    (λ enough. decided_fits c.group c.ask c.stamp c.round c.base c.content c.call c.counted block code fresh c.phase)
+    (λ few. waits_fits c.group c.prior c.ask c.stamp c.round c.base c.content c.call c.counted c.phase)
+    (λ enough. decided_fits c.group c.prior c.ask c.stamp c.round c.base c.content c.call c.counted block code fresh c.phase)

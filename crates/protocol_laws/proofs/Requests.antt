@@ -21,7 +21,7 @@ use Rattle.protocol.specs.Settings.{Setting, Code}
 use Rattle.protocol.specs.Replicas.{Replica, Reaction, newest_of, top_of, is_held, stamp_max, looked_up, modified_block, is_wanted}
 use Rattle.protocol.specs.declared.phases.Phase.{Phase}
 use Rattle.protocol.specs.declared.phases.Phase.TheVariants.{Orders, Modifies, Stores}
-use Rattle.protocol.specs.Nodes.{Node, put, with_replica, replica_at, full_at, reply_packets, view_at, view_floor, top_at}
+use Rattle.protocol.specs.Nodes.{Node, put, with_replica, replica_at, full_at, reply_packets, view_at, view_floor, top_at, has_accepted}
 use Rattle.protocol.specs.Worlds.{World, Operation}
 use Rattle.protocol_laws.specs.Laws.{WasSent, AskedAt, stamp_asked, stamp_stored, top_in, part_in}
 use Rattle.protocol.proofs.Served.{parts_each}
@@ -42,12 +42,12 @@ use Rattle.protocol.specs.Views.{Views, view_of, group_in}
 -- to, and drops only what is below all that is left.
 pub parts_keep : (layout : Layout) (code : Code) (m seat : ℕ) (node : Node) (call : Call) (request : Request) (reaction : Reaction)
     → LogAscends (replica_at node call).log → IsAfter code m seat (replica_at node call) request reaction.replica
-    → NodeViews layout node → RequestIsOf call request → call.view.0 ≡ view_at node call.group.0 → node.accepted call.group.0 ≡ false
+    → NodeViews layout node → RequestIsOf call request → call.view.0 ≡ view_at node call.group.0 → has_accepted node call.group.0 ≡ false
     → KeepsParts node (with_replica node call reaction)
 parts_keep layout code m seat node call request reaction rises after has asks view free = record {
   views = λ g. omega arith;
   tops = λ g s.
-      top_rises node (with_replica node call reaction).live (with_replica node call reaction).replicas g s
+      top_rises node (with_replica node call reaction).live (with_replica node call reaction).live_in (with_replica node call reaction).replicas g s
       (parts_each (λ h e r x. stamp_below (top_of x) (top_of (node.replicas h e r)) ≡ false) node call reaction
       (after_top code m seat (replica_at node call) request reaction.replica rises after)
       (λ h e r. stamp_below_irrefl (top_of (node.replicas h e r))) g (view_at node g) s);
@@ -94,7 +94,7 @@ within_lower (Some version) d c less within = stamp_not_below_trans d c version.
 module _ (setting : Setting) (views : Views) (w : World) (stamps : Stamping) (me from : BrickId) (call : Call) (request : Request) (books : Books setting w)
     (stamped : StampViews setting.layout w) (group : Group) (seat : ℕ)
     (group_is : group_in setting.layout views call.group.0 call.view.0 ≡ Some group) (seat_is : seat_in group.members me.0 ≡ Some seat)
-    (view : call.view.0 ≡ view_at (w.nodes me.0) call.group.0) (free : (w.nodes me.0).accepted call.group.0 ≡ false)
+    (view : call.view.0 ≡ view_at (w.nodes me.0) call.group.0) (free : has_accepted (w.nodes me.0) call.group.0 ≡ false)
     (said : Said setting views w stamps) (sent : WasSent w (record { from = from; to = me; message = Message.Request call request })) where
   -- the member's part before the request
   abbrev before : Replica

@@ -23,8 +23,8 @@ use Rattle.fab_base.specs.Layouts.{Group, group_of, seat_in, Layout}
 use Rattle.protocol.specs.Settings.{Setting, IsSound}
 use Rattle.protocol.specs.Replicas.{Reaction, first_replica, top_of, handle, is_held, Replica}
 use Rattle.protocol.specs.Coordinators.{Coordinator}
-use Rattle.protocol.specs.Nodes.{Node, NodeStep, put, with_known, with_replica, replica_at, reacted, full_at, reply_packets, absorbed, ticked, stopped, restarted, new_stamp, fresh_stamp, no_step, began, invoked, requested, known_after, replied_at, replied, received, group_at, view_at, seat_served}
-use Rattle.protocol.specs.Worlds.{World, Found, Before, After, Event, replies_with, first_world, zero_content, world_ticked, left_after, packet_during, world_stopped, world_found, world_started, may_begin, world_began, world_stepped, run, with_held, reached_during, number_of}
+use Rattle.protocol.specs.Nodes.{Node, NodeStep, put, with_known, with_replica, replica_at, reacted, full_at, reply_packets, absorbed, ticked, stopped, restarted, new_stamp, fresh_stamp, no_step, began, invoked, requested, known_after, replied_at, replied, received, group_at, view_at, seat_served, has_accepted}
+use Rattle.protocol.specs.Worlds.{World, Found, Before, After, Event, replies_with, first_world, zero_content, world_ticked, left_after, packet_during, world_stopped, world_found, world_started, may_begin, world_began, world_stepped, run, with_held, reached_during, number_of, choices_after}
 use Rattle.protocol_laws.specs.Laws.{WasSent, Follows, RunFollows}
 use Rattle.protocol_laws.proofs.Books.{Books, IsCall}
 use Rattle.protocol_laws.proofs.Left.{IsLeft, Leaves, always_leaves, packet_was_sent}
@@ -79,7 +79,7 @@ module _ (setting : Setting) (views : Views) (w : World) (stamps : Stamping) (me
   seat_is : seat_in group.members me.0 ≡ Some seat
   seat_is = served_seat setting me (w.nodes me.0) call request group seat at
 
-  free : (w.nodes me.0).accepted call.group.0 ≡ false
+  free : has_accepted (w.nodes me.0) call.group.0 ≡ false
   free = served_open setting me (w.nodes me.0) call request group seat at
 
   handled_said : Said setting views (stepped setting w me (reacted me from (w.nodes me.0) call reaction)) stamps
@@ -189,6 +189,7 @@ module _ (setting : Setting) (views : Views) (w : World) (stamps : Stamping) (bo
         nodes = put w.nodes me.0 (w.after me.0);
         held = with_held w.held me.0 (w.after me.0);
         packets = l;
+        choices = choices_after w.choices me (w.after me.0) [];
       }) stamps) (append-nil w.packets)
       (left_said me (w.after me.0) (leaves me.0 down))
 
@@ -209,7 +210,7 @@ module _ (setting : Setting) (views : Views) where
       → Said setting views (world_ticked setting w me) stamps
   ticked_said w stamps me books said =
       let more : List Packet = ticked setting me (w.nodes me.0) in
-      said_added setting views w stamps w.clocks w.replies w.reached (w.packets ++ more) books said
+      said_added setting views w stamps w.clocks w.replies w.reached (w.packets ++ more) w.choices books said
       (λ packet sent. (sent.0, get_kept w.packets more sent.0 packet sent.1))
       (λ packet sent. ⊎_elim
       (λ (old : slice_get w.packets sent.0 ≡ Some packet). (sent.0, old))

@@ -80,7 +80,7 @@ module _ (setting : Setting) (views : Views) (sound : IsSound setting) (w : Worl
   -- the coordinator in its next phase
   abbrev d_in : Phase → Coordinator
   d_in p =
-      record { group = c.group; ask = c.ask; stamp = t; round = round; base = base; content = content; call = next_phase c.call; phase = p; counted = [] }
+      record { group = c.group; prior = c.prior; ask = c.ask; stamp = t; round = round; base = base; content = content; call = next_phase c.call; phase = p; counted = [] }
 
   abbrev d : Coordinator
   d = d_in phase

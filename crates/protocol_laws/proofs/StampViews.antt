@@ -23,7 +23,7 @@ use Rattle.protocol.specs.Replicas.{Replica, Reaction, first_replica, fresh_repl
 use Rattle.protocol.specs.declared.phases.Phase.{Phase}
 use Rattle.protocol.specs.declared.phases.Phase.TheVariants.{Looks, LooksAt, Orders, OrdersAt, Recovers, Descends, Modifies, Bases, Stores}
 use Rattle.protocol.specs.Coordinators.{Coordinator, Next, Ignores, Waits, Sends, Makes, Ends, with_reply, once_full, counted_at, counts_at, on_reply, request_of}
-use Rattle.protocol.specs.Nodes.{Node, NodeStep, view_at, view_floor, put, first_node, no_step, phase_packets, new_coordinator, began, invoked, replica_at, full_at, requested, known_after, with_call, carried_out, has_later_time, new_stamp, fresh_stamp, group_at, replied_at, replied, received, absorbed, ticked, stopped, restarted}
+use Rattle.protocol.specs.Nodes.{Node, NodeStep, view_at, view_floor, put, first_node, no_step, phase_packets, new_coordinator, began, invoked, replica_at, full_at, requested, known_after, with_call, carried_out, has_later_time, new_stamp, fresh_stamp, group_at, replied_at, replied, received, absorbed, ticked, stopped, restarted, has_accepted}
 use Rattle.protocol.specs.Worlds.{World, Event, After, first_world, packet_during, left_after, world_found, world_started, run}
 use Rattle.protocol.proofs.Events.{EventCases, step_on, started_each, always, world_counting}
 use Rattle.protocol.proofs.Packets.{OfEach, each_none, each_both, each_member, each_collect, each_reply, each_ticked}
@@ -101,7 +101,7 @@ asked_view layout node call request has asks view t is =
 
 -- and not below what the brick has learnt, where it has accepted nothing
 pub asks_above : (layout : Layout) (node : Node) (call : Call) (request : Request) → NodeViews layout node → RequestIsOf call request
-    → call.view.0 ≡ view_at node call.group.0 → node.accepted call.group.0 ≡ false → (t : Stamp) → stamp_asked request ≡ Some t
+    → call.view.0 ≡ view_at node call.group.0 → has_accepted node call.group.0 ≡ false → (t : Stamp) → stamp_asked request ≡ Some t
     → stamp_below t (view_floor node call.group.0) ≡ false
 asks_above layout node call request has asks view free t is =
     view_above node call.group.0 t free (asked_view layout node call request has asks view t is ∙ view)
@@ -271,9 +271,9 @@ invoked_views setting me now node ask has = in_group (group_at setting.layout no
         }
 
 -- a brick stops, and starts again
-closed_views : (layout : Layout) (node : Node) (boot seq known busy : ℕ) → NodeViews layout node
-    → NodeViews layout (record node { boot = boot; seq = seq; known = known; busy = busy; calls = λ k. None })
-closed_views layout node boot seq known busy has = record {
+closed_views : (layout : Layout) (node : Node) (boot seq known round busy : ℕ) → NodeViews layout node
+    → NodeViews layout (record node { boot = boot; seq = seq; known = known; round = round; busy = busy; calls = λ k. None; proposal = None; job = None })
+closed_views layout node boot seq known round busy has = record {
   views = has.views;
   parts = has.parts;
   fresh = has.fresh;
@@ -282,11 +282,11 @@ closed_views layout node boot seq known busy has = record {
 
 stopped_views : (layout : Layout) (node : Node) → NodeViews layout node → NodeViews layout (stopped node)
 unfolding stopped
-stopped_views layout node has = closed_views layout node node.boot node.seq node.known 0 has
+stopped_views layout node has = closed_views layout node node.boot node.seq node.known node.round 0 has
 
 restarted_views : (layout : Layout) (openings : ℕ) (node : Node) → NodeViews layout node → NodeViews layout (restarted openings node)
 unfolding restarted
-restarted_views layout openings node has = closed_views layout node (node.boot + openings) 0 0 0 has
+restarted_views layout openings node has = closed_views layout node (node.boot + openings) 0 0 0 0 has
 
 -- what its store may hold, once a handling was cut short, or none
 left_views : (setting : Setting) (brick : BrickId) (node : Node) (packet : Option Packet) → NodeViews setting.layout node

@@ -22,7 +22,7 @@ use Rattle.protocol.specs.Replicas.{Replica, top_of, is_held}
 use Rattle.protocol.specs.declared.phases.Counted.{Counted}
 use Rattle.protocol.specs.Coordinators.{Coordinator, request_of}
 use Rattle.protocol.specs.Nodes.{Node, put, to_members, phase_packets, top_at, view_at}
-use Rattle.protocol.specs.Worlds.{World, Operation, with_held}
+use Rattle.protocol.specs.Worlds.{World, Operation, with_held, choices_after, Choices}
 use Rattle.protocol_laws.specs.Laws.{WasSent, part_in, top_in}
 use Rattle.protocol_laws.proofs.Books.{Books, IsOperation, IsCall}
 use Rattle.protocol_laws.proofs.Logs.{LogAscends, IsKept, held_stands, under_held, nothing_kept}
@@ -303,7 +303,12 @@ calls_by setting views w next stamps later me node nodes boot k c own others i =
 -- the world after a brick's step that is told of no operation
 abbrev pub quiet : World → BrickId → Node → List Packet → World
 quiet w me node more =
-    record w { nodes = put w.nodes me.0 node; held = with_held w.held me.0 node; packets = w.packets ++ more }
+    record w {
+      nodes = put w.nodes me.0 node;
+      held = with_held w.held me.0 node;
+      packets = w.packets ++ more;
+      choices = choices_after w.choices me node [];
+    }
 
 pub quiet_grows : (w : World) (stamps later : Stamping) (me : BrickId) (node : Node) (more : List Packet) → StampsGrow stamps later
     → LogsFit w → KeepsParts (w.nodes me.0) node → Grows w (quiet w me node more) stamps later
@@ -401,12 +406,12 @@ phase_asked setting w me c packets is seat member at =
 
 -- a world that sends again what was sent, and whose clocks and counted replies are other, says what was said
 pub said_added : (setting : Setting) (views : Views) (w : World) (stamps : Stamping) (clocks : ℕ → ℕ) (replies : ℕ → ℕ → List Counted) (reached : ℕ → Bool)
-    (packets : List Packet)
+    (packets : List Packet) (choices : Choices)
     → Books setting w → Said setting views w stamps → ((packet : Packet) → WasSent w packet → WasSent (record w { packets = packets }) packet)
     → ((packet : Packet) → WasSent (record w { packets = packets }) packet → WasSent w packet)
-    → Said setting views (record w { clocks = clocks; packets = packets; replies = replies; reached = reached }) stamps
-said_added setting views w stamps clocks replies reached packets books said kept old =
-    let next : World = record w { clocks = clocks; packets = packets; replies = replies; reached = reached } in
+    → Said setting views (record w { clocks = clocks; packets = packets; replies = replies; reached = reached; choices = choices }) stamps
+said_added setting views w stamps clocks replies reached packets choices books said kept old =
+    let next : World = record w { clocks = clocks; packets = packets; replies = replies; reached = reached; choices = choices } in
     let grows : Grows w next stamps stamps = record {
       parts = parts_same w next refl refl said.logged;
       fresh = new_none w next refl;
@@ -435,7 +440,7 @@ said_added setting views w stamps clocks replies reached packets books said kept
 pub said_beside : (setting : Setting) (views : Views) (w : World) (stamps : Stamping) (clocks : ℕ → ℕ) (replies : ℕ → ℕ → List Counted) (reached : ℕ → Bool)
     → Books setting w → Said setting views w stamps → Said setting views (record w { clocks = clocks; replies = replies; reached = reached }) stamps
 said_beside setting views w stamps clocks replies reached books said =
-    said_added setting views w stamps clocks replies reached w.packets books said (λ packet sent. sent) (λ packet sent. sent)
+    said_added setting views w stamps clocks replies reached w.packets w.choices books said (λ packet sent. sent) (λ packet sent. sent)
 
 -- a brick that has no operation open any more, as it stopped or was started again, changes nothing of what is said, where no operation's
 -- last position comes forward

@@ -20,7 +20,7 @@ use Rattle.protocol.specs.Settings.{Setting, IsSound}
 use Rattle.protocol.specs.Replicas.{handle}
 use Rattle.protocol.specs.Coordinators.{Coordinator, with_reply, once_full, counted_at, counts_at, on_reply}
 use Rattle.protocol.specs.Nodes.{Node, NodeStep, ticked, new_coordinator, put, no_step, fresh_stamp, began_in, began, invoked, with_replica, replica_at, full_at, reply_packets, requested, known_after, with_known, carried_out, sending, replied_at, replied, received}
-use Rattle.protocol.specs.Worlds.{World, Found, Before, After, Event, first_world, may_begin, number_of, world_stopped, world_found, world_started, world_began, counted_after, replies_at, replies_with, run, with_held}
+use Rattle.protocol.specs.Worlds.{World, Found, Before, After, Event, first_world, may_begin, number_of, world_stopped, world_found, world_started, world_began, counted_after, replies_at, replies_with, run, with_held, Choices}
 use Rattle.protocol_laws.specs.Laws.{WasSent, RunFollows}
 use Rattle.protocol.proofs.Served.{request_each}
 use Rattle.protocol_laws.proofs.Books.{Books, IsCall}
@@ -45,15 +45,15 @@ use Rattle.protocol.proofs.Events.{EventCases, world_handled, run_along}
 module _ (setting : Setting) (w : World) (books : Books setting w) (tallied : Tallied w) where
   -- a step that changes no operation
   tallied_quiet : (nodes : ℕ → Node) (held : ℕ → ℕ → ℕ → Stamp → Bool) (clocks : ℕ → ℕ) (packets : List Packet)
-      (reached : ℕ → Bool) → MessagesShow (quiet_world w nodes held clocks packets w.replies reached) → ((i : ℕ) → KeepsNumbers (w.nodes i) (nodes i))
+      (reached : ℕ → Bool) (choices : Choices) → MessagesShow (quiet_world w nodes held clocks packets w.replies reached choices) → ((i : ℕ) → KeepsNumbers (w.nodes i) (nodes i))
       → ((i k : ℕ) → (nodes i).calls k ≡ (w.nodes i).calls k)
-      → ((packet : Packet) → WasSent w packet → WasSent (quiet_world w nodes held clocks packets w.replies reached) packet)
-      → Tallied (quiet_world w nodes held clocks packets w.replies reached)
-  tallied_quiet nodes held clocks packets reached shows keeps calls sent =
-      tallied_on setting w (quiet_world w nodes held clocks packets w.replies reached) books tallied shows
+      → ((packet : Packet) → WasSent w packet → WasSent (quiet_world w nodes held clocks packets w.replies reached choices) packet)
+      → Tallied (quiet_world w nodes held clocks packets w.replies reached choices)
+  tallied_quiet nodes held clocks packets reached choices shows keeps calls sent =
+      tallied_on setting w (quiet_world w nodes held clocks packets w.replies reached choices) books tallied shows
       (record {
         sent = sent;
-        known = known_kept w (quiet_world w nodes held clocks packets w.replies reached) (λ i b. refl) (λ i. (keeps i).boot) (λ i. (keeps i).known);
+        known = known_kept w (quiet_world w nodes held clocks packets w.replies reached choices) (λ i b. refl) (λ i. (keeps i).boot) (λ i. (keeps i).known);
         operations = λ n o is. (o, is, record { brick = refl; boot = refl; seq = refl; ask = refl });
         replies = λ n. inl (λ p. refl);
       })
@@ -65,7 +65,7 @@ module _ (setting : Setting) (w : World) (books : Books setting w) (tallied : Ta
       → MessagesShow (stepped setting w w.replies me (sending node packets)) → KeepsNumbers (w.nodes me.0) node
       → ((l : ℕ) → node.calls l ≡ (w.nodes me.0).calls l) → Tallied (stepped setting w w.replies me (sending node packets))
   tallied_nothing me node packets shows keeps calls =
-      tallied_quiet (put w.nodes me.0 node) (with_held w.held me.0 node) w.clocks (w.packets ++ packets) w.reached shows (keeps_put w me.0 node keeps)
+      tallied_quiet (put w.nodes me.0 node) (with_held w.held me.0 node) w.clocks (w.packets ++ packets) w.reached _ shows (keeps_put w me.0 node keeps)
       (λ j l. put_each (λ (x : ℕ) (y : Node). y.calls l ≡ (w.nodes x).calls l) w.nodes me.0 node (calls l) (λ x other. refl) j)
       (λ packet sent. (sent.0, get_kept w.packets packets sent.0 packet sent.1))
 
@@ -153,7 +153,7 @@ module _ (setting : Setting) (w : World) (books : Books setting w) (tallied : Ta
       let noted : World = record w { reached = reached } in
       let noted_shows : MessagesShow noted = shows_reached w reached shows in
       tallied_received setting noted (books_beside setting w w.replies reached books)
-      (tallied_quiet setting w books tallied w.nodes w.held w.clocks w.packets reached noted_shows (λ i. keeps_all (w.nodes i)) (λ i k. refl)
+      (tallied_quiet setting w books tallied w.nodes w.held w.clocks w.packets reached _ noted_shows (λ i. keeps_all (w.nodes i)) (λ i k. refl)
       (λ other was. was)) (w.clocks packet.to.0) packet.from packet.to packet.message noted_shows sent
 
   -- an operation begins
@@ -286,7 +286,7 @@ tallied_found : (setting : Setting) (w : World) (brick : BrickId) (found : Found
 tallied_found setting w brick Before down leaves books tallied shows = tallied
 tallied_found setting w brick After down leaves books tallied shows =
     let keeps : (i : ℕ) → KeepsCalls (w.nodes i) ((world_found w brick After).nodes i) = found_keeps setting w brick After down leaves in
-    tallied_quiet setting w books tallied (put w.nodes brick.0 (w.after brick.0)) (with_held w.held brick.0 (w.after brick.0)) w.clocks w.packets w.reached
+    tallied_quiet setting w books tallied (put w.nodes brick.0 (w.after brick.0)) (with_held w.held brick.0 (w.after brick.0)) w.clocks w.packets w.reached _
     (shows_found w brick (λ i. (keeps i).1) shows) (λ i. (keeps i).0) (λ i. (keeps i).1) (λ packet sent. sent)
 
 -- a world whose messages show what they should has its history of replies: so does the next
@@ -305,11 +305,11 @@ tallied_cases setting w known there =
       begins = λ brick ask may. tallied_invoked setting w books tallied brick (w.clocks brick.0) ask may;
       handles = λ number packet at up. tallied_handled setting w books tallied number packet shows (packet_was_sent w number packet at);
       sets = λ brick time is shown.
-          tallied_quiet setting w books tallied w.nodes w.held (put w.clocks brick.0 time) w.packets w.reached shown (λ i. keeps_all (w.nodes i))
+          tallied_quiet setting w books tallied w.nodes w.held (put w.clocks brick.0 time) w.packets w.reached _ shown (λ i. keeps_all (w.nodes i))
           (λ i k. refl) (λ packet sent. sent);
       ticks = λ brick up shown.
           (let more : List Packet = ticked setting brick (w.nodes brick.0) in
-          tallied_quiet setting w books tallied w.nodes w.held w.clocks (w.packets ++ more) w.reached shown (λ i. keeps_all (w.nodes i)) (λ i k. refl)
+          tallied_quiet setting w books tallied w.nodes w.held w.clocks (w.packets ++ more) w.reached _ shown (λ i. keeps_all (w.nodes i)) (λ i k. refl)
           (λ packet sent. (sent.0, get_kept w.packets more sent.0 packet sent.1)));
       stops = λ brick during up. tallied_stopped setting w books tallied brick during;
       starts = λ brick openings found may.

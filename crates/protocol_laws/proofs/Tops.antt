@@ -1,27 +1,28 @@
 -- The stamp below which a brick takes nothing for a stripe: the greater of the floor of what it has learnt and accepted, and of its part's top.
-use Rattle.std.proofs.Common.{◌≡◌, ◌⊎◌, inl, inr, ℕ, ◌+◌, ◌≤◌, Bool, true, false, nat_lt, refl, sym, ap, ◌∙◌, subst, arith, ◌<◌}
+use Rattle.std.proofs.Common.{◌≡◌, ◌⊎◌, inl, inr, ℕ, ◌+◌, ◌≤◌, Bool, true, false, nat_lt, List, refl, sym, ap, ◌∙◌, subst, arith, ◌<◌}
 use Rattle.std.specs.Prelude.{if◌then◌else◌}
 use Rattle.std.proofs.lemmas.Bool.{cond_both, false≢true, ltb-false}
 use Rattle.std.proofs.lemmas.Bool.Decides.{nat_tests}
+use Rattle.fab_base.specs.declared.identities.BrickId.{BrickId}
 use Rattle.fab_base.specs.declared.stamps.Stamp.{Stamp}
 use Rattle.fab_base.specs.Stamps.{stamp_below, first_stamp}
 use Rattle.fab_base.proofs.StampOrder.{stamp_below_first, stamp_not_below_trans}
 use Rattle.protocol.specs.Replicas.{Replica, stamp_max, top_of}
 use Rattle.protocol.specs.Views.{Learnt, view_of, floor_of}
-use Rattle.protocol.specs.Nodes.{Node, view_at, view_floor, top_at}
+use Rattle.protocol.specs.Nodes.{Node, view_at, has_accepted, view_floor, top_at}
+use Rattle.synod_laws.specs.Synods.{Kept}
 use Rattle.protocol_laws.proofs.Reactions.{max_left, max_right, max_most}
 
 -- a brick keeps what it has learnt, what it has accepted and its parts
 abbrev pub KeepsPlaces : Node → Node → Type 0
-KeepsPlaces node next = (next.learnt ≡ node.learnt) × (next.accepted ≡ node.accepted) × (next.replicas ≡ node.replicas)
+KeepsPlaces node next = (next.learnt ≡ node.learnt) × (next.ballots ≡ node.ballots) × (next.replicas ≡ node.replicas)
 
 -- so it has come as far as before
 pub top_same : (node next : Node) → KeepsPlaces node next → (g s : ℕ) → top_at next g s ≡ top_at node g s
 unfolding top_at
 top_same node next same g s =
-    ap (λ (l : ℕ → Learnt). stamp_max (floor_of (if next.accepted g then (l g).view.number.0 + 1 else (l g).view.number.0))
-    (top_of (next.replicas g (l g).view.number.0 s))) same.0
-    ∙ ap (λ (a : ℕ → Bool). stamp_max (floor_of (if a g then view_at node g + 1 else view_at node g)) (top_of (next.replicas g (view_at node g) s)))
+    ap (λ (l : ℕ → Learnt). stamp_max (view_floor (record next { learnt = l }) g) (top_of (next.replicas g (l g).view.number.0 s))) same.0
+    ∙ ap (λ (b : ℕ → Kept (List BrickId)). stamp_max (view_floor (record node { ballots = b }) g) (top_of (next.replicas g (view_at node g) s)))
     same.1
     ∙ ap (λ (r : ℕ → ℕ → ℕ → Replica). stamp_max (view_floor node g) (top_of (r g (view_at node g) s))) same.2
 
@@ -60,11 +61,11 @@ unfolding top_at
 top_most node g s t = max_most (view_floor node g) (top_of (node.replicas g (view_at node g) s)) t
 
 -- where its parts rise, it rises
-pub top_rises : (node : Node) (live : ℕ) (replicas : ℕ → ℕ → ℕ → Replica) (g s : ℕ)
+pub top_rises : (node : Node) (live : ℕ) (live_in : ℕ → ℕ → ℕ) (replicas : ℕ → ℕ → ℕ → Replica) (g s : ℕ)
     → stamp_below (top_of (replicas g (view_at node g) s)) (top_of (node.replicas g (view_at node g) s)) ≡ false
-    → stamp_below (top_at (record node { live = live; replicas = replicas }) g s) (top_at node g s) ≡ false
+    → stamp_below (top_at (record node { live = live; live_in = live_in; replicas = replicas }) g s) (top_at node g s) ≡ false
 unfolding top_at
-top_rises node live replicas g s rises =
+top_rises node live live_in replicas g s rises =
     let now : Stamp = top_of (replicas g (view_at node g) s) in
     let was : Stamp = top_of (node.replicas g (view_at node g) s) in
     max_most (view_floor node g) was (stamp_max (view_floor node g) now) (max_left (view_floor node g) now)
@@ -78,7 +79,7 @@ floor_least e t view =
     (λ (z : Stamp). stamp_below t z ≡ false) (λ later. grind (arith, nat_tests)) (λ one. stamp_below_first t)
 
 -- nor is one below what a brick has come to that has learnt the view, and accepted none to follow it
-pub view_above : (node : Node) (g : ℕ) (t : Stamp) → node.accepted g ≡ false → view_of t ≡ view_at node g → stamp_below t (view_floor node g) ≡ false
+pub view_above : (node : Node) (g : ℕ) (t : Stamp) → has_accepted node g ≡ false → view_of t ≡ view_at node g → stamp_below t (view_floor node g) ≡ false
 view_above node g t free view =
     subst (λ (b : Bool). stamp_below t (floor_of (if b then view_at node g + 1 else view_at node g)) ≡ false) (sym free)
     (floor_least (view_at node g) t view)
