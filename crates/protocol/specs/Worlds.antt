@@ -2,6 +2,7 @@
 -- delivered, once, often or never, in any order: that is all that a network may do to it.
 use Rattle.std.specs.Prelude.{ℕ, zero, suc, ◌+◌, Bool, true, false, not, nat_eq, nat_lt, ◌&&◌, ◌||◌, if◌then◌else◌, List, [], ◌∷◌, ◌++◌, length, map, Option, Some, None, is_some, slice_get}
 use Rattle.fab_base.specs.declared.identities.BrickId.{BrickId}
+use Rattle.fab_base.specs.declared.identities.GroupId.{GroupId}
 use Rattle.fab_base.specs.declared.stamps.Stamp.{Stamp}
 use Rattle.fab_base.specs.declared.asks.Ask.{Ask}
 use Rattle.fab_base.specs.declared.asks.Op.{Op}
@@ -22,8 +23,9 @@ use Rattle.protocol.specs.Settings.{Setting}
 use Rattle.protocol.specs.Views.{view_of}
 use Rattle.protocol.specs.Replicas.{fresh_replica, is_held}
 use Rattle.protocol.specs.Coordinators.{Counted, Coordinator, counts_at}
+use Rattle.protocol.specs.Proposals.{Proposal, seat_voting}
 use Rattle.synod_laws.specs.Synods.{last_of, ballot_same}
-use Rattle.protocol.specs.Nodes.{Node, NodeStep, Report, Told, Made, Seen, Answered, view_at, top_at, put, first_node, refusal_of, invoked, received, absorbed, ticked, stopped, restarted, may_open}
+use Rattle.protocol.specs.Nodes.{Node, NodeStep, Report, Told, Made, Seen, Answered, view_at, top_at, put, first_node, refusal_of, proposal_refusal, invoked, proposed, lists_fit, received, absorbed, ticked, stopped, restarted, may_open}
 
 -- Which of two a store is found to hold, when its brick starts: what it held before the handling that the brick's stop cut short, or what that
 -- handling would have kept.
@@ -31,12 +33,13 @@ pub data Found : Type 0 where
   Before : Found
   After : Found
 
--- What happens next: a brick is asked for an operation; the message of a number, counted from 1 in the order of sending, is delivered; a brick's
+-- What happens next: a brick is asked for an operation, or to propose a list of members as the successor of the view that it has learnt of a group; the message of a number, counted from 1 in the order of sending, is delivered; a brick's
 -- clock reads another time from now on, or ticks; a brick stops, during the handling of the message of a number, which was cut short or failed,
 -- or during none; or a stopped brick starts again, its store having been opened so many times since, the last time to run, and found to hold
 -- one of the two. A start that was itself cut short or failed is none: it may have counted an opening, and leaves both possible.
 pub data Event : Type 0 where
   Invokes : (brick : BrickId) → (ask : Ask) → Event
+  Proposes : (brick : BrickId) → (group : GroupId) → (members : List BrickId) → Event
   Delivers : (number : ℕ) → Event
   Sets : (brick : BrickId) → (time : ℕ) → Event
   Ticks : (brick : BrickId) → Event
@@ -138,6 +141,11 @@ is_up layout w brick = is_brick layout brick && w.up brick.0
 abbrev pub may_begin : Setting → World → BrickId → Ask → Bool
 may_begin setting w brick ask =
     is_up setting.layout w brick && not (is_some (refusal_of setting.layout (w.nodes brick.0) ask))
+
+-- the brick begins a proposal that is not refused
+abbrev pub may_propose : Setting → World → BrickId → GroupId → Bool
+may_propose setting w brick group =
+    is_up setting.layout w brick && not (is_some (proposal_refusal setting.layout (w.nodes brick.0) group.0))
 
 -- the numbers of calls, with that of a brick's last call
 abbrev pub with_number : (ℕ → ℕ → ℕ → ℕ) → ℕ → Node → ℕ → ℕ → ℕ → ℕ → ℕ
@@ -307,8 +315,45 @@ abbrev pub replies_with : Setting → World → Packet → ℕ → ℕ → List 
 replies_with setting w packet = replies_of packet.message
   where
     replies_of : Message → ℕ → ℕ → List Counted
-    replies_of (Message.Reply call reply) = replies_at setting w packet.to packet.from call reply ((w.nodes packet.to.0).calls call.seq)
+    replies_of (Message.Reply call reply) = (
+        if lists_fit setting.layout call reply
+        then replies_at setting w packet.to packet.from call reply ((w.nodes packet.to.0).calls call.seq) else w.replies
+        )
     replies_of message = w.replies
+
+-- the replies that have counted in a phase of a proposal, with one more: by brick, boot, call number and phase
+abbrev pub with_voiced : (ℕ → ℕ → ℕ → ℕ → List Counted) → ℕ → Call → Counted → ℕ → ℕ → ℕ → ℕ → List Counted
+with_voiced voices i call counted =
+    put voices i (put (voices i) call.boot (put (voices i call.boot) call.seq
+    (put (voices i call.boot call.seq) call.phase (voices i call.boot call.seq call.phase ++ (counted ∷ [])))))
+
+-- the same, with this reply of a brick to brick i, where it counts at this seat
+abbrev pub voiced_after : (ℕ → ℕ → ℕ → ℕ → List Counted) → ℕ → BrickId → Call → Reply → Option ℕ → ℕ → ℕ → ℕ → ℕ → List Counted
+voiced_after voices i from call reply None = voices
+voiced_after voices i from call reply (Some seat) = with_voiced voices i call (record { seat = seat; brick = from; reply = reply })
+
+-- the same, with a reply to this proposal of brick i, if there is one, unless it is to an open operation
+abbrev pub voices_at : Setting → World → ℕ → BrickId → Call → Reply → Option Coordinator → Option Proposal → ℕ → ℕ → ℕ → ℕ → List Counted
+voices_at setting w i from call reply (Some c) proposal = w.choices.voices
+voices_at setting w i from call reply None None = w.choices.voices
+voices_at setting w i from call reply None (Some p) =
+    voiced_after w.choices.voices i from call reply (seat_voting setting.layout.bricks p from.0 call reply)
+
+-- the replies that have counted in proposals once this packet is delivered
+abbrev pub voices_with : Setting → World → Packet → ℕ → ℕ → ℕ → ℕ → List Counted
+voices_with setting w packet = voices_of packet.message
+  where
+    voices_of : Message → ℕ → ℕ → ℕ → ℕ → List Counted
+    voices_of (Message.Reply call reply) = (
+        if lists_fit setting.layout call reply
+        then voices_at setting w packet.to.0 packet.from call reply ((w.nodes packet.to.0).calls call.seq) (w.nodes packet.to.0).proposal
+        else w.choices.voices
+        )
+    voices_of message = w.choices.voices
+
+-- what is known of choices once this packet is delivered, but for what its brick does
+abbrev pub voiced : Setting → World → Packet → Choices
+voiced setting w packet = record w.choices { voices = voices_with setting w packet }
 
 -- the packet of a number is delivered to a brick of the layout that is up; it counts as delivered also if the brick ignores it
 abbrev pub delivered : Setting → World → ℕ → Option Packet → World
@@ -316,7 +361,7 @@ delivered setting w number None = w
 delivered setting w number (Some packet) =
     if is_up setting.layout w packet.to
     then (let step = received setting packet.to (w.clocks packet.to.0) (w.nodes packet.to.0) packet in
-    world_stepped setting (record w { replies = replies_with setting w packet; reached = put w.reached number true }) packet.to step)
+    world_stepped setting (record w { replies = replies_with setting w packet; choices = voiced setting w packet; reached = put w.reached number true }) packet.to step)
     else w
 
 -- a brick's clock ticks
@@ -387,12 +432,14 @@ may_start layout w brick openings = is_brick layout brick && (not (w.up brick.0)
 abbrev pub known_in : World → ℕ → ℕ → ℕ
 known_in w i boot = if nat_eq boot (w.nodes i).boot then (w.nodes i).known else w.past i boot
 
--- the world after an event; what cannot happen changes nothing: an operation that is refused, a number that
+-- the world after an event; what cannot happen changes nothing: an operation or a proposal that is refused, a number that
 -- was not sent, a brick that the layout has not, a stopped brick that is to stop, handle a message or tick,
 -- and one that is to start though it is up
 unfoldable pub happens : Setting → World → Event → World
 happens setting w (Invokes brick ask) =
     if may_begin setting w brick ask then world_began w brick ask (invoked setting brick (w.clocks brick.0) (w.nodes brick.0) ask) else w
+happens setting w (Proposes brick group members) =
+    if may_propose setting w brick group then world_stepped setting w brick (proposed setting brick (w.nodes brick.0) group members) else w
 happens setting w (Delivers number) = delivered setting w number (packet_of w.packets number)
 happens setting w (Sets brick time) = if is_brick setting.layout brick then record w { clocks = put w.clocks brick.0 time } else w
 happens setting w (Ticks brick) = if is_up setting.layout w brick then world_ticked setting w brick else w

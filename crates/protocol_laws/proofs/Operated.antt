@@ -143,7 +143,7 @@ said_operated setting views w stamps later me node more marks n o p contents boo
       stamps_say = owes.stamps_say;
       tops = λ g e s i. inl (ap (λ (r : Replica). top_of r) (part_same w after me.0 node refl keeps.places.2 g e s i));
       logs = λ g e s i k version is. inl (k, ap (λ (r : Replica). slice_get r.log k) (sym (part_same w after me.0 node refl keeps.places.2 g e s i)) ∙ is);
-      lowest = λ g e s i x log is. inl (log, ap (λ (r : Replica). r.log) (sym (part_same w after me.0 node refl keeps.places.2 g e s i)) ∙ is);
+      lowest = λ g e s i x log within is. inl (log, ap (λ (r : Replica). r.log) (sym (part_same w after me.0 node refl keeps.places.2 g e s i)) ∙ is);
       packets = λ k packet is. ⊎_elim
           (λ (old : slice_get w.packets k ≡ Some packet). inl old)
           (λ (new : (j : ℕ) × (slice_get more j ≡ Some packet)). inr (owes.packets new.0 packet new.1))

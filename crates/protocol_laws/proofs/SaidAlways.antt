@@ -317,7 +317,7 @@ module _ (setting : Setting) (views : Views) where
       ends = λ k p n answer is. cc;
       order = λ a b earlier late u earlier_is late_is groups stripes version. cc;
       first = λ g s. refl;
-      lowest = λ g e s i x log.
+      lowest = λ g e s i x log within.
           cond_both (nat_eq e 1) (first_replica setting.layout.block) _
           (λ (r : Replica). r.log ≡ x ∷ log → IsBottom (first_world setting.layout) g e s i x.stamp ⊎ WasCollected (first_world setting.layout) g s x.stamp)
           (λ one is.

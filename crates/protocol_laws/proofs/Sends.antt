@@ -289,7 +289,7 @@ module _ (setting : Setting) (views : Views) (sound : IsSound setting) (w : Worl
           stamps_other = λ i b k other. stamps_other stamps me.0 boot c.call.seq (c.call.phase + 1) begun i b k (λ brick same. other brick);
           tops = λ g e s. inl refl;
           logs = λ g e s k version at. inl (k, at);
-          lowest = λ g e s x log at. inl (log, at);
+          lowest = λ g e s x log within at. inl (log, at);
           calls = calls;
           packets = packets;
         }),

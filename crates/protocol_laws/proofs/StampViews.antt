@@ -31,7 +31,7 @@ use Rattle.protocol_laws.specs.Laws.{stamp_asked}
 use Rattle.protocol_laws.proofs.Left.{after_stepped, packet_was_sent, during_was_sent}
 use Rattle.protocol_laws.proofs.Outcomes.{ReordersFits, RecoversFits, RebuildsFits, NextFits, once_full_fits}
 use Rattle.protocol_laws.proofs.Reactions.{IsAfter, StoresBlock, handle_after, after_log, after_order, store_asked}
-use Rattle.protocol.proofs.Served.{request_each, parts_each}
+use Rattle.protocol.proofs.Served.{request_each, parts_each, IsServed, IsCollect}
 use Rattle.protocol.proofs.Tables.{put_each, get_one}
 use Rattle.protocol_laws.proofs.Tops.{view_above}
 
@@ -99,12 +99,25 @@ pub asked_view : (layout : Layout) (node : Node) (call : Call) (request : Reques
 asked_view layout node call request has asks view t is =
     let some = has.views call.group.0 in view_same call.view.0 t (omega (arith, view, some)) (asks t is)
 
--- and not below what the brick has learnt, where it has accepted nothing
+-- a brick that handles a request which asks at a stamp has accepted no list to follow the call's view
+abbrev pub IsFreeFor : Node → Call → Request → Type 0
+IsFreeFor node call request = (t : Stamp) → stamp_asked request ≡ Some t → has_accepted node call.group.0 ≡ false
+
+-- so has one that handles a request at its seat
+pub served_free : (layout : Layout) (me : BrickId) (node : Node) (call : Call) (request : Request) (group : Group) (seat : ℕ)
+    → IsServed layout me node call request group seat → IsFreeFor node call request
+served_free layout me node call request group seat served t asks = ⊎_elim
+    (λ (free : has_accepted node call.group.0 ≡ false). free)
+    (λ (collects : IsCollect request).
+    absurd (let never : None ≡ Some t = ap stamp_asked (sym collects.1) ∙ asks in cc))
+    served.free
+
+-- and what it asks at is not below what the brick has learnt, where it has accepted nothing
 pub asks_above : (layout : Layout) (node : Node) (call : Call) (request : Request) → NodeViews layout node → RequestIsOf call request
-    → call.view.0 ≡ view_at node call.group.0 → has_accepted node call.group.0 ≡ false → (t : Stamp) → stamp_asked request ≡ Some t
+    → call.view.0 ≡ view_at node call.group.0 → IsFreeFor node call request → (t : Stamp) → stamp_asked request ≡ Some t
     → stamp_below t (view_floor node call.group.0) ≡ false
 asks_above layout node call request has asks view free t is =
-    view_above node call.group.0 t free (asked_view layout node call request has asks view t is ∙ view)
+    view_above node call.group.0 t (free t is) (asked_view layout node call request has asks view t is ∙ view)
 
 -- a member handles a request
 module _ (setting : Setting) (node : Node) (call : Call) (request : Request) (has : NodeViews setting.layout node)

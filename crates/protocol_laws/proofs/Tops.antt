@@ -1,5 +1,5 @@
 -- The stamp below which a brick takes nothing for a stripe: the greater of the floor of what it has learnt and accepted, and of its part's top.
-use Rattle.std.proofs.Common.{◌≡◌, ◌⊎◌, inl, inr, ℕ, ◌+◌, ◌≤◌, Bool, true, false, nat_lt, List, refl, sym, ap, ◌∙◌, subst, arith, ◌<◌}
+use Rattle.std.proofs.Common.{◌≡◌, ◌⊎◌, inl, inr, ℕ, ◌+◌, ◌-◌, ◌≤◌, Bool, true, false, nat_lt, List, refl, sym, ap, ◌∙◌, subst, arith, ◌<◌}
 use Rattle.std.specs.Prelude.{if◌then◌else◌}
 use Rattle.std.proofs.lemmas.Bool.{cond_both, false≢true, ltb-false}
 use Rattle.std.proofs.lemmas.Bool.Decides.{nat_tests}
@@ -8,7 +8,7 @@ use Rattle.fab_base.specs.declared.stamps.Stamp.{Stamp}
 use Rattle.fab_base.specs.Stamps.{stamp_below, first_stamp}
 use Rattle.fab_base.proofs.StampOrder.{stamp_below_first, stamp_not_below_trans}
 use Rattle.protocol.specs.Replicas.{Replica, stamp_max, top_of}
-use Rattle.protocol.specs.Views.{Learnt, view_of, floor_of}
+use Rattle.protocol.specs.Views.{Learnt, first_kept, view_of, floor_of}
 use Rattle.protocol.specs.Nodes.{Node, view_at, has_accepted, view_floor, top_at}
 use Rattle.synod_laws.specs.Synods.{Kept}
 use Rattle.protocol_laws.proofs.Reactions.{max_left, max_right, max_most}
@@ -108,3 +108,8 @@ pub floor_next : (t : Stamp) → stamp_below t (floor_of (view_of t + 1)) ≡ tr
 floor_next t =
     cond_both (nat_lt 1 (view_of t + 1)) (record { view = record { 0 = view_of t + 1 }; time = 0; brick = record { 0 = 0 }; boot = 0 }) first_stamp
     (λ (z : Stamp). stamp_below t z ≡ true) (λ later. view_less t _ (omega arith)) (λ none. absurd (let most = ltb-false 1 (view_of t + 1) none in omega (arith, most)))
+
+-- a brick keeps the versions of the view that it has learnt
+pub kept_now : (learnt : Learnt) → first_kept learnt ≤ learnt.view.number.0
+kept_now learnt =
+    cond_both learnt.synced learnt.view.number.0 (learnt.view.number.0 - 1) (λ (n : ℕ). n ≤ learnt.view.number.0) (λ is. omega arith) (λ isnt. omega arith)

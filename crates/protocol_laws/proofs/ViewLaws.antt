@@ -138,7 +138,7 @@ module _ (setting : Setting) (views : Views) (w : World) (stamps : Stamping) (sa
 
   -- and so does what they dropped
   pub drops_older : DropsOnlyOlder setting views w
-  drops_older g s i t held = by_log (part_in w g (view_of t) s i).log refl (was_kept w said.logged g (view_of t) s i t refl held)
+  drops_older g s i t within held = by_log (part_in w g (view_of t) s i).log refl (was_kept w said.logged g (view_of t) s i t within refl held)
     where
       by_log : (log : List Version) → (part_in w g (view_of t) s i).log ≡ log → IsKept t (part_in w g (view_of t) s i).log
           → IsKeptOrOlder g s t (part_in w g (view_of t) s i).log
@@ -154,7 +154,7 @@ module _ (setting : Setting) (views : Views) (w : World) (stamps : Stamping) (sa
             less,
             (λ group found. collected_stands g s x.stamp was group found),
           ))
-          (said.lowest g (view_of t) s i x rest is)
+          (said.lowest g (view_of t) s i x rest within is)
 
   -- an operation's base is the one that it read back
   pub bases_newest : BasesAreNewest setting views w

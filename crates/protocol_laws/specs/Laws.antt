@@ -25,11 +25,11 @@ use Rattle.reg_model.specs.Walk.{last_of}
 use Rattle.fab_base.specs.Layouts.{Layout, Group, group_of, seat_in, brick_at}
 use Rattle.quorum.specs.Quorums.{quorum_of, IsWithinLimits}
 use Rattle.protocol.specs.Settings.{Setting, IsSound}
-use Rattle.protocol.specs.Views.{Views, layout_views, views_in, view_of, floor_of, group_in}
+use Rattle.protocol.specs.Views.{Views, layout_views, views_in, first_kept, view_of, floor_of, group_in}
 use Rattle.protocol.specs.Replicas.{Replica, is_held, is_wanted}
 use Rattle.protocol.specs.declared.phases.Counted.{Counted}
 use Rattle.protocol.specs.declared.phases.Phase.TheVariants.{Bases}
-use Rattle.protocol.specs.Coordinators.{Coordinator, most_rounds, greatest_refuser, lowest_full, told_in, counts_at, with_reply, pieces_at, delta_at}
+use Rattle.protocol.specs.Coordinators.{Coordinator, most_rounds, greatest_refuser, lowest_full, lowest_mover, told_in, counts_at, with_reply, pieces_at, delta_at}
 use Rattle.protocol.specs.Nodes.{view_at, top_at, has_later_time}
 use Rattle.protocol.specs.Worlds.{World, Event, Operation, content_on, first_world, mark_of, known_in, happens, run}
 use Rattle.protocol.specs.Happenings.{is_of, effect_in, happenings_of}
@@ -46,6 +46,10 @@ part_in w group view stripe brick = (w.nodes brick).replicas group view stripe
 -- the stamp below which a brick takes nothing for a stripe
 abbrev pub top_in : World → ℕ → ℕ → ℕ → Stamp
 top_in w group stripe brick = top_at (w.nodes brick) group stripe
+
+-- the first view of a group whose versions a brick keeps
+abbrev pub first_kept_in : World → ℕ → ℕ → ℕ
+first_kept_in w group brick = first_kept ((w.nodes brick).learnt group)
 
 -- a test holds at a quorum of the group's seats
 abbrev pub AtQuorum : Group → (ℕ → Bool) → Type 0
@@ -198,10 +202,10 @@ CollectsStand setting views w =
     (call : Call) (from to : BrickId) (version : Stamp) (group : Group) → group_in setting.layout views call.group.0 (view_of version) ≡ Some group
     → RequestSent w call from to (Request.Collect version) → IsHeldByQuorum w call.group.0 call.stripe.0 group version
 
--- A version that a member has held it keeps, or it keeps a later one that a quorum of that one's view has held.
+-- A version that a member has held, of a view whose versions it keeps, it keeps, or it keeps a later one that a quorum of that one's view has held.
 abbrev pub DropsOnlyOlder : Setting → Views → World → Type 0
 DropsOnlyOlder setting views w =
-    (number stripe brick : ℕ) (version : Stamp) → w.held brick number stripe version ≡ true
+    (number stripe brick : ℕ) (version : Stamp) → first_kept_in w number brick ≤ view_of version → w.held brick number stripe version ≡ true
     → (is_held version (part_in w number (view_of version) stripe brick).log ≡ true)
     ⊎ ((later : Stamp) × (is_held later (part_in w number (view_of version) stripe brick).log ≡ true) × (stamp_below version later ≡ true)
     × ((group : Group) → group_in setting.layout views number (view_of later) ≡ Some group → IsHeldByQuorum w number stripe group later))
@@ -210,15 +214,15 @@ DropsOnlyOlder setting views w =
 abbrev pub NeverFalls : World → World → Type 0
 NeverFalls old new = (group stripe brick : ℕ) → stamp_below (top_in new group stripe brick) (top_in old group stripe brick) ≡ false
 
--- no brick adds a version to a log below the stamp below which it takes nothing
+-- no brick adds a version to a log of a view whose versions it keeps, below the stamp below which it takes nothing
 abbrev pub AddsNothingBelow : World → World → Type 0
 AddsNothingBelow old new =
-    (group view stripe brick : ℕ) (version : Stamp) → is_held version (part_in new group view stripe brick).log ≡ true
+    (group view stripe brick : ℕ) (version : Stamp) → first_kept_in new group brick ≤ view → is_held version (part_in new group view stripe brick).log ≡ true
     → (is_held version (part_in old group view stripe brick).log ≡ true) ⊎ (stamp_below version (top_in old group stripe brick) ≡ false)
 
--- no order stamp is replaced by one of an earlier time
+-- no order stamp of a view whose versions a brick keeps is replaced by one of an earlier time
 abbrev pub OrdersRise : World → World → Type 0
-OrdersRise old new = (group view stripe brick : ℕ) → (part_in old group view stripe brick).order.time ≤ (part_in new group view stripe brick).order.time
+OrdersRise old new = (group view stripe brick : ℕ) → first_kept_in new group brick ≤ view → (part_in old group view stripe brick).order.time ≤ (part_in new group view stripe brick).order.time
 
 -- a member says that it stored a version only where it was asked to, and has held it
 abbrev pub StoredIsHeld : World → Type 0
@@ -358,6 +362,7 @@ BasesAreFound setting w =
     → counts_at setting.layout.block c from.0 c.call reply ≡ Some seat
     → quorum_of c.group ≤ length (with_reply c seat from reply).counted
     → (is_some (greatest_refuser (with_reply c seat from reply).counted) ≡ false) → (is_some (lowest_full (with_reply c seat from reply).counted) ≡ false)
+    → (is_some (lowest_mover (with_reply c seat from reply).counted) ≡ false)
     → c.group.m ≤ length (pieces_at base (with_reply c seat from reply).counted)
 
 -- The laws of a world, for an assignment of members to views.
