@@ -38,7 +38,7 @@ kept_of setting me node packet = kept_as packet.message
     kept_as message = node
 
 -- what is kept of a message whose handling was cut short is that, or nothing
-absorbed_kept : (setting : Setting) (me from to : BrickId) (node : Node) (message : Message)
+pub absorbed_kept : (setting : Setting) (me from to : BrickId) (node : Node) (message : Message)
     → (let packet : Packet = record { from = from; to = to; message = message } in
     (absorbed setting me node packet ≡ node) ⊎ (absorbed setting me node packet ≡ kept_of setting me node packet))
 unfolding absorbed kept_of

@@ -46,6 +46,7 @@ pub mod Tallies
 pub mod TalliesCounts
 pub mod TalliesEvents
 pub mod TalliesKept
+pub mod Teaching
 pub mod Tops
 pub mod ViewLaws
 pub mod Walks

@@ -1,6 +1,6 @@
 -- The stamps of a part, of a call and of a request are of its own view, and what a brick keeps of views that it has not learnt is fresh: so it is in every
 -- run, whatever members the views have.
-use Rattle.std.proofs.Common.{◌≡◌, ℕ, ◌+◌, ◌≤◌, ◌<◌, ◌⊎◌, inl, inr, ⊎_elim, false, nat_eq, List, Option, Some, None, refl, sym, ap, ◌∙◌, subst, arith}
+use Rattle.std.proofs.Common.{◌≡◌, ℕ, ◌+◌, ◌≤◌, ◌<◌, ◌⊎◌, inl, inr, ⊎_elim, true, false, ◌-◌, nat_eq, List, [], Option, ltb-true, Some, None, refl, sym, ap, ◌∙◌, subst, arith}
 use Rattle.std.specs.Prelude.{slice_get}
 use Rattle.std.proofs.lemmas.Bool.{cond_both}
 use Rattle.std.proofs.lemmas.Bool.Decides.{nat_tests}
@@ -10,7 +10,7 @@ use Rattle.fab_base.specs.declared.identities.ViewNo.{ViewNo}
 use Rattle.fab_base.specs.declared.asks.Ask.{Ask}
 use Rattle.fab_base.specs.declared.stamps.Stamp.{Stamp}
 use Rattle.fab_base.specs.Stamps.{stamp_below, first_stamp}
-use Rattle.fab_base.specs.Layouts.{Layout, Group}
+use Rattle.fab_base.specs.Layouts.{Layout, Group, group_of}
 use Rattle.messages.specs.declared.calls.Call.{Call}
 use Rattle.messages.specs.declared.packets.Message.{Message}
 use Rattle.messages.specs.declared.packets.Packet.{Packet}
@@ -18,17 +18,26 @@ use Rattle.messages.specs.declared.replies.Reply.{Reply}
 use Rattle.messages.specs.declared.requests.Request.{Request}
 use Rattle.messages.specs.declared.requests.Version.{Version}
 use Rattle.protocol.specs.Settings.{Setting, Code}
-use Rattle.protocol.specs.Views.{view_of}
+use Rattle.protocol.specs.Views.{Learnt, view_of, is_later, view_told}
+use Rattle.protocol.specs.Ballots.{Voted}
+use Rattle.protocol.specs.Proposals.{Proposal, Voting, Ignored, Waited, Asks, Ended, ballot_request, ballot_packets, voted}
+use Rattle.protocol.specs.declared.tellings.ViewAnswer.{ViewAnswer}
+use Rattle.protocol.specs.declared.tellings.ViewAnswer.TheVariants as answers
+use Rattle.protocol.specs.declared.tellings.Report.TheVariants as Report
+use Rattle.quorum.specs.Memberships.{is_membership}
+use Rattle.fab_base.specs.declared.identities.GroupId.{GroupId}
+use Rattle.fab_base.specs.declared.member_lists.View.{View}
 use Rattle.protocol.specs.Replicas.{Replica, Reaction, first_replica, fresh_replica, handle, top_of}
 use Rattle.protocol.specs.declared.phases.Phase.{Phase}
 use Rattle.protocol.specs.declared.phases.Phase.TheVariants.{Looks, LooksAt, Orders, OrdersAt, Recovers, Descends, Modifies, Bases, Stores}
 use Rattle.protocol.specs.Coordinators.{Coordinator, Next, Ignores, Waits, Sends, Makes, Ends, with_reply, once_full, counted_at, counts_at, on_reply, request_of}
-use Rattle.protocol.specs.Nodes.{Node, NodeStep, view_at, view_floor, put, first_node, no_step, phase_packets, new_coordinator, began, invoked, replica_at, full_at, requested, known_after, with_call, carried_out, has_later_time, new_stamp, fresh_stamp, group_at, replied_at, replied, received, absorbed, ticked, stopped, restarted, has_accepted}
+use Rattle.protocol.specs.Nodes.{Node, NodeStep, view_at, view_floor, put, first_node, no_step, phase_packets, new_coordinator, began, invoked, replica_at, full_at, requested, known_after, with_call, carried_out, has_later_time, new_stamp, fresh_stamp, group_at, replied_at, heard, received, absorbed, vote_at, with_learnt, node_taught_by, node_learnt, lists_fit, view_counted, with_known, with_round, replied_ballot, carried_ballot, ended_packets, decided_view, new_proposal, proposing, reporting, sending, proposed_in, proposed, ballot_resent, ticked, stopped, restarted, has_accepted}
 use Rattle.protocol.specs.Worlds.{World, Event, After, first_world, packet_during, left_after, world_found, world_started, run}
 use Rattle.protocol.proofs.Events.{EventCases, step_on, started_each, always, world_counting}
-use Rattle.protocol.proofs.Packets.{OfEach, each_none, each_both, each_member, each_collect, each_reply, each_ticked}
+use Rattle.protocol.proofs.Packets.{OfEach, each_none, each_both, each_member, each_collect, each_reply, each_ticked, each_learn, each_ballot, each_ballot_resent}
 use Rattle.protocol_laws.specs.Laws.{stamp_asked}
-use Rattle.protocol_laws.proofs.Left.{after_stepped, packet_was_sent, during_was_sent}
+use Rattle.protocol_laws.proofs.Left.{after_stepped, packet_was_sent, during_was_sent, kept_of, absorbed_kept}
+use Rattle.protocol_laws.proofs.Teaching.{newly_learnt, told_each, learnt_each, dropped_each, heard_each}
 use Rattle.protocol_laws.proofs.Outcomes.{ReordersFits, RecoversFits, RebuildsFits, NextFits, once_full_fits}
 use Rattle.protocol_laws.proofs.Reactions.{IsAfter, StoresBlock, handle_after, after_log, after_order, store_asked}
 use Rattle.protocol.proofs.Served.{request_each, parts_each, IsServed, IsCollect}
@@ -55,10 +64,9 @@ pub record NodeViews (layout : Layout) (node : Node) : Type 0 where
 abbrev pub RequestIsOf : Call → Request → Type 0
 RequestIsOf call request = (t : Stamp) → stamp_asked request ≡ Some t → t.view.0 ≡ call.view.0
 
--- so does one that is sent, and none teaches a view
+-- so does one that is sent
 abbrev pub MessageIsOf : Message → Type 0
 MessageIsOf (Message.Request call request) = RequestIsOf call request
-MessageIsOf (Message.Learn group view) = ⊥
 MessageIsOf message = Unit {0}
 
 abbrev pub PacketIsOf : Packet → Type 0
@@ -136,6 +144,17 @@ module _ (setting : Setting) (node : Node) (call : Call) (request : Request) (ha
         (after_log setting.code m seat part request next k version after at);
   }
 
+-- a fresh part is of its view
+fresh_part : (block e : ℕ) → PartIsOf e (fresh_replica block e)
+fresh_part block e =
+    cond_both (nat_eq e 1) (first_replica block) _ (λ (r : Replica). PartIsOf e r)
+    (λ one. record {
+      order = inl refl;
+      log = λ k version at.
+          ap (λ (v : Version). view_of v.stamp) (sym (get_one _ version k at)) ∙ (let is : 1 ≡ e = grind (arith, nat_tests) in is);
+    })
+    (λ other. record { order = inl refl; log = λ k version at. absurd (let never : None ≡ Some version = at in cc) })
+
 -- a step keeps a brick's views, and sends packets of theirs
 pub record StepViews (layout : Layout) (step : NodeStep) : Type 0 where
   pub node : NodeViews layout step.node
@@ -148,23 +167,68 @@ requested_views : (setting : Setting) (me from : BrickId) (node : Node) (call : 
     → RequestIsOf call request → StepViews setting.layout (requested setting me from node call request)
 requested_views setting me from node call request has asks =
     request_each (λ (step : NodeStep). StepViews setting.layout step) setting me from node call request (quiet_views setting.layout node has)
-    (λ group seat here at view.
+    (λ moved is. record { node = has; packets = each_reply PacketIsOf me from call (Some moved) (λ r is. tt) })
+    (λ group seat here served.
     let full : Option ℕ = full_at setting.layout.records node.live in
     let reaction : Reaction = handle setting.code group.m full seat (replica_at node call) request in
     record {
       node = record {
         views = has.views;
         parts = parts_each (λ g e s r. PartIsOf e r) node call reaction
-            (part_after setting node call request has asks group.m seat (replica_at node call) reaction.replica view
+            (part_after setting node call request has asks group.m seat (replica_at node call) reaction.replica served.view
             (has.parts call.group.0 call.view.0 call.stripe.0) (handle_after setting.code group.m seat full (replica_at node call) request))
             has.parts;
         fresh = λ g e s later.
             parts_each (λ h v r x. view_at node h < v → x ≡ fresh_replica setting.layout.block v) node call reaction
-            (λ above. absurd (omega (arith, view, above))) (λ h v r above. has.fresh h v r above) g e s later;
+            (λ above. (let view = served.view in absurd (omega (arith, view, above)))) (λ h v r above. has.fresh h v r above) g e s later;
         calls = has.calls;
       };
       packets = each_reply PacketIsOf me from call reaction.reply (λ r is. tt);
     })
+    (λ group ballot asked here.
+    let vote : Voted = vote_at node call ballot asked in
+    record {
+      node = record { views = has.views; parts = has.parts; fresh = has.fresh; calls = has.calls };
+      packets = each_reply PacketIsOf me from call (Some vote.reply) (λ r is. tt);
+    })
+
+-- a brick that is taught a later view keeps each stamp in its view: what it forgets is fresh
+learnt_views : (layout : Layout) (g : ℕ) (node : Node) (view : View) → is_later (node.learnt g) view ≡ true → NodeViews layout node
+    → NodeViews layout (with_learnt layout.block g node (newly_learnt view))
+learnt_views layout g node view later has =
+    let next : Node = with_learnt layout.block g node (newly_learnt view) in
+    let above : view_at node g < view.number.0 = ltb-true (view_at node g) view.number.0 later in
+    let least : 1 ≤ view_at node g = has.views g in
+    record {
+      views = put_each (λ h (l : Learnt). 1 ≤ l.view.number.0) node.learnt g (newly_learnt view) (omega (arith, above, least)) (λ h other. has.views h);
+      parts = dropped_each (λ h e s r. PartIsOf e r) layout.block g (view.number.0 - 1) node has.parts (λ e s before. fresh_part layout.block e);
+      fresh = dropped_each (λ h e s r. view_at next h < e → r ≡ fresh_replica layout.block e) layout.block g (view.number.0 - 1) node
+          (λ h e s. put_each (λ i (l : Learnt). l.view.number.0 < e → node.replicas i e s ≡ fresh_replica layout.block e) node.learnt g (newly_learnt view)
+          (λ less. has.fresh g e s (omega (arith, above, less))) (λ i other less. has.fresh i e s less) h)
+          (λ e s before less. refl);
+      calls = has.calls;
+    }
+
+taught_views : (layout : Layout) (g : ℕ) (node : Node) (view : Option View) → NodeViews layout node
+    → NodeViews layout (node_taught_by layout.block g node view)
+taught_views layout g node view has =
+    told_each (λ (n : Node). NodeViews layout n) layout.block g node view has (λ v later. learnt_views layout g node v later has)
+
+-- a brick whose proposal, call number, known time or known round is another
+pub beside_views : (layout : Layout) (node : Node) (seq known round : ℕ) (proposal : Option Proposal) → NodeViews layout node
+    → NodeViews layout (record node { seq = seq; known = known; round = round; proposal = proposal })
+beside_views layout node seq known round proposal has = record { views = has.views; parts = has.parts; fresh = has.fresh; calls = has.calls }
+
+-- a request of a proposal asks at no stamp
+pub ballot_asks : (call : Call) (p : Proposal) → RequestIsOf call (ballot_request p)
+ballot_asks call p = of p.asks
+  where
+    of : (asks : Option (List BrickId)) → RequestIsOf call (ballot_request (record p { asks = asks }))
+    of None t is = absurd (let never : None ≡ Some t = is in cc)
+    of (Some members) t is = absurd (let never : None ≡ Some t = is in cc)
+
+ballot_views : (me : BrickId) (p : Proposal) → OfEach PacketIsOf (ballot_packets me p)
+ballot_views me p = each_ballot PacketIsOf me p (λ to. ballot_asks p.call p)
 
 -- what a coordinator decides
 abbrev NextIsOf : Next → Type 0
@@ -229,39 +293,105 @@ fresh_view me view now boot known t =
     (λ later is. ap (λ (z : Stamp). z.view.0) (sym (same_Some (new_stamp me view now boot known) t is)))
     (λ spent is. absurd (let never : None ≡ Some t = is in cc))
 
-replied_views : (setting : Setting) (me : BrickId) (now : ℕ) (from : BrickId) (node : Node) (call : Call) (reply : Reply)
-    → NodeViews setting.layout node → StepViews setting.layout (replied setting me now from node call reply)
-unfolding replied on_reply
-replied_views setting me now from node call reply has = at_call (node.calls call.seq) refl
+replied_views : (setting : Setting) (me : BrickId) (now : ℕ) (from : BrickId) (node : Node) (call : Call) (reply : Reply) (found : Option Coordinator)
+    → ((c : Coordinator) → found ≡ Some c → CallIsOf c) → NodeViews setting.layout node
+    → StepViews setting.layout (replied_at setting me now from node call reply found)
+unfolding on_reply
+replied_views setting me now from node call reply None own has = in_proposal node.proposal
   where
-    decides : (c : Coordinator) (fresh : Option Stamp) → CallIsOf c → ((t : Stamp) → fresh ≡ Some t → t.view.0 ≡ c.call.view.0) → (seat : Option ℕ)
+    heard_node : Node
+    heard_node = with_known node (known_after node.known reply)
+
+    voted_views : (p : Proposal) (next : Voting) → StepViews setting.layout (carried_ballot setting.layout me heard_node p next)
+    voted_views p Ignored = record { node = beside_views setting.layout node node.seq (known_after node.known reply) node.round node.proposal has; packets = each_none PacketIsOf }
+    voted_views p (Waited q) = record { node = beside_views setting.layout node node.seq (known_after node.known reply) node.round (Some q) has; packets = each_none PacketIsOf }
+    voted_views p (Asks q) = record { node = beside_views setting.layout node node.seq (known_after node.known reply) node.round (Some q) has; packets = ballot_views me q }
+    voted_views p (Ended ended answer) = record {
+      node = beside_views setting.layout node node.seq (known_after node.known reply) node.round None has;
+      packets = teaches answer;
+    }
+      where
+        teaches : (answer : ViewAnswer) → OfEach PacketIsOf (ended_packets setting.layout me p answer)
+        teaches (answers.Decided number members) = each_learn PacketIsOf me p.call.group (decided_view p number members) (λ to. tt) setting.layout.bricks 0
+        teaches (answers.Outbid ballot) = each_none PacketIsOf
+        teaches (answers.NotSynced brick) = each_none PacketIsOf
+        teaches (answers.Moved view) = each_none PacketIsOf
+        teaches answers.BadMembers = each_none PacketIsOf
+
+    in_proposal : (z : Option Proposal) → StepViews setting.layout (replied_ballot setting.layout me from heard_node call reply z)
+    in_proposal None = record { node = beside_views setting.layout node node.seq (known_after node.known reply) node.round node.proposal has; packets = each_none PacketIsOf }
+    in_proposal (Some p) = voted_views p (voted setting.layout.bricks p from call reply)
+replied_views setting me now from node call reply (Some c) own has =
+    let known : ℕ = known_after node.known reply in
+    carried_views setting me node known c _ has
+    (decides (fresh_stamp me c.call.view now node.boot known) (own c refl)
+    (λ t made. fresh_view me c.call.view now node.boot known t made) (counts_at setting.layout.block c from.0 call reply))
+  where
+    decides : (fresh : Option Stamp) → CallIsOf c → ((t : Stamp) → fresh ≡ Some t → t.view.0 ≡ c.call.view.0) → (seat : Option ℕ)
         → NextIsOf (counted_at setting.layout.block setting.code fresh c from reply seat)
-    decides c fresh is made None = tt
-    decides c fresh is made (Some seat) =
+    decides fresh is made None = tt
+    decides fresh is made (Some seat) =
         next_views fresh (with_reply c seat from reply) (once_full setting.layout.block setting.code fresh (with_reply c seat from reply))
         (once_full_fits setting.layout.block setting.code fresh (with_reply c seat from reply)) is made
 
-    at_call : (z : Option Coordinator) → node.calls call.seq ≡ z → StepViews setting.layout (replied_at setting me now from node call reply z)
-    at_call None is =
-        record { node = record { views = has.views; parts = has.parts; fresh = has.fresh; calls = has.calls }; packets = each_none PacketIsOf }
-    at_call (Some c) is =
-        let known : ℕ = known_after node.known reply in
-        carried_views setting me node known c _ has
-        (decides c (fresh_stamp me c.call.view now node.boot known) (has.calls call.seq c is)
-        (λ t made. fresh_view me c.call.view now node.boot known t made) (counts_at setting.layout.block c from.0 call reply))
+heard_views : (setting : Setting) (me : BrickId) (now : ℕ) (from : BrickId) (node : Node) (call : Call) (reply : Reply)
+    → NodeViews setting.layout node → StepViews setting.layout (heard setting me now from node call reply)
+heard_views setting me now from node call reply has =
+    let round : NodeViews setting.layout (with_round node reply)
+    = beside_views setting.layout node node.seq node.known (with_round node reply).round node.proposal has in
+    heard_each (λ (step : NodeStep). StepViews setting.layout step) setting me now from node call reply
+    (quiet_views setting.layout (with_known (with_round node reply) (known_after node.known reply))
+    (beside_views setting.layout node node.seq (known_after node.known reply) (with_round node reply).round node.proposal has))
+    (λ fit. replied_views setting me now from _ call reply (node.calls call.seq) (λ c is. has.calls call.seq c is)
+    (taught_views setting.layout call.group.0 (with_round node reply) (view_counted setting.layout from node call reply) round))
 
 received_views : (setting : Setting) (now : ℕ) (from to : BrickId) (message : Message) (node : Node) → NodeViews setting.layout node → MessageIsOf message
     → StepViews setting.layout (received setting to now node (record { from = from; to = to; message = message }))
 unfolding received
 received_views setting now from to (Message.Request call request) node has is = requested_views setting to from node call request has is
-received_views setting now from to (Message.Reply call reply) node has is = replied_views setting to now from node call reply has
+received_views setting now from to (Message.Reply call reply) node has is = heard_views setting to now from node call reply has
+received_views setting now from to (Message.Learn group view) node has is =
+    quiet_views setting.layout (node_learnt setting.layout node group view)
+    (learnt_each (λ (n : Node). NodeViews setting.layout n) setting.layout node group view has (λ later. learnt_views setting.layout group.0 node view later has))
 received_views setting now from to message node has is = quiet_views setting.layout node has
 
+-- a brick begins a proposal
+proposed_views : (setting : Setting) (me : BrickId) (node : Node) (group : GroupId) (members : List BrickId) → NodeViews setting.layout node
+    → StepViews setting.layout (proposed setting me node group members)
+unfolding proposed
+proposed_views setting me node group members has = in_group (group_of setting.layout group.0)
+  where
+    in_group : (z : Option Group) → StepViews setting.layout (proposed_in setting me node group members z)
+    in_group None = quiet_views setting.layout node has
+    in_group (Some kept) =
+        let p : Proposal = new_proposal me node kept.m group members in
+        cond_both (is_membership kept.m setting.layout.bricks members) (sending (proposing node p) (ballot_packets me p))
+        (reporting node [] (Report.View group None answers.BadMembers)) (λ (step : NodeStep). StepViews setting.layout step)
+        (λ may. record { node = beside_views setting.layout node p.call.seq node.known p.ballot.round (Some p) has; packets = ballot_views me p })
+        (λ isnt. record { node = has; packets = each_none PacketIsOf })
+
+-- what a brick keeps of a message
+kept_views : (setting : Setting) (me from to : BrickId) (message : Message) (node : Node) → NodeViews setting.layout node → MessageIsOf message
+    → NodeViews setting.layout (kept_of setting me node (record { from = from; to = to; message = message }))
+unfolding kept_of
+kept_views setting me from to (Message.Request call request) node has is = (requested_views setting me from node call request has is).node
+kept_views setting me from to (Message.Reply call reply) node has is =
+    cond_both (lists_fit setting.layout call reply) (node_taught_by setting.layout.block call.group.0 node (view_told reply)) node
+    (λ (n : Node). NodeViews setting.layout n) (λ fit. taught_views setting.layout call.group.0 node (view_told reply) has) (λ isnt. has)
+kept_views setting me from to (Message.Learn group view) node has is =
+    learnt_each (λ (n : Node). NodeViews setting.layout n) setting.layout node group view has (λ later. learnt_views setting.layout group.0 node view later has)
+kept_views setting me from to message node has is = has
+
+-- and where its handling was cut short
 absorbed_views : (setting : Setting) (me from to : BrickId) (message : Message) (node : Node) → NodeViews setting.layout node → MessageIsOf message
     → NodeViews setting.layout (absorbed setting me node (record { from = from; to = to; message = message }))
-unfolding absorbed
-absorbed_views setting me from to (Message.Request call request) node has is = (requested_views setting me from node call request has is).node
-absorbed_views setting me from to message node has is = has
+absorbed_views setting me from to message node has is =
+    let packet : Packet = record { from = from; to = to; message = message } in
+    ⊎_elim
+    (λ (same : absorbed setting me node packet ≡ node). subst (λ (n : Node). NodeViews setting.layout n) (sym same) has)
+    (λ (kept : absorbed setting me node packet ≡ kept_of setting me node packet).
+    subst (λ (n : Node). NodeViews setting.layout n) (sym kept) (kept_views setting me from to message node has is))
+    (absorbed_kept setting me from to node message)
 
 invoked_views : (setting : Setting) (me : BrickId) (now : ℕ) (node : Node) (ask : Ask) → NodeViews setting.layout node
     → StepViews setting.layout (invoked setting me now node ask)
@@ -326,6 +456,14 @@ views_cases setting w has = record {
         after = has.after;
         packets = each_both PacketIsOf w.packets _ has.packets step.packets;
       });
+  proposes = λ brick group members may.
+      (let step = proposed_views setting brick (w.nodes brick.0) group members (has.nodes brick.0) in
+      record {
+        nodes = put_views setting.layout w.nodes brick.0 _ has.nodes step.node;
+        after = subst (λ (f : ℕ → Node). (i : ℕ) → NodeViews setting.layout (f i))
+            (sym (after_stepped setting w brick (proposed setting brick (w.nodes brick.0) group members))) has.after;
+        packets = each_both PacketIsOf w.packets _ has.packets step.packets;
+      });
   handles = λ number packet at up.
       (let sent = packet_was_sent w number packet at in
       let step = received_views setting (w.clocks packet.to.0) packet.from packet.to packet.message (w.nodes packet.to.0) (has.nodes packet.to.0)
@@ -342,8 +480,10 @@ views_cases setting w has = record {
         nodes = has.nodes;
         after = has.after;
         packets = each_both PacketIsOf w.packets _ has.packets
+            (each_both PacketIsOf _ (ballot_resent brick (w.nodes brick.0).proposal)
             (each_ticked PacketIsOf setting brick (w.nodes brick.0).calls (w.nodes brick.0).seq
-            (λ k c is seat to. request_is setting.code c ((has.nodes brick.0).calls k c is) seat));
+            (λ k c is seat to. request_is setting.code c ((has.nodes brick.0).calls k c is) seat) (λ k c is later from to. tt))
+            (each_ballot_resent PacketIsOf brick (w.nodes brick.0).proposal (λ p is to. ballot_asks p.call p) (λ p is later from to. tt)));
       };
   stops = λ brick during up.
       record {
@@ -365,17 +505,6 @@ views_cases setting w has = record {
       after = was.after;
       packets = was.packets;
     }
-
--- a fresh part is of its view
-fresh_part : (block e : ℕ) → PartIsOf e (fresh_replica block e)
-fresh_part block e =
-    cond_both (nat_eq e 1) (first_replica block) _ (λ (r : Replica). PartIsOf e r)
-    (λ one. record {
-      order = inl refl;
-      log = λ k version at.
-          ap (λ (v : Version). view_of v.stamp) (sym (get_one _ version k at)) ∙ (let is : 1 ≡ e = grind (arith, nat_tests) in is);
-    })
-    (λ other. record { order = inl refl; log = λ k version at. absurd (let never : None ≡ Some version = at in cc) })
 
 first_views : (layout : Layout) → NodeViews layout (first_node layout)
 first_views layout = record {
