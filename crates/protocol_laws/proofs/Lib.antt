@@ -47,6 +47,7 @@ pub mod TalliesCounts
 pub mod TalliesEvents
 pub mod TalliesKept
 pub mod Teaching
+pub mod Votes
 pub mod Tops
 pub mod ViewLaws
 pub mod Walks

@@ -1,5 +1,5 @@
 -- What a member told was true of it when it told it.
-use Rattle.std.proofs.Common.{nat_lt, ◌≡◌, ℕ, true, List, Option, Some, None, refl, sym, ap, ◌∙◌, subst, false}
+use Rattle.std.proofs.Common.{nat_lt, ◌≡◌, ◌+◌, ℕ, true, List, [], Option, Some, None, refl, sym, ap, ◌∙◌, subst, false}
 use Rattle.std.specs.Prelude.{nat_eq}
 use Rattle.std.proofs.lemmas.Bool.{cond_both}
 use Rattle.std.proofs.lemmas.Option.{same_Some}
@@ -12,19 +12,29 @@ use Rattle.messages.specs.declared.packets.Message.{Message}
 use Rattle.messages.specs.declared.packets.Packet.{Packet}
 use Rattle.messages.specs.declared.requests.Request.{Request}
 use Rattle.messages.specs.declared.replies.Reply.{Reply}
-use Rattle.fab_base.specs.Layouts.{Group}
+use Rattle.fab_base.specs.Layouts.{Group, group_of}
+use Rattle.fab_base.specs.declared.stamps.Ballot.{Ballot}
+use Rattle.fab_base.specs.declared.identities.GroupId.{GroupId}
+use Rattle.protocol.specs.Ballots.{Voted, moved_to, granting}
+use Rattle.protocol.specs.Proposals.{Proposal, Voting, Ignored, Waited, Asks, Ended, ballot_packets, voted}
+use Rattle.protocol.specs.declared.tellings.ViewAnswer.{ViewAnswer}
+use Rattle.protocol.specs.declared.tellings.ViewAnswer.TheVariants as answers
+use Rattle.protocol.specs.declared.tellings.Report.TheVariants as Report
+use Rattle.quorum.specs.Memberships.{is_membership}
 use Rattle.protocol.specs.Settings.{Setting, Code}
 use Rattle.protocol_laws.proofs.Reactions.{modified_each}
 use Rattle.protocol.specs.Replicas.{Replica, Reaction, top_of, is_held, is_wanted, told_version, stays, unless_full, promised, stored, looked_up, handle, ignored}
 use Rattle.protocol.specs.Coordinators.{Coordinator, Next, Ignores, Waits, Sends, Makes, Ends, request_of, on_reply}
-use Rattle.protocol.specs.Nodes.{view_at, Node, replica_at, full_at, reply_packets, ticked, began, invoked, requested, known_after, fresh_stamp, carried_out, group_at, replied_at, replied, received, phase_packets, new_coordinator, view_floor}
+use Rattle.protocol.specs.Nodes.{view_at, Node, replica_at, full_at, reply_packets, ticked, began, invoked, requested, known_after, fresh_stamp, carried_out, group_at, replied_at, heard, received, with_round, node_taught_by, view_counted, moved_at, has_accepted, vote_at, with_known, replied_ballot, carried_ballot, ended_packets, decided_view, new_proposal, proposing, reporting, sending, proposed_in, proposed, ballot_resent, NodeStep, phase_packets, new_coordinator, view_floor}
 use Rattle.protocol.specs.Worlds.{World, Event, first_world, world_stopped, happens, run}
 use Rattle.protocol_laws.specs.Laws.{RefusalIsTrue, RefusalsWereTrue, stamp_asked}
-use Rattle.protocol.proofs.Served.{request_each, served_open}
+use Rattle.protocol.proofs.Served.{request_each}
+use Rattle.protocol_laws.proofs.Votes.{vote_each}
+use Rattle.protocol_laws.proofs.Teaching.{heard_each}
 use Rattle.protocol.proofs.Events.{EventCases, step_on, happens_each, started_each}
-use Rattle.protocol.proofs.Packets.{OfEach, each_none, each_member, each_collect, each_reply, each_ticked}
+use Rattle.protocol.proofs.Packets.{OfEach, each_none, each_one, each_both, each_member, each_collect, each_reply, each_ticked, each_learn, each_ballot, each_ballot_resent}
 use Rattle.protocol_laws.proofs.Tops.{top_is_part}
-use Rattle.protocol_laws.proofs.StampViews.{StampViews, NodeViews, RequestIsOf, MessageIsOf, asks_above, always_views}
+use Rattle.protocol_laws.proofs.StampViews.{StampViews, NodeViews, RequestIsOf, MessageIsOf, asks_above, free_for, always_views}
 use Rattle.protocol_laws.proofs.Left.{packet_was_sent}
 use Rattle.protocol_laws.proofs.Sendings.{Adds, adds_none, SentAt, sent_at}
 
@@ -112,10 +122,38 @@ module _ (setting : Setting) (w : World) where
       → RequestIsOf call request → AreTrue w (requested setting me from (w.nodes me.0) call request).packets
   requested_true me from call request has asks =
       request_each (λ step. AreTrue w step.packets) setting me from (w.nodes me.0) call request (each_none (IsTrue w))
-      (λ group seat here at view. replies_true me from call request
+      (λ moved is. each_one (IsTrue w) _ [] (moved_true moved is) (each_none (IsTrue w)))
+      (λ group seat here served. replies_true me from call request
       (handle setting.code group.m (full_at setting.layout.records (w.nodes me.0).live) seat (replica_at (w.nodes me.0) call) request).reply
-      (asks_above setting.layout (w.nodes me.0) call request has asks view (served_open setting me (w.nodes me.0) call request group seat at)) view
+      (asks_above setting.layout (w.nodes me.0) call request has asks served.view (free_for (w.nodes me.0) call request served.free)) served.view
       (handle_true setting.code group.m (full_at setting.layout.records (w.nodes me.0).live) seat (replica_at (w.nodes me.0) call) request))
+      (λ group ballot asked here. each_one (IsTrue w) _ [] (vote_true ballot asked) (each_none (IsTrue w)))
+    where
+      of_reply : (one other : Reply) → one ≡ other → IsTrue w (record { from = me; to = from; message = Message.Reply call one })
+          → IsTrue w (record { from = me; to = from; message = Message.Reply call other })
+      of_reply one other same is = subst (λ (r : Reply). IsTrue w (record { from = me; to = from; message = Message.Reply call r })) same is
+
+      granted : (ballot : Ballot) (asked : Option (List BrickId))
+          → IsTrue w (record { from = me; to = from; message = Message.Reply call (granting ((w.nodes me.0).ballots call.group.0) ballot asked).reply })
+      granted ballot None = tt
+      granted ballot (Some members) = tt
+
+      moved_true : (moved : Reply) → moved_at (w.nodes me.0) call ≡ Some moved → IsTrue w (record { from = me; to = from; message = Message.Reply call moved })
+      moved_true moved =
+          cond_both (nat_lt call.view.0 (view_at (w.nodes me.0) call.group.0)) (Some (moved_to ((w.nodes me.0).learnt call.group.0).view)) _
+          (λ (z : Option Reply). z ≡ Some moved → IsTrue w (record { from = me; to = from; message = Message.Reply call moved }))
+          (λ later is. of_reply (moved_to ((w.nodes me.0).learnt call.group.0).view) moved (same_Some _ moved is) tt)
+          (λ isnt. cond_both (has_accepted (w.nodes me.0) call.group.0) (Some (Reply.Moved (record { 0 = call.view.0 + 1 }) None)) None
+          (λ (z : Option Reply). z ≡ Some moved → IsTrue w (record { from = me; to = from; message = Message.Reply call moved }))
+          (λ has is. of_reply (Reply.Moved (record { 0 = call.view.0 + 1 }) None) moved (same_Some _ moved is) tt)
+          (λ free is. absurd (let never : None ≡ Some moved = is in cc)))
+
+      vote_true : (ballot : Ballot) (asked : Option (List BrickId))
+          → IsTrue w (record { from = me; to = from; message = Message.Reply call (vote_at (w.nodes me.0) call ballot asked).reply })
+      vote_true ballot asked =
+          vote_each (λ (v : Voted). IsTrue w (record { from = me; to = from; message = Message.Reply call v.reply })) call.view.0
+          ((w.nodes me.0).learnt call.group.0) ((w.nodes me.0).ballots call.group.0) ballot asked (λ later. tt) (λ most not. tt) (λ greater is. tt)
+          (granted ballot asked)
 
   carried_true : (me : BrickId) (node : Node) (known : ℕ) (c : Coordinator) (next : Next)
       → AreTrue w (carried_out setting me node known c next).packets
@@ -125,24 +163,57 @@ module _ (setting : Setting) (w : World) where
   carried_true me node known c (Makes d) = phase_true setting w me d
   carried_true me node known c (Ends answer seen held) = each_collect (IsTrue w) me c held (λ t to. tt)
 
-  replied_true : (me : BrickId) (now : ℕ) (from : BrickId) (call : Call) (reply : Reply)
-      → AreTrue w (replied setting me now from (w.nodes me.0) call reply).packets
-  unfolding replied
-  replied_true me now from call reply = at_call ((w.nodes me.0).calls call.seq)
+  ballot_true : (me : BrickId) (p : Proposal) → AreTrue w (ballot_packets me p)
+  ballot_true me p = each_ballot (IsTrue w) me p (λ to. tt)
+
+  voted_true : (me : BrickId) (node : Node) (p : Proposal) (next : Voting) → AreTrue w (carried_ballot setting.layout me node p next).packets
+  voted_true me node p Ignored = each_none (IsTrue w)
+  voted_true me node p (Waited q) = each_none (IsTrue w)
+  voted_true me node p (Asks q) = ballot_true me q
+  voted_true me node p (Ended call answer) = teaches answer
     where
-      at_call : (z : Option Coordinator) → AreTrue w (replied_at setting me now from (w.nodes me.0) call reply z).packets
-      at_call None = each_none (IsTrue w)
-      at_call (Some c) =
-          carried_true me (w.nodes me.0) (known_after (w.nodes me.0).known reply) c
-          (on_reply setting.layout.block setting.code
-          (fresh_stamp me c.call.view now (w.nodes me.0).boot (known_after (w.nodes me.0).known reply)) c from call reply)
+      teaches : (answer : ViewAnswer) → AreTrue w (ended_packets setting.layout me p answer)
+      teaches (answers.Decided number members) = each_learn (IsTrue w) me p.call.group (decided_view p number members) (λ to. tt) setting.layout.bricks 0
+      teaches answer = each_none (IsTrue w)
+
+  replied_true : (me : BrickId) (now : ℕ) (from : BrickId) (node : Node) (call : Call) (reply : Reply) (found : Option Coordinator)
+      → AreTrue w (replied_at setting me now from node call reply found).packets
+  replied_true me now from node call reply None = in_proposal node.proposal
+    where
+      in_proposal : (z : Option Proposal)
+          → AreTrue w (replied_ballot setting.layout me from (with_known node (known_after node.known reply)) call reply z).packets
+      in_proposal None = each_none (IsTrue w)
+      in_proposal (Some p) = voted_true me (with_known node (known_after node.known reply)) p (voted setting.layout.bricks p from call reply)
+  replied_true me now from node call reply (Some c) =
+      carried_true me node (known_after node.known reply) c
+      (on_reply setting.layout.block setting.code (fresh_stamp me c.call.view now node.boot (known_after node.known reply)) c from call reply)
+
+  heard_true : (me : BrickId) (now : ℕ) (from : BrickId) (call : Call) (reply : Reply) → AreTrue w (heard setting me now from (w.nodes me.0) call reply).packets
+  heard_true me now from call reply =
+      heard_each (λ (step : NodeStep). AreTrue w step.packets) setting me now from (w.nodes me.0) call reply (each_none (IsTrue w))
+      (λ fit. replied_true me now from
+      (node_taught_by setting.layout.block call.group.0 (with_round (w.nodes me.0) reply) (view_counted setting.layout from (w.nodes me.0) call reply)) call reply
+      ((w.nodes me.0).calls call.seq))
 
   received_true : (now : ℕ) (from to : BrickId) (message : Message) → NodeViews setting.layout (w.nodes to.0)
       → MessageIsOf message → AreTrue w (received setting to now (w.nodes to.0) (record { from = from; to = to; message = message })).packets
   unfolding received
   received_true now from to (Message.Request call request) has is = requested_true to from call request has is
-  received_true now from to (Message.Reply call reply) has is = replied_true to now from call reply
+  received_true now from to (Message.Reply call reply) has is = heard_true to now from call reply
+  received_true now from to (Message.Learn group view) has is = each_none (IsTrue w)
   received_true now from to message has is = each_none (IsTrue w)
+
+  proposed_true : (me : BrickId) (group : GroupId) (members : List BrickId) → AreTrue w (proposed setting me (w.nodes me.0) group members).packets
+  unfolding proposed
+  proposed_true me group members = in_group (group_of setting.layout group.0)
+    where
+      in_group : (z : Option Group) → AreTrue w (proposed_in setting me (w.nodes me.0) group members z).packets
+      in_group None = each_none (IsTrue w)
+      in_group (Some kept) =
+          let p : Proposal = new_proposal me (w.nodes me.0) kept.m group members in
+          cond_both (is_membership kept.m setting.layout.bricks members) (sending (proposing (w.nodes me.0) p) (ballot_packets me p))
+          (reporting (w.nodes me.0) [] (Report.View group None answers.BadMembers)) (λ (step : NodeStep). AreTrue w step.packets)
+          (λ may. ballot_true me p) (λ isnt. each_none (IsTrue w))
 
   invoked_true : (me : BrickId) (now : ℕ) (ask : Ask) → AreTrue w (invoked setting me now (w.nodes me.0) ask).packets
   unfolding invoked
@@ -166,6 +237,12 @@ adds_cases setting w views = record {
         packets = refl;
         each = invoked_true setting w brick (w.clocks brick.0) ask;
       };
+  proposes = λ brick group members may.
+      record {
+        more = (proposed setting brick (w.nodes brick.0) group members).packets;
+        packets = refl;
+        each = proposed_true setting w brick group members;
+      };
   handles = λ number packet at up.
       record {
         more = (step_on setting w packet).packets;
@@ -178,7 +255,9 @@ adds_cases setting w views = record {
       record {
         more = ticked setting brick (w.nodes brick.0);
         packets = refl;
-        each = each_ticked (IsTrue w) setting brick (w.nodes brick.0).calls (w.nodes brick.0).seq (λ k c is seat to. tt);
+        each = each_both (IsTrue w) _ (ballot_resent brick (w.nodes brick.0).proposal)
+            (each_ticked (IsTrue w) setting brick (w.nodes brick.0).calls (w.nodes brick.0).seq (λ k c is seat to. tt) (λ k c is later from to. tt))
+            (each_ballot_resent (IsTrue w) brick (w.nodes brick.0).proposal (λ p is to. tt) (λ p is later from to. tt));
       };
   stops = λ brick during up. adds_none (IsTrue w) w (world_stopped setting w brick during) refl;
   starts = λ brick openings found may. started_each (AddsTrue w) w brick openings (adds_none (IsTrue w) w _ refl) (adds_none (IsTrue w) w _ refl) found;

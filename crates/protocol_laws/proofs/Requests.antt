@@ -24,7 +24,7 @@ use Rattle.protocol.specs.declared.phases.Phase.TheVariants.{Orders, Modifies, S
 use Rattle.protocol.specs.Nodes.{Node, put, with_replica, replica_at, full_at, reply_packets, view_at, view_floor, top_at, has_accepted}
 use Rattle.protocol.specs.Worlds.{World, Operation}
 use Rattle.protocol_laws.specs.Laws.{WasSent, AskedAt, stamp_asked, stamp_stored, top_in, part_in, first_kept_in}
-use Rattle.protocol.proofs.Served.{parts_each}
+use Rattle.protocol.proofs.Served.{parts_each, IsCollect}
 use Rattle.protocol_laws.proofs.Books.{Books}
 use Rattle.protocol_laws.proofs.Blocking.{held_in, was_kept}
 use Rattle.protocol_laws.proofs.Said.{Stamping, Said, IsStamped, IsMadeOrFirst, IsKnown, IsCalled, VersionSays, ToldSays, MakerSays, WriteSays, ChangesBlock, ModifySays, OrderSays, OrderReadSays, ReadSays, want_of, RequestSays, is_looked, OrderedSays, OrderedReadSays, FoundSays, ReplySays, PacketSays, IsPassedOver, WasCollected, IsBottom}
@@ -35,7 +35,7 @@ use Rattle.protocol_laws.proofs.Stampings.{ages_within, stamps_same}
 use Rattle.protocol_laws.proofs.Growth.{Grows, Continues, stays_version, stays_told, stays_called, stays_found, stays_collected}
 use Rattle.protocol_laws.proofs.Steps.{KeepsParts, quiet, quiet_grows, said_quiet, stamps_stay_by}
 use Rattle.protocol_laws.proofs.Tops.{top_rises, top_most, top_above, view_above, time_rises, kept_now}
-use Rattle.protocol_laws.proofs.StampViews.{StampViews, NodeViews, RequestIsOf, asks_above, asked_view, IsFreeFor}
+use Rattle.protocol_laws.proofs.StampViews.{StampViews, NodeViews, RequestIsOf, asks_above, asked_view, IsFreeFor, free_for}
 use Rattle.protocol.specs.Views.{Views, view_of, group_in, first_kept}
 
 -- A request to the part in the view that a brick has learnt, which asks for nothing below that, lowers no brick, adds nothing below what it had come
@@ -99,7 +99,7 @@ within_lower (Some version) d c less within = stamp_not_below_trans d c version.
 module _ (setting : Setting) (views : Views) (w : World) (stamps : Stamping) (me from : BrickId) (call : Call) (request : Request) (books : Books setting w)
     (stamped : StampViews setting.layout w) (group : Group) (seat : ℕ)
     (group_is : group_in setting.layout views call.group.0 call.view.0 ≡ Some group) (seat_is : seat_in group.members me.0 ≡ Some seat)
-    (view : call.view.0 ≡ view_at (w.nodes me.0) call.group.0) (free : IsFreeFor (w.nodes me.0) call request)
+    (view : call.view.0 ≡ view_at (w.nodes me.0) call.group.0) (free : (has_accepted (w.nodes me.0) call.group.0 ≡ false) ⊎ IsCollect request)
     (said : Said setting views w stamps) (sent : WasSent w (record { from = from; to = me; message = Message.Request call request })) where
   -- the member's part before the request
   abbrev before : Replica
@@ -113,9 +113,20 @@ module _ (setting : Setting) (views : Views) (w : World) (stamps : Stamping) (me
   kept_of : (k : ℕ) (version : Version) → slice_get before.log k ≡ Some version → view_of version.stamp ≡ call.view.0
   kept_of = ((stamped.nodes me.0).parts call.group.0 call.view.0 call.stripe.0).log
 
+  -- it has accepted no list to follow the view, where it is asked at a stamp, or for its newest version
+  free_at : IsFreeFor (w.nodes me.0) call request
+  free_at = free_for (w.nodes me.0) call request free
+
+  free_read : (want : Want) → request ≡ Request.Read want → has_accepted (w.nodes me.0) call.group.0 ≡ false
+  free_read want is = ⊎_elim
+      (λ (none : has_accepted (w.nodes me.0) call.group.0 ≡ false). none)
+      (λ (collects : IsCollect request). absurd (let never : Request.Read want ≡ Request.Collect collects.0 = sym is ∙ collects.1 in cc))
+      free
+
   -- what is of the view is not below what the member has learnt
-  over : (t : Stamp) → view_of t ≡ call.view.0 → stamp_below t (view_floor (w.nodes me.0) call.group.0) ≡ false
-  over t of = view_above (w.nodes me.0) call.group.0 t free (of ∙ view)
+  over : (t : Stamp) → has_accepted (w.nodes me.0) call.group.0 ≡ false → view_of t ≡ call.view.0
+      → stamp_below t (view_floor (w.nodes me.0) call.group.0) ≡ false
+  over t none of = view_above (w.nodes me.0) call.group.0 t none (of ∙ view)
 
   -- a brick that has learnt it comes no less far than its part of it
   above_part : (node : Node) → view_at node call.group.0 ≡ call.view.0
@@ -178,7 +189,7 @@ module _ (setting : Setting) (views : Views) (w : World) (stamps : Stamping) (me
     keeps : KeepsParts (w.nodes me.0) (with_replica (w.nodes me.0) call reaction)
     keeps =
         parts_keep setting.layout setting.code group.m seat (w.nodes me.0) call request reaction rises after (stamped.nodes me.0)
-        asked_as view free
+        asked_as view free_at
 
     -- the versions of its view are kept
     kept_before : first_kept ((w.nodes me.0).learnt call.group.0) ≤ call.view.0
@@ -343,7 +354,7 @@ module _ (setting : Setting) (views : Views) (w : World) (stamps : Stamping) (me
           floor = subst (λ (t : Stamp). stamp_below t (says.operation.floor me.0) ≡ false) top
               (floor_below says.operation says.called (top_of before)
               (stamp_not_below_trans (view_floor (w.nodes me.0) call.group.0) old.stamp (top_of before)
-              (over old.stamp (kept_of stands.0 old stands.1))
+              (over old.stamp (free_read told.0 told.1) (kept_of stands.0 old stands.1))
               (held_top before old.stamp rises (newest_held before.log old newest)))
               (stamp_below_irrefl (top_of before)));
           held = subst (λ (t : Stamp). w.held me.0 call.group.0 call.stripe.0 t ≡ true) (sym stamp)
@@ -354,10 +365,11 @@ module _ (setting : Setting) (views : Views) (w : World) (stamps : Stamping) (me
         }
 
     -- a promise is at or above the operation's floor at this member
-    promise_above : (t : Stamp) (o : Operation) → IsCalled w from.0 call o → (p : Operation) → Continues o p → view_of t ≡ call.view.0
+    promise_above : (t : Stamp) (o : Operation) → IsCalled w from.0 call o → (p : Operation) → Continues o p → stamp_asked request ≡ Some t
         → stamp_below t (top_of before) ≡ false → stamp_below t (p.floor me.0) ≡ false
-    promise_above t o called p on of above =
-        subst (λ (f : ℕ → Stamp). stamp_below t (f me.0) ≡ false) (sym on.floor) (floor_below o called t (over t of) above)
+    promise_above t o called p on asked above =
+        subst (λ (f : ℕ → Stamp). stamp_below t (f me.0) ≡ false) (sym on.floor)
+        (floor_below o called t (over t (free_at t asked) (asked_in t asked)) above)
 
     ordered_says : ReactionSays seat full before request part Reply.Ordered → OrderedSays next stamps me.0 from.0 call
     ordered_says told =
@@ -369,7 +381,7 @@ module _ (setting : Setting) (views : Views) (w : World) (stamps : Stamping) (me
           stamp = told.0;
           stamp_is = says.begun;
           promised = subst (λ (t : Stamp). stamp_below (top_in next call.group.0 call.stripe.0 me.0) t ≡ false) told.3 part_stands;
-          floor = promise_above told.0 says.operation says.called goes.0 goes.2 (asked_in told.0 (ap stamp_asked told.1)) told.2;
+          floor = promise_above told.0 says.operation says.called goes.0 goes.2 (ap stamp_asked told.1) told.2;
         }
 
     -- what is looked for in a log
@@ -448,7 +460,7 @@ module _ (setting : Setting) (views : Views) (w : World) (stamps : Stamping) (me
           below = says.below;
           view = asked_as told.0 asked;
           promised = subst (λ (t : Stamp). stamp_below (top_in next call.group.0 call.stripe.0 me.0) t ≡ false) top part_stands;
-          floor = promise_above told.0 says.operation says.called goes.0 goes.2 (asked_in told.0 asked) told.1.3;
+          floor = promise_above told.0 says.operation says.called goes.0 goes.2 asked told.1.3;
           newest = λ d of held looked. ⊎_elim
               (λ (there : is_held d before.log ≡ true).
               inl (found_within (is_wanted told.1.1 seat) found (looked_up look before.log) d told.1.5

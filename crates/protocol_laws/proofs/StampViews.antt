@@ -40,7 +40,7 @@ use Rattle.protocol_laws.proofs.Left.{after_stepped, packet_was_sent, during_was
 use Rattle.protocol_laws.proofs.Teaching.{newly_learnt, told_each, learnt_each, dropped_each, heard_each}
 use Rattle.protocol_laws.proofs.Outcomes.{ReordersFits, RecoversFits, RebuildsFits, NextFits, once_full_fits}
 use Rattle.protocol_laws.proofs.Reactions.{IsAfter, StoresBlock, handle_after, after_log, after_order, store_asked}
-use Rattle.protocol.proofs.Served.{request_each, parts_each, IsServed, IsCollect}
+use Rattle.protocol.proofs.Served.{request_each, parts_each, IsCollect}
 use Rattle.protocol.proofs.Tables.{put_each, get_one}
 use Rattle.protocol_laws.proofs.Tops.{view_above}
 
@@ -111,14 +111,13 @@ asked_view layout node call request has asks view t is =
 abbrev pub IsFreeFor : Node → Call → Request → Type 0
 IsFreeFor node call request = (t : Stamp) → stamp_asked request ≡ Some t → has_accepted node call.group.0 ≡ false
 
--- so has one that handles a request at its seat
-pub served_free : (layout : Layout) (me : BrickId) (node : Node) (call : Call) (request : Request) (group : Group) (seat : ℕ)
-    → IsServed layout me node call request group seat → IsFreeFor node call request
-served_free layout me node call request group seat served t asks = ⊎_elim
-    (λ (free : has_accepted node call.group.0 ≡ false). free)
+-- so it is where it has accepted none, or drops versions
+pub free_for : (node : Node) (call : Call) (request : Request) → (has_accepted node call.group.0 ≡ false) ⊎ IsCollect request → IsFreeFor node call request
+free_for node call request free t asks = ⊎_elim
+    (λ (none : has_accepted node call.group.0 ≡ false). none)
     (λ (collects : IsCollect request).
     absurd (let never : None ≡ Some t = ap stamp_asked (sym collects.1) ∙ asks in cc))
-    served.free
+    free
 
 -- and what it asks at is not below what the brick has learnt, where it has accepted nothing
 pub asks_above : (layout : Layout) (node : Node) (call : Call) (request : Request) → NodeViews layout node → RequestIsOf call request

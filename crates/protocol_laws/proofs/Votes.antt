@@ -1,0 +1,61 @@
+-- A member's vote on a ballot: it refuses, and keeps what it kept of ballots, or it promises to the ballot, and keeps a list that it accepted, or the one that it
+-- is asked to accept.
+use Rattle.std.specs.Option.{option_map}
+use Rattle.std.proofs.Common.{◌≡◌, ℕ, ◌<◌, Bool, true, false, nat_lt, ltb-true, ltb-false, ◌≤◌, ◌&&◌, ◌^◌, ◌-◌, List, Option, Some, None, is_some, refl, sym, ap, ◌∙◌, subst, ◌⊎◌, inl, inr}
+use Rattle.std.proofs.lemmas.Bool.{cond_both, and_parts, and_from}
+use Rattle.fab_base.specs.declared.identities.BrickId.{BrickId}
+use Rattle.fab_base.specs.declared.stamps.Ballot.{Ballot}
+use Rattle.messages.specs.declared.calls.Call.{Call}
+use Rattle.messages.specs.declared.replies.Reply.{Reply}
+use Rattle.messages.specs.declared.replies.Reply.TheVariants.{Outbid, NotSynced}
+use Rattle.synod_laws.specs.Synods.{Kept, last_of}
+use Rattle.protocol.specs.Views.{Learnt}
+use Rattle.protocol.specs.Ballots.{Voted, moved_to, outbidding, ballot_refusal, granting, unless_barred, voting}
+use Rattle.protocol.specs.Nodes.{Node, put, view_at, has_accepted, vote_at}
+use Rattle.protocol.proofs.Tables.{put_each}
+
+-- the vote of a member: it has learnt a later view, or does not know that the view is synced, or has promised to a greater ballot, or grants it
+pub vote_each : (P : Voted → Type 0) (view : ℕ) (learnt : Learnt) (kept : Kept (List BrickId)) (ballot : Ballot) (asks : Option (List BrickId))
+    → (view < learnt.view.number.0 → P (record { reply = moved_to learnt.view; kept = kept }))
+    → (learnt.view.number.0 ≤ view → learnt.synced ≡ false → P (record { reply = NotSynced; kept = kept }))
+    → ((greater : Ballot) → outbidding kept ballot ≡ Some greater → P (record { reply = Outbid greater; kept = kept }))
+    → P (granting kept ballot asks) → P (voting view learnt kept ballot asks)
+unfolding voting
+vote_each P view learnt kept ballot asks moved unsynced outbid granted =
+    cond_both (nat_lt view learnt.view.number.0) (Some (moved_to learnt.view)) _ (λ (z : Option Reply). P (unless_barred z kept (granting kept ballot asks)))
+    (λ later. moved (ltb-true view learnt.view.number.0 later))
+    (λ isnt. cond_both learnt.synced _ (Some NotSynced) (λ (z : Option Reply). P (unless_barred z kept (granting kept ballot asks)))
+    (λ synced. unless_outbid (outbidding kept ballot) refl) (λ not. unsynced (ltb-false view learnt.view.number.0 isnt) not))
+  where
+    unless_outbid : (z : Option Ballot) → outbidding kept ballot ≡ z
+        → P (unless_barred (option_map (λ greater. Outbid greater) z) kept (granting kept ballot asks))
+    unless_outbid None is = granted
+    unless_outbid (Some greater) is = outbid greater is
+
+-- an accepted list stays one
+abbrev pub StaysAccepted : Kept (List BrickId) → Kept (List BrickId) → Type 0
+StaysAccepted kept later = is_some (last_of kept) ≡ true → is_some (last_of later) ≡ true
+
+granting_stays : (kept : Kept (List BrickId)) (ballot : Ballot) (asks : Option (List BrickId)) → StaysAccepted kept (granting kept ballot asks).kept
+granting_stays kept ballot None accepted = accepted
+granting_stays kept ballot (Some members) accepted = refl
+
+vote_stays : (view : ℕ) (learnt : Learnt) (kept : Kept (List BrickId)) (ballot : Ballot) (asks : Option (List BrickId))
+    → StaysAccepted kept (voting view learnt kept ballot asks).kept
+vote_stays view learnt kept ballot asks =
+    vote_each (λ (v : Voted). StaysAccepted kept v.kept) view learnt kept ballot asks (λ later has. has) (λ most not has. has) (λ greater is has. has)
+    (granting_stays kept ballot asks)
+
+-- the brick with what a vote leaves of ballots
+abbrev pub with_vote : Node → Call → Voted → Node
+with_vote node call vote = record node { ballots = put node.ballots call.group.0 vote.kept }
+
+-- where it has accepted a list, it goes on having accepted one
+pub vote_accepts : (node : Node) (call : Call) (ballot : Ballot) (asks : Option (List BrickId)) (g : ℕ) → has_accepted node g ≡ true
+    → has_accepted (with_vote node call (vote_at node call ballot asks)) g ≡ true
+vote_accepts node call ballot asks g has =
+    let parts = and_parts (nat_lt (view_at node g) (2 ^ 32 - 1)) (is_some (last_of (node.ballots g))) has in
+    and_from (nat_lt (view_at node g) (2 ^ 32 - 1)) _ parts.0
+    (put_each (λ h (z : Kept (List BrickId)). is_some (last_of (node.ballots h)) ≡ true → is_some (last_of z) ≡ true) node.ballots call.group.0
+    (vote_at node call ballot asks).kept
+    (vote_stays call.view.0 (node.learnt call.group.0) (node.ballots call.group.0) ballot asks) (λ h other accepted. accepted) g parts.1)
