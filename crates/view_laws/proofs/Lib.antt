@@ -1,1 +1,3 @@
+pub mod Agreeing
 pub mod FirstTold
+pub mod Histories
