@@ -398,9 +398,9 @@ module _ (layout : Layout) (v : ViewWorld) (i : ℕ) (next : Node) (agreed : Agr
   by_learning : (g e : ℕ) → LearnsAt layout v.packets (v.nodes i) next g → Turned g e
   by_learning g e x =
       let none : accepted_in next g e ≡ None
-          = ap (λ (z : Kept (List BrickId)). accepted_by e (next.learnt g) z) x.ballots ∙ either_way (nat_eq e (view_at next g)) None in
+      = ap (λ (z : Kept (List BrickId)). accepted_by e (next.learnt g) z) x.ballots ∙ either_way (nat_eq e (view_at next g)) None in
       let votes : (k : ℕ) (b : Ballot) → (turned v i next).votes k g e b ≡ v.votes k g e b
-          = votes_same g e (λ c members is. absurd (let never : None ≡ Some (c, members) = sym none ∙ is in cc)) in
+      = votes_same g e (λ c members is. absurd (let never : None ≡ Some (c, members) = sym none ∙ is in cc)) in
       let view : view_at next g ≡ x.view.number.0 = ap (λ (z : View). z.number.0) x.learnt in
       record {
         grows = record {
@@ -415,11 +415,11 @@ module _ (layout : Layout) (v : ViewWorld) (i : ℕ) (next : Node) (agreed : Agr
         fits = λ k b members is. agreed.fits k g e b members (sym (votes k b) ∙ is);
         here = λ le.
             let nothing : kept_at next g e ≡ None
-                = ap (λ (z : Kept (List BrickId)). kept_by_view e (next.learnt g) z) x.ballots ∙ either_way (nat_eq e (view_at next g)) None in
+            = ap (λ (z : Kept (List BrickId)). kept_by_view e (next.learnt g) z) x.ballots ∙ either_way (nat_eq e (view_at next g)) None in
             let before : kept_at (v.nodes i) g e ≡ None
-                = ap (λ (t : Bool). cond t ((v.nodes i).ballots g) None) (ne_eqb e (view_at (v.nodes i) g) (λ same. omega (arith, same, le, view, x.later))) in
+            = ap (λ (t : Bool). cond t ((v.nodes i).ballots g) None) (ne_eqb e (view_at (v.nodes i) g) (λ same. omega (arith, same, le, view, x.later))) in
             let was : Keeps (history v g e) i None
-                = subst (λ (z : Kept (List BrickId)). Keeps (history v g e) i z) before (agreed.keeps i g e (omega (arith, le, view, x.later))) in
+            = subst (λ (z : Kept (List BrickId)). Keeps (history v g e) i z) before (agreed.keeps i g e (omega (arith, le, view, x.later))) in
             subst (λ (z : Kept (List BrickId)). Keeps (history (turned v i next) g e) i z) (sym nothing)
             (keeps_same (history v g e) (history (turned v i next) g e) i None
             (λ b. ap (λ (n : Node). is_past n g e b) (put_same v.nodes i next)
@@ -578,7 +578,7 @@ new_proposal layout v new safely g e b members is = by ((history v g e).proposal
     by : (z : Option (List BrickId)) → (history v g e).proposals b ≡ z → MayPropose layout v g e b members
     by None none =
         let found = first_found (λ packet. accept_in g e b packet.message) new members
-            (sym (first_of_later (λ packet. accept_in g e b packet.message) v.packets new none) ∙ is) in
+        (sym (first_of_later (λ packet. accept_in g e b packet.message) v.packets new none) ∙ is) in
         safely found.0 found.1 found.2 g e b members found.3
     by (Some other) some =
         inl (some ∙ sym (first_stays (λ packet. accept_in g e b packet.message) v.packets new other some) ∙ is)
