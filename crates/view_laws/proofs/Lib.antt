@@ -1,3 +1,4 @@
 pub mod Agreeing
 pub mod FirstTold
 pub mod Histories
+pub mod Owning
