@@ -1,6 +1,6 @@
 -- The stamps of a part, of a call and of a request are of its own view, and what a brick keeps of views that it has not learnt is fresh: so it is in every
 -- run, whatever members the views have.
-use Rattle.std.proofs.Common.{◌≡◌, ℕ, ◌+◌, ◌≤◌, ◌<◌, ◌⊎◌, inl, inr, ⊎_elim, true, false, ◌-◌, nat_eq, List, [], Option, ltb-true, Some, None, refl, sym, ap, ◌∙◌, subst, arith}
+use Rattle.std.proofs.Common.{◌≡◌, ℕ, ◌+◌, ◌≤◌, ◌<◌, ◌⊎◌, inl, inr, ⊎_elim, true, false, ◌-◌, nat_eq, List, [], Option, ltb-true, ltb-false, nat_lt, Some, None, refl, sym, ap, ◌∙◌, subst, arith}
 use Rattle.std.specs.Prelude.{slice_get}
 use Rattle.std.proofs.lemmas.Bool.{cond_both}
 use Rattle.std.proofs.lemmas.Bool.Decides.{nat_tests}
@@ -18,7 +18,7 @@ use Rattle.messages.specs.declared.replies.Reply.{Reply}
 use Rattle.messages.specs.declared.requests.Request.{Request}
 use Rattle.messages.specs.declared.requests.Version.{Version}
 use Rattle.protocol.specs.Settings.{Setting, Code}
-use Rattle.protocol.specs.Views.{Learnt, view_of, is_later, view_told}
+use Rattle.protocol.specs.Views.{Learnt, view_of, is_later, view_told, floor_of}
 use Rattle.protocol.specs.Ballots.{Voted}
 use Rattle.protocol.specs.Proposals.{Proposal, Voting, Ignored, Waited, Asks, Ended, ballot_request, ballot_packets, voted}
 use Rattle.protocol.specs.declared.tellings.ViewAnswer.{ViewAnswer}
@@ -27,7 +27,7 @@ use Rattle.protocol.specs.declared.tellings.Report.TheVariants as Report
 use Rattle.quorum.specs.Memberships.{is_membership}
 use Rattle.fab_base.specs.declared.identities.GroupId.{GroupId}
 use Rattle.fab_base.specs.declared.member_lists.View.{View}
-use Rattle.protocol.specs.Replicas.{Replica, Reaction, first_replica, fresh_replica, handle, top_of}
+use Rattle.protocol.specs.Replicas.{Replica, Reaction, first_replica, fresh_replica, handle, top_of, newest_of}
 use Rattle.protocol.specs.declared.phases.Phase.{Phase}
 use Rattle.protocol.specs.declared.phases.Phase.TheVariants.{Looks, LooksAt, Orders, OrdersAt, Recovers, Descends, Modifies, Bases, Stores}
 use Rattle.protocol.specs.Coordinators.{Coordinator, Next, Ignores, Waits, Sends, Makes, Ends, with_reply, once_full, counted_at, counts_at, on_reply, request_of}
@@ -39,7 +39,8 @@ use Rattle.protocol_laws.specs.Laws.{stamp_asked}
 use Rattle.protocol_laws.proofs.Left.{after_stepped, packet_was_sent, during_was_sent, kept_of, absorbed_kept}
 use Rattle.protocol_laws.proofs.Teaching.{newly_learnt, told_each, learnt_each, dropped_each, heard_each}
 use Rattle.protocol_laws.proofs.Outcomes.{ReordersFits, RecoversFits, RebuildsFits, NextFits, once_full_fits}
-use Rattle.protocol_laws.proofs.Reactions.{IsAfter, StoresBlock, handle_after, after_log, after_order, store_asked}
+use Rattle.protocol_laws.proofs.Reactions.{IsAfter, StoresBlock, handle_after, after_log, after_order, store_asked, top_is, top_is_order}
+use Rattle.protocol_laws.proofs.Logs.{newest_stands}
 use Rattle.protocol.proofs.Served.{request_each, parts_each, IsCollect}
 use Rattle.protocol.proofs.Tables.{put_each, get_one}
 use Rattle.protocol_laws.proofs.Tops.{view_above}
@@ -153,6 +154,33 @@ fresh_part block e =
           ap (λ (v : Version). view_of v.stamp) (sym (get_one _ version k at)) ∙ (let is : 1 ≡ e = grind (arith, nat_tests) in is);
     })
     (λ other. record { order = inl refl; log = λ k version at. absurd (let never : None ≡ Some version = at in cc) })
+
+-- what a part of a view has come to is below the floor of a later one
+pub part_below : (e f : ℕ) (part : Replica) → 1 ≤ e → e < f → PartIsOf e part → stamp_below (top_of part) (floor_of f) ≡ true
+unfolding stamp_below
+part_below e f part least later is = below_floor (top_of part) (newest (newest_of part.log) refl)
+  where
+    -- a stamp of the view, or the first
+    IsEarly : Stamp → Type 0
+    IsEarly t = t.view.0 ≤ e
+
+    below_floor : (t : Stamp) → IsEarly t → stamp_below t (floor_of f) ≡ true
+    below_floor t early =
+        cond_both (nat_lt 1 f) (record { view = record { 0 = f }; time = 0; brick = record { 0 = 0 }; boot = 0 }) first_stamp (λ (z : Stamp). stamp_below t z ≡ true)
+        (λ above. grind (arith, nat_tests)) (λ none. absurd (let few = ltb-false 1 f none in omega (arith, few, least, later)))
+
+    order : IsEarly part.order
+    order = ⊎_elim
+        (λ (first : part.order ≡ first_stamp). let view : part.order.view.0 ≡ 0 = ap (λ (z : Stamp). z.view.0) first in omega (arith, view))
+        (λ (of : part.order.view.0 ≡ e). omega (arith, of)) is.order
+
+    newest : (z : Option Version) → newest_of part.log ≡ z → IsEarly (top_of part)
+    newest None none = subst IsEarly (sym (top_is_order part none)) order
+    newest (Some version) some =
+        let stands = newest_stands part.log version some in
+        let of : view_of version.stamp ≡ e = is.log stands.0 version stands.1 in
+        subst IsEarly (sym (top_is part version some))
+        (cond_both (stamp_below part.order version.stamp) version.stamp part.order IsEarly (λ below. omega (arith, of)) (λ isnt. order))
 
 -- a step keeps a brick's views, and sends packets of theirs
 pub record StepViews (layout : Layout) (step : NodeStep) : Type 0 where

@@ -159,6 +159,25 @@ keeps_same node next same = record {
   ascends = λ g e s ascends. subst (λ (r : ℕ → ℕ → ℕ → Replica). LogAscends (r g e s).log) (sym same.2) ascends;
 }
 
+-- and so on to one that keeps its places as they are then
+pub keeps_places : (node next later : Node) → KeepsParts node next → KeepsPlaces next later → KeepsParts node later
+keeps_places node next later keeps same = record {
+  views = λ g. subst (λ (l : ℕ → Learnt). view_at node g ≤ (l g).view.number.0) (sym same.0) (keeps.views g);
+  tops = λ g s. subst (λ (t : Stamp). stamp_below t (top_at node g s) ≡ false) (sym (top_same next later same g s)) (keeps.tops g s);
+  firsts = λ g. subst (λ (l : ℕ → Learnt). first_kept (node.learnt g) ≤ first_kept (l g)) (sym same.0) (keeps.firsts g);
+  orders = λ g e s.
+      moved (λ l r. first_kept (l g) ≤ e → (node.replicas g e s).order.time ≤ (r g e s).order.time) (keeps.orders g e s);
+  kept = λ g e s t. moved (λ l r. first_kept (l g) ≤ e → IsKept t (node.replicas g e s).log → IsKept t (r g e s).log) (keeps.kept g e s t);
+  newer = λ g e s t. moved (λ l r. first_kept (l g) ≤ e → is_held t (r g e s).log ≡ true
+      → (is_held t (node.replicas g e s).log ≡ true) ⊎ (stamp_below t (top_at node g s) ≡ false)) (keeps.newer g e s t);
+  again = λ g e s t. moved (λ l r. e < first_kept (l g) → is_held t (r g e s).log ≡ true
+      → (is_held t (node.replicas g e s).log ≡ true) ⊎ (t ≡ first_stamp)) (keeps.again g e s t);
+  ascends = λ g e s. moved (λ l r. LogAscends (node.replicas g e s).log → LogAscends (r g e s).log) (keeps.ascends g e s);
+}
+  where
+    moved : (P : (ℕ → Learnt) → (ℕ → ℕ → ℕ → Replica) → Type 0) → P next.learnt next.replicas → P later.learnt later.replicas
+    moved P is = subst (λ (l : ℕ → Learnt). P l later.replicas) (sym same.0) (subst (λ (r : ℕ → ℕ → ℕ → Replica). P next.learnt r) (sym same.2) is)
+
 -- where one brick changes, and keeps its parts as they are, all parts are as they were
 pub part_same : (w next : World) (me : ℕ) (node : Node) → next.nodes ≡ put w.nodes me node → node.replicas ≡ (w.nodes me).replicas → (g e s i : ℕ)
     → part_in next g e s i ≡ part_in w g e s i
@@ -421,11 +440,12 @@ phase_asked setting w me c packets is seat member at =
     subst (λ (j : ℕ). WasSent w (record { from = me; to = member; message = Message.Request c.call (request_of setting.code c j) })) place
     (sent.0, subst (λ (l : List Packet). slice_get l sent.0 ≡ Some packet) (sym is) sent.1)
 
--- a world that sends again what was sent, and whose clocks and counted replies are other, says what was said
+-- a world that sends again what was sent, and what says what it should, and whose clocks and counted replies are other, says what was said
 pub said_added : (setting : Setting) (views : Views) (w : World) (stamps : Stamping) (clocks : ℕ → ℕ) (replies : ℕ → ℕ → List Counted) (reached : ℕ → Bool)
     (packets : List Packet) (choices : Choices)
     → Books setting w → Said setting views w stamps → ((packet : Packet) → WasSent w packet → WasSent (record w { packets = packets }) packet)
-    → ((packet : Packet) → WasSent (record w { packets = packets }) packet → WasSent w packet)
+    → ((packet : Packet) → WasSent (record w { packets = packets }) packet → WasSent w packet
+    ⊎ PacketSays setting views (record w { clocks = clocks; packets = packets; replies = replies; reached = reached; choices = choices }) stamps packet)
     → Said setting views (record w { clocks = clocks; packets = packets; replies = replies; reached = reached; choices = choices }) stamps
 said_added setting views w stamps clocks replies reached packets choices books said kept old =
     let next : World = record w { clocks = clocks; packets = packets; replies = replies; reached = reached; choices = choices } in
@@ -444,20 +464,22 @@ said_added setting views w stamps clocks replies reached packets choices books s
       tops = λ g e s i. inl refl;
       logs = λ g e s i k version is. inl (k, is);
       lowest = λ g e s i x log within is. inl (log, is);
-      packets = λ k packet is.
-          let was = old packet (k, is) in
-          inr (stays_packet setting views w next stamps stamps books grows packet (said.packets was.0 packet was.1));
+      packets = λ k packet is. inr (⊎_elim
+          (λ (was : WasSent w packet). stays_packet setting views w next stamps stamps books grows packet (said.packets was.0 packet was.1))
+          (λ (new : PacketSays setting views next stamps packet). new)
+          (old packet (k, is)));
       operations = λ n o is. inl is;
       calls = λ i k c is. inl (is, refl, (λ p. refl));
       ends = λ k p n answer is. inl is;
       order = said.order;
     })
 
--- other clocks, other replies that count, and other messages that were delivered, change nothing of what is said
+-- other clocks, other replies that count, other messages that were delivered, and other choices change nothing of what is said
 pub said_beside : (setting : Setting) (views : Views) (w : World) (stamps : Stamping) (clocks : ℕ → ℕ) (replies : ℕ → ℕ → List Counted) (reached : ℕ → Bool)
-    → Books setting w → Said setting views w stamps → Said setting views (record w { clocks = clocks; replies = replies; reached = reached }) stamps
-said_beside setting views w stamps clocks replies reached books said =
-    said_added setting views w stamps clocks replies reached w.packets w.choices books said (λ packet sent. sent) (λ packet sent. sent)
+    (choices : Choices) → Books setting w → Said setting views w stamps
+    → Said setting views (record w { clocks = clocks; replies = replies; reached = reached; choices = choices }) stamps
+said_beside setting views w stamps clocks replies reached choices books said =
+    said_added setting views w stamps clocks replies reached w.packets choices books said (λ packet sent. sent) (λ packet sent. inl sent)
 
 -- a brick that has no operation open any more, as it stopped or was started again, changes nothing of what is said, where no operation's
 -- last position comes forward
