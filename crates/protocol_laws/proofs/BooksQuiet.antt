@@ -55,14 +55,14 @@ books_quiet setting w nodes held clocks packets replies reached choices books ke
       boots = λ i. (let e : (nodes i).boot ≡ (w.nodes i).boot = (keeps i).boot in omega (arith, books.boots i));
       all_begun = books.all_begun;
       operations = λ n o is. (let mine : OperationBooks setting w n o = books.operations n o is in
-          let seqs : (nodes o.brick.0).seq ≡ (w.nodes o.brick.0).seq = (keeps o.brick.0).seq in
+          let seqs : (w.nodes o.brick.0).seq ≤ (nodes o.brick.0).seq = (keeps o.brick.0).seq in
           operation_kept setting w later n o mine (omega arith) refl (keeps o.brick.0).boot (omega arith) (Stays-refl (life_of w.marks n))
           (λ boot c call. (c, calls o.brick.0 o.seq ∙ call)));
       calls = λ i k c is. call_kept setting w later i k c (books.calls i k c (sym (calls i k) ∙ is)) refl (keeps i).boot
           (ap (λ (b : ℕ). w.numbers i b k) (keeps i).boot) refl (keeps i).known
           (Stays-refl (life_of w.marks (number_of w i k)))
           (λ o at. ((books.operations (number_of w i k) o at).life, (books.operations (number_of w i k) o at).life_is));
-      fresh_calls = λ i k lt. (let seqs : (nodes i).seq ≡ (w.nodes i).seq = (keeps i).seq in
+      fresh_calls = λ i k lt. (let seqs : (w.nodes i).seq ≤ (nodes i).seq = (keeps i).seq in
           calls i k ∙ books.fresh_calls i k (omega arith));
       lives = books.lives;
     }

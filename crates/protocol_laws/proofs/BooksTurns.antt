@@ -150,7 +150,7 @@ module _ (setting : Setting) (w : World) (i k : ℕ) (c d : Coordinator) (before
             let now : (nodes o.brick.0).boot ≡ (w.nodes o.brick.0).boot = (turned.keeps o.brick.0).boot in
             (omega (arith, own.booted.0), omega (arith, own.booted.1)));
         called = (let old : (w.nodes before.brick.0).seq ≡ (w.nodes o.brick.0).seq = ap (λ b. (w.nodes b.0).seq) (sym brick) in
-            let now : (nodes o.brick.0).seq ≡ (w.nodes o.brick.0).seq = (turned.keeps o.brick.0).seq in (
+            let now : (w.nodes o.brick.0).seq ≤ (nodes o.brick.0).seq = (turned.keeps o.brick.0).seq in (
               omega (arith, own.called.0),
               λ present.
                   (let least : before.seq ≤ (w.nodes before.brick.0).seq = own.called.1 (sym boot ∙ present ∙ (turned.keeps o.brick.0).boot
@@ -198,7 +198,7 @@ module _ (setting : Setting) (w : World) (i k : ℕ) (c d : Coordinator) (before
         (λ (other : n ≢ number_of w i k).
         let old : IsOperation w n x = sym (turned.other_operations n other) ∙ is in
         let mine : OperationBooks setting w n x = books.operations n x old in
-        let seqs : (nodes x.brick.0).seq ≡ (w.nodes x.brick.0).seq = (turned.keeps x.brick.0).seq in
+        let seqs : (w.nodes x.brick.0).seq ≤ (nodes x.brick.0).seq = (turned.keeps x.brick.0).seq in
         operation_kept setting w later n x mine (omega arith) refl (turned.keeps x.brick.0).boot (omega arith) (Stays-refl (life_of w.marks n))
         (λ present e was. (e, turned.other_calls x.brick.0 x.seq (λ at seq. other (number_at setting w n x mine present i k at seq)) ∙ was)))
         (cases_eq n (number_of w i k));
@@ -218,7 +218,7 @@ module _ (setting : Setting) (w : World) (i k : ℕ) (c d : Coordinator) (before
         (λ x at. ((books.operations (number_of w j l) x at).life, (books.operations (number_of w j l) x at).life_is)))
         (cases_call i k j l);
     fresh_calls = λ j l lt.
-        (let seqs : (nodes j).seq ≡ (w.nodes j).seq = (turned.keeps j).seq in
+        (let seqs : (w.nodes j).seq ≤ (nodes j).seq = (turned.keeps j).seq in
         let fresh : (w.nodes j).calls l ≡ None = books.fresh_calls j l (omega arith) in
         turned.other_calls j l (λ at seq. (let mine : (w.nodes i).calls k ≡ None =
         subst (λ (x : ℕ). (w.nodes x).calls k ≡ None) at (subst (λ (y : ℕ). (w.nodes j).calls y ≡ None) seq fresh) in

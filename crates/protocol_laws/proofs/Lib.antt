@@ -20,6 +20,7 @@ pub mod FirstViews
 pub mod FirstWorlds
 pub mod Growth
 pub mod Guards
+pub mod Hearing
 pub mod Left
 pub mod Logs
 pub mod MarkNumbers
@@ -35,6 +36,7 @@ pub mod Replies
 pub mod Requests
 pub mod Said
 pub mod SaidAlways
+pub mod SaidQuiet
 pub mod Sendings
 pub mod Sends
 pub mod Sorting

@@ -22,13 +22,15 @@ use Rattle.protocol.specs.declared.phases.Counted.{Counted}
 use Rattle.protocol.specs.declared.phases.Phase.{Phase}
 use Rattle.protocol.specs.declared.phases.Phase.TheVariants.{Looks, LooksAt, Orders, OrdersAt, Recovers, Descends, Modifies, Bases, Stores}
 use Rattle.protocol.specs.Coordinators.{Coordinator, next_phase, has_seat, request_of}
-use Rattle.protocol.specs.Nodes.{Node, with_known, with_call, phase_packets, given_content, resent_to, resent, resent_up_to, ticked}
+use Rattle.protocol.specs.Nodes.{Node, with_known, with_call, phase_packets, given_content, resent_to, resent, resent_up_to, view_in, ballot_resent, ticked}
 use Rattle.protocol.specs.Worlds.{World, Operation, number_of}
 use Rattle.protocol_laws.specs.Laws.{WasSent, IsGuarded}
 use Rattle.protocol_laws.proofs.Books.{Books, CallBooks, IsOperation, IsCall}
 use Rattle.protocol_laws.proofs.Said.{Begun, Stamping, Said, IsSaid, IsBegun, AreBlocked, IsStampOf, IsCalled, FitsPhase, RequestSays, PacketSays, CallSays, OrderReadSays, DescendsFrom, base_in, look_of, want_of, is_looked, IsMadeOrFirst, MadeOn, WriteSays}
 use Rattle.protocol_laws.proofs.Logs.{below_above}
-use Rattle.protocol.proofs.Tables.{put_each, put_same, get_grown, sent_to_member}
+use Rattle.protocol.proofs.Tables.{put_each, put_same, sent_to_member}
+use Rattle.protocol.proofs.Packets.{OfEach, each_none, each_both, each_teaching, each_ballot_resent}
+use Rattle.protocol.specs.Proposals.{Proposal, ballot_request}
 use Rattle.protocol_laws.proofs.Stampings.{ComesFrom, StampsGrow, Ages, ages_within, with_stamp, stamp_now, stamps_other, stamp_last, stamps_grow, stamps_say}
 use Rattle.protocol_laws.proofs.Growth.{Grows, stays_guarded, stays_made, stays_made_on, stay_blocked}
 use Rattle.protocol_laws.proofs.Steps.{KeepsStamps, keeps_same, ages_by, phase_asked, quiet, quiet_grows, said_quiet}
@@ -339,12 +341,15 @@ resent_to_member me call request counted seat (member ∷ members) k packet is =
     (λ j. resent_to_member me call request counted (seat + 1) members j packet) at)
     is
 
-module _ (setting : Setting) (views : Views) (w : World) (stamps : Stamping) (me : BrickId) (said : Said setting views w stamps) where
+module _ (setting : Setting) (views : Views) (w next : World) (stamps : Stamping) (me : BrickId) (said : Said setting views w stamps) where
+  -- a packet was sent, or says what it should
+  abbrev SentOrSays : Packet → Type 0
+  SentOrSays packet = WasSent w packet ⊎ PacketSays setting views next stamps packet
+
   -- what an open operation sends again was sent
-  call_resent : (k : ℕ) (z : Option Coordinator) → (w.nodes me.0).calls k ≡ z → (j : ℕ) (packet : Packet)
-      → slice_get (resent setting me z) j ≡ Some packet → WasSent w packet
-  call_resent k None none j packet at = cc
-  call_resent k (Some c) is j packet at =
+  resent_was_sent : (k : ℕ) (c : Coordinator) → (w.nodes me.0).calls k ≡ Some c
+      → OfEach (WasSent w) (resent_to me c.call (request_of setting.code c) c.counted 0 c.group.members)
+  resent_was_sent k c is j packet at =
       let found = resent_to_member me c.call (request_of setting.code c) c.counted 0 c.group.members j packet at in
       let place : 0 + found.0 ≡ found.0 = omega arith in
       subst (λ (z : Packet). WasSent w z) (sym found.3)
@@ -352,15 +357,31 @@ module _ (setting : Setting) (views : Views) (w : World) (stamps : Stamping) (me
       (sym place)
       ((said.calls me.0 k c is).asked found.0 found.1 found.2))
 
-  calls_resent : (k j : ℕ) (packet : Packet) → slice_get (resent_up_to setting me (w.nodes me.0).calls k) j ≡ Some packet → WasSent w packet
-  calls_resent zero j packet at = cc
-  calls_resent (suc k) j packet at = ⊎_elim
-      (λ (old : slice_get (resent_up_to setting me (w.nodes me.0).calls k) j ≡ Some packet). calls_resent k j packet old)
-      (λ (new : (i : ℕ) × (slice_get (resent setting me ((w.nodes me.0).calls (suc k))) i ≡ Some packet)).
-      call_resent (suc k) ((w.nodes me.0).calls (suc k)) refl new.0 packet new.1)
-      (get_grown (resent_up_to setting me (w.nodes me.0).calls k) (resent setting me ((w.nodes me.0).calls (suc k))) j packet at)
+  call_resent : (k : ℕ) (z : Option Coordinator) → (w.nodes me.0).calls k ≡ z → OfEach SentOrSays (resent setting me z)
+  call_resent k None none = each_none SentOrSays
+  call_resent k (Some c) is =
+      each_teaching SentOrSays c.call.group (view_in c) (λ later from to. inr tt)
+      (resent_to me c.call (request_of setting.code c) c.counted 0 c.group.members) (λ j packet at. inl (resent_was_sent k c is j packet at))
 
-  -- so is all that a tick of its clock sends
-  pub ticked_was_sent : (j : ℕ) (packet : Packet) → slice_get (ticked setting me (w.nodes me.0)) j ≡ Some packet → WasSent w packet
+  calls_resent : (k : ℕ) → OfEach SentOrSays (resent_up_to setting me (w.nodes me.0).calls k)
+  calls_resent zero = each_none SentOrSays
+  calls_resent (suc k) =
+      each_both SentOrSays (resent_up_to setting me (w.nodes me.0).calls k) (resent setting me ((w.nodes me.0).calls (suc k))) (calls_resent k)
+      (call_resent (suc k) ((w.nodes me.0).calls (suc k)) refl)
+
+  -- so is all that a tick of its clock sends, but for what is of views and of proposals
+  pub ticked_was_sent : OfEach SentOrSays (ticked setting me (w.nodes me.0))
   unfolding ticked
-  ticked_was_sent j packet at = calls_resent (w.nodes me.0).seq j packet at
+  ticked_was_sent =
+      each_both SentOrSays (resent_up_to setting me (w.nodes me.0).calls (w.nodes me.0).seq) (ballot_resent me (w.nodes me.0).proposal)
+      (calls_resent (w.nodes me.0).seq)
+      (each_ballot_resent SentOrSays me (w.nodes me.0).proposal (λ p is to. inr (ballot_says p to)) (λ p is later from to. inr tt))
+    where
+      ballot_says : (p : Proposal) (to : BrickId)
+          → PacketSays setting views next stamps (record { from = me; to = to; message = Message.Request p.call (ballot_request p) })
+      ballot_says p to = of p.asks
+        where
+          of : (asks : Option (List BrickId)) → PacketSays setting views next stamps
+              (record { from = me; to = to; message = Message.Request p.call (ballot_request (record p { asks = asks })) })
+          of None = tt
+          of (Some members) = tt
