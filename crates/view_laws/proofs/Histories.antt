@@ -117,7 +117,7 @@ ballot_called packets i boot seq = first_told (λ packet. called_by i boot seq p
 
 -- ---- what is said
 
--- A view was decided to follow another that is known: a quorum of that one's members accepted its list.
+-- A view was decided to follow another that is known: a quorum of that one's members accepted its list, which may keep the group.
 pub record IsDecided (layout : Layout) (v : ViewWorld) (g : ℕ) (view : View) : Type 0 where
   pub before : View
   pub named : IsNamed layout v.packets g before
@@ -127,6 +127,7 @@ pub record IsDecided (layout : Layout) (v : ViewWorld) (g : ℕ) (view : View) :
   pub group_is : group_kept layout before.members g ≡ Some group
   pub ballot : Ballot
   pub chosen : IsChosen (length group.members) (quorum_of group) (seated group (history v g before.number.0)) ballot view.members
+  pub fits : (base : Group) → group_of layout g ≡ Some base → is_membership base.m layout.bricks view.members ≡ true
 
 -- a view is taught: it is known by its number, and it was decided
 abbrev pub IsTaught : Layout → ViewWorld → ℕ → View → Type 0
@@ -192,6 +193,7 @@ decided_stays layout v next g view extends was = record {
   chosen = chosen_stays (length was.group.members) (quorum_of was.group) (seated was.group (history v g was.before.number.0))
       (seated was.group (history next g was.before.number.0)) was.ballot view.members
       (seated_grows was.group (history v g was.before.number.0) (history next g was.before.number.0) (extends.grows g was.before.number.0)) was.chosen;
+  fits = was.fits;
 }
 
 -- what was taught stays so

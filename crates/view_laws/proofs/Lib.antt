@@ -1,7 +1,10 @@
 pub mod Agreeing
+pub mod CallSteps
+pub mod Calling
+pub mod Deciding
+pub mod Drafting
 pub mod FirstTold
 pub mod Histories
 pub mod Owning
-pub mod Calling
+pub mod Voices
 pub mod Votings
-pub mod CallSteps
