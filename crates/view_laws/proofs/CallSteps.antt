@@ -23,9 +23,11 @@ use Rattle.protocol.specs.declared.phases.Phase.TheVariants.{Looks, LooksAt, Ord
 use Rattle.protocol.specs.declared.tellings.ViewAnswer.{ViewAnswer}
 use Rattle.protocol.specs.declared.tellings.ViewAnswer.TheVariants as answer
 use Rattle.protocol.specs.Settings.{Setting, Code}
-use Rattle.protocol.specs.Proposals.{Proposal, Voting, Ignored, Waited, Asks, Ended, ballot_request, ballot_packets, round_after, voted}
+use Rattle.synod_laws.specs.Synods.{value_or}
+use Rattle.protocol.specs.Replicas.{handle}
+use Rattle.protocol.specs.Proposals.{Proposal, Voting, Ignored, Waited, Asks, Ended, ballot_request, ballot_packets, round_after, with_voice, asking, greatest_choice, voted}
 use Rattle.protocol.specs.Coordinators.{Coordinator, Next, Ignores, Waits, Sends, Makes, Ends, request_of, on_reply}
-use Rattle.protocol.specs.Nodes.{Node, NodeStep, put, no_step, sending, with_known, with_round, known_after, phase_packets, collect_packets, invoked, began, group_at, new_coordinator, fresh_stamp, requested, carried_out, learn_packets, ended_packets, carried_ballot, replied_ballot, replied_at, view_counted, replied, lists_fit, heard, received, absorbed, ticked, resent_up_to, ballot_resent, proposed, proposed_in, new_proposal, proposing, stopped, restarted, may_open}
+use Rattle.protocol.specs.Nodes.{Node, NodeStep, put, no_step, sending, with_known, with_round, known_after, phase_packets, collect_packets, invoked, began, group_at, new_coordinator, fresh_stamp, requested, full_at, replica_at, vote_at, carried_out, learn_packets, ended_packets, carried_ballot, replied_ballot, replied_at, view_counted, replied, lists_fit, heard, received, absorbed, ticked, resent_up_to, ballot_resent, proposed, proposed_in, new_proposal, proposing, stopped, restarted, may_open}
 use Rattle.protocol.specs.Worlds.{World, Event, Before, After, first_world, is_up, may_start, packet_during, left_after, world_told, world_answered, world_stepped, world_found, world_started, run}
 use Rattle.protocol.proofs.Events.{EventCases, step_on, world_counting, always, started_each, stepped_each}
 use Rattle.protocol.proofs.Packets.{OfEach, each_none, each_both, each_member, each_collect, each_reply, each_learn, each_ticked, each_ballot, each_ballot_resent}
@@ -114,8 +116,11 @@ requested_calls setting me from node call request =
     request_each (λ (step : NodeStep). StepCalls me.0 node step.node step.packets) setting me from node call request
     (still_calls me.0 node node [] refl (omega arith) (omega arith) refl (each_none NamesNone))
     (λ reply is. still_calls me.0 node node _ refl (omega arith) (omega arith) refl (each_reply NamesNone me from call (Some reply) (λ r same. tt)))
-    (λ group seat is served. still_calls me.0 node _ _ refl (omega arith) (omega arith) refl (each_reply NamesNone me from call _ (λ r same. tt)))
-    (λ group ballot asks is. still_calls me.0 node _ _ refl (omega arith) (omega arith) refl (each_reply NamesNone me from call _ (λ r same. tt)))
+    (λ group seat is served. still_calls me.0 node _ _ refl (omega arith) (omega arith) refl
+    (each_reply NamesNone me from call (handle setting.code group.m (full_at setting.layout.records node.live) seat (replica_at node call) request).reply
+    (λ r same. tt)))
+    (λ group ballot asks is. still_calls me.0 node _ _ refl (omega arith) (omega arith) refl
+    (each_reply NamesNone me from call (Some (vote_at node call ballot asks).reply) (λ r same. tt)))
 
 -- what a coordinator decided is carried out
 carried_calls : (setting : Setting) (me : BrickId) (node : Node) (known : ℕ) (c : Coordinator) (next : Next)
@@ -152,14 +157,20 @@ voted_calls layout me from node p call reply is =
       asks = λ seat counts enough free none. record {
         rises = inr (refl, omega arith, omega arith);
         drafts = λ q same. inl (old_draft q _ (same_Some _ q same) refl refl refl);
-        packets = each_ballot (λ (packet : Packet). OfBallots (IsOfDraft me.0 _ packet.from.0) packet.message) me _
-            (λ to. phase_names (IsOfDraft me.0 _ me.0) _ _ (record { from_is = refl; draft = _; is = refl; boot = refl; seq = refl; ballot = refl }));
+        packets = sends_draft (asking (with_voice p seat from reply) (value_or p.own (greatest_choice (with_voice p seat from reply).counted)));
       };
       decides = λ seat members counts enough free some.
           ends_calls me.0 node _ _ refl (omega arith) (omega arith) refl (ended_none layout me p (answer.Decided _ members));
       refuses = λ seat refused counts enough some. ends_calls me.0 node _ _ refl (omega arith) (omega arith) refl (ended_none layout me p refused);
     })
   where
+    sends_draft : (q : Proposal) → OfEach (λ (packet : Packet). OfBallots (IsOfDraft me.0 (record node { proposal = Some q }) packet.from.0) packet.message)
+        (ballot_packets me q)
+    sends_draft q =
+        each_ballot (λ (packet : Packet). OfBallots (IsOfDraft me.0 (record node { proposal = Some q }) packet.from.0) packet.message) me q
+        (λ to. phase_names (IsOfDraft me.0 (record node { proposal = Some q }) me.0) q.call q
+        (record { from_is = refl; draft = q; is = refl; boot = refl; seq = refl; ballot = refl }))
+
     old_draft : (q r : Proposal) → r ≡ q → r.call.boot ≡ p.call.boot → r.call.seq ≡ p.call.seq → r.ballot ≡ p.ballot
         → IsOldDraft node (record node { proposal = Some r }) q
     old_draft q r same boot seq ballot = record {

@@ -8,3 +8,4 @@ pub mod Histories
 pub mod Owning
 pub mod Voices
 pub mod Votings
+pub mod Requesting

@@ -176,38 +176,38 @@ unrefused counted none =
 -- a reply that answers a phase that prepares, and is no refusal, is a promise
 pub promise_of : (m bricks seat : ℕ) (brick : BrickId) (r : Reply) → answers_ballot m bricks None r ≡ true
     → IsUnrefusing (record { seat = seat; brick = brick; reply = r }) → (accepted : Option Choice) × (r ≡ reply.Promise accepted)
-promise_of m bricks seat brick (reply.Promise accepted) answers no = (accepted, refl)
-promise_of m bricks seat brick (reply.Moved view lineage) answers no = absurd (let never : Some view ≡ None = no.0 in cc)
-promise_of m bricks seat brick (reply.Outbid ballot) answers no = absurd (let never : Some ballot ≡ None = no.2 in cc)
-promise_of m bricks seat brick reply.NotSynced answers no = absurd (let never : Some brick ≡ None = no.1 in cc)
-promise_of m bricks seat brick reply.Accepted answers no = cc
-promise_of m bricks seat brick (reply.Found order newest) answers no = cc
-promise_of m bricks seat brick reply.Ordered answers no = cc
-promise_of m bricks seat brick (reply.OrderedRead found) answers no = cc
-promise_of m bricks seat brick reply.Stored answers no = cc
-promise_of m bricks seat brick (reply.Behind newest) answers no = cc
-promise_of m bricks seat brick (reply.Later stamp) answers no = cc
-promise_of m bricks seat brick (reply.Full live) answers no = cc
-promise_of m bricks seat brick (reply.Old found) answers no = cc
-promise_of m bricks seat brick reply.Retired answers no = cc
+promise_of m bricks seat brick (reply.Promise accepted) answers unrefusing = (accepted, refl)
+promise_of m bricks seat brick (reply.Moved view lineage) answers unrefusing = absurd (let never : Some view ≡ None = unrefusing.0 in cc)
+promise_of m bricks seat brick (reply.Outbid ballot) answers unrefusing = absurd (let never : Some ballot ≡ None = unrefusing.2 in cc)
+promise_of m bricks seat brick reply.NotSynced answers unrefusing = absurd (let never : Some brick ≡ None = unrefusing.1 in cc)
+promise_of m bricks seat brick reply.Accepted answers unrefusing = cc
+promise_of m bricks seat brick (reply.Found order newest) answers unrefusing = cc
+promise_of m bricks seat brick reply.Ordered answers unrefusing = cc
+promise_of m bricks seat brick (reply.OrderedRead found) answers unrefusing = cc
+promise_of m bricks seat brick reply.Stored answers unrefusing = cc
+promise_of m bricks seat brick (reply.Behind newest) answers unrefusing = cc
+promise_of m bricks seat brick (reply.Later stamp) answers unrefusing = cc
+promise_of m bricks seat brick (reply.Full live) answers unrefusing = cc
+promise_of m bricks seat brick (reply.Old found) answers unrefusing = cc
+promise_of m bricks seat brick reply.Retired answers unrefusing = cc
 
 -- one that answers a phase that asks for a list is an acceptance
 pub acceptance_of : (m bricks seat : ℕ) (brick : BrickId) (members : List BrickId) (r : Reply) → answers_ballot m bricks (Some members) r ≡ true
     → IsUnrefusing (record { seat = seat; brick = brick; reply = r }) → r ≡ reply.Accepted
-acceptance_of m bricks seat brick members reply.Accepted answers no = refl
-acceptance_of m bricks seat brick members (reply.Moved view lineage) answers no = absurd (let never : Some view ≡ None = no.0 in cc)
-acceptance_of m bricks seat brick members (reply.Outbid ballot) answers no = absurd (let never : Some ballot ≡ None = no.2 in cc)
-acceptance_of m bricks seat brick members reply.NotSynced answers no = absurd (let never : Some brick ≡ None = no.1 in cc)
-acceptance_of m bricks seat brick members (reply.Promise accepted) answers no = cc
-acceptance_of m bricks seat brick members (reply.Found order newest) answers no = cc
-acceptance_of m bricks seat brick members reply.Ordered answers no = cc
-acceptance_of m bricks seat brick members (reply.OrderedRead found) answers no = cc
-acceptance_of m bricks seat brick members reply.Stored answers no = cc
-acceptance_of m bricks seat brick members (reply.Behind newest) answers no = cc
-acceptance_of m bricks seat brick members (reply.Later stamp) answers no = cc
-acceptance_of m bricks seat brick members (reply.Full live) answers no = cc
-acceptance_of m bricks seat brick members (reply.Old found) answers no = cc
-acceptance_of m bricks seat brick members reply.Retired answers no = cc
+acceptance_of m bricks seat brick members reply.Accepted answers unrefusing = refl
+acceptance_of m bricks seat brick members (reply.Moved view lineage) answers unrefusing = absurd (let never : Some view ≡ None = unrefusing.0 in cc)
+acceptance_of m bricks seat brick members (reply.Outbid ballot) answers unrefusing = absurd (let never : Some ballot ≡ None = unrefusing.2 in cc)
+acceptance_of m bricks seat brick members reply.NotSynced answers unrefusing = absurd (let never : Some brick ≡ None = unrefusing.1 in cc)
+acceptance_of m bricks seat brick members (reply.Promise accepted) answers unrefusing = cc
+acceptance_of m bricks seat brick members (reply.Found order newest) answers unrefusing = cc
+acceptance_of m bricks seat brick members reply.Ordered answers unrefusing = cc
+acceptance_of m bricks seat brick members (reply.OrderedRead found) answers unrefusing = cc
+acceptance_of m bricks seat brick members reply.Stored answers unrefusing = cc
+acceptance_of m bricks seat brick members (reply.Behind newest) answers unrefusing = cc
+acceptance_of m bricks seat brick members (reply.Later stamp) answers unrefusing = cc
+acceptance_of m bricks seat brick members (reply.Full live) answers unrefusing = cc
+acceptance_of m bricks seat brick members (reply.Old found) answers unrefusing = cc
+acceptance_of m bricks seat brick members reply.Retired answers unrefusing = cc
 
 -- ---- where one refuses
 
