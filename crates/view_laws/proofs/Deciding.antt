@@ -194,7 +194,7 @@ module _ (layout : Layout) (limits : HasLimits layout) (v : ViewWorld) (agreed :
     group_is = group_named_is;
     safe = safe_replies (length group.members) (quorum_of group) (seated group (history v g e)) q.ballot q.own (promises q.counted) majority
         (says.unasked prepares) agrees says.distinct
-        (let same = length-map q.counted (λ (c : Counted). (c.seat, told_choice c.reply)) in omega (arith, same, many))
+        (let same = length-map {B = ℕ × Option (Ballot × List BrickId)} q.counted (λ (c : Counted). (c.seat, told_choice c.reply)) in omega (arith, same, many))
         (All-map (λ (told : ℕ × Option (Ballot × List BrickId)). SaysPromise (seated group (history v g e)) told.0 q.ballot told.1)
         (λ (c : Counted). (c.seat, told_choice c.reply)) q.counted
         (All-from_recursion (λ (c : Counted). SaysPromise (seated group (history v g e)) c.seat q.ballot (told_choice c.reply)) q.counted
@@ -224,7 +224,7 @@ module _ (layout : Layout) (limits : HasLimits layout) (v : ViewWorld) (agreed :
   asked_chosen members asks =
       chosen_by (length group.members) (quorum_of group) (seated group (history v g e)) q.ballot members (seats_of (promises q.counted)) says.distinct
       (let same = length-map (promises q.counted) (λ (told : ℕ × Option (Ballot × List BrickId)). told.0) in
-      let more = length-map q.counted (λ (c : Counted). (c.seat, told_choice c.reply)) in omega (arith, same, more, many))
+      let more = length-map {B = ℕ × Option (Ballot × List BrickId)} q.counted (λ (c : Counted). (c.seat, told_choice c.reply)) in omega (arith, same, more, many))
       (All-map (λ (k : ℕ). (seated group (history v g e)).votes k q.ballot ≡ Some members) (λ (told : ℕ × Option (Ballot × List BrickId)). told.0)
       (promises q.counted)
       (All-map (λ (told : ℕ × Option (Ballot × List BrickId)). (seated group (history v g e)).votes told.0 q.ballot ≡ Some members)

@@ -9,3 +9,4 @@ pub mod Owning
 pub mod Voices
 pub mod Votings
 pub mod Requesting
+pub mod Replying
