@@ -164,7 +164,7 @@ noted row (Some (c, members)) known b =
 -- ---- a turn
 
 -- the list that a brick accepts was proposed so
-pub vote_proposed : (layout : Layout) (v : ViewWorld) → Agreed layout v → (node next : Node) (g : ℕ) (x : VotesAt layout v.packets node next g)
+vote_proposed : (layout : Layout) (v : ViewWorld) → Agreed layout v → (node next : Node) (g : ℕ) (x : VotesAt layout v.packets node next g)
     → (members : List BrickId) → x.asks ≡ Some members → (history v g (view_at node g)).proposals x.ballot ≡ Some members
 vote_proposed layout v agreed node next g x members some =
     subst (λ (h : ℕ). (history v h (view_at node g)).proposals x.ballot ≡ Some members) x.group

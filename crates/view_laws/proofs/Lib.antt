@@ -10,3 +10,4 @@ pub mod Voices
 pub mod Votings
 pub mod Requesting
 pub mod Replying
+pub mod Beginning

@@ -10,7 +10,7 @@ use Rattle.fab_base.specs.declared.identities.ViewNo.{ViewNo}
 use Rattle.fab_base.specs.declared.member_lists.View.{View}
 use Rattle.fab_base.specs.declared.stamps.Ballot.{Ballot}
 use Rattle.fab_base.specs.declared.stamps.Stamp.{Stamp}
-use Rattle.fab_base.specs.Layouts.{Layout, Group, group_of}
+use Rattle.fab_base.specs.Layouts.{Layout, Group, group_of, first_view}
 use Rattle.messages.specs.declared.calls.Call.{Call}
 use Rattle.messages.specs.declared.packets.Message.{Message}
 use Rattle.messages.specs.declared.packets.Packet.{Packet}
@@ -27,7 +27,7 @@ use Rattle.protocol.specs.declared.phases.Phase.TheVariants.{Looks, LooksAt, Ord
 use Rattle.protocol.specs.declared.tellings.ViewAnswer.{ViewAnswer}
 use Rattle.protocol.specs.declared.tellings.ViewAnswer.TheVariants as answer
 use Rattle.protocol.specs.Settings.{Setting, Code}
-use Rattle.protocol.specs.Views.{Learnt, view_told, learn_in, kept_by, group_kept}
+use Rattle.protocol.specs.Views.{Learnt, members_of, view_told, learn_in, kept_by, group_kept}
 use Rattle.protocol.specs.Proposals.{Proposal, Voting, Ignored, Waited, Asks, Ended, ballot_quorum, ballot_request, ballot_packets, seat_voting, with_voice, refused_by, greatest_choice, asking, voted}
 use Rattle.protocol.specs.Coordinators.{Coordinator, Next, Ignores, Waits, Sends, Makes, Ends, request_of, on_reply, has_seat}
 use Rattle.protocol.specs.Nodes.{Node, NodeStep, put, no_step, with_known, with_round, with_call, known_after, phase_packets, collect_packets, fresh_stamp, view_in, carried_out, resent_to, learn_packets, decided_view, ended_packets, carried_ballot, replied_ballot, replied_at, counts_here, view_counted, node_taught_by, replied, lists_fit, heard}
@@ -89,15 +89,15 @@ reply_turn layout v from to call said node mid agreed sent keeps counting =
 -- ---- packets
 
 -- a packet that owes nothing: it asks to accept no list, and says nothing
-record IsQuiet (layout : Layout) (packet : Packet) : Type 0 where
-  none : (g e : ℕ) (b : Ballot) (members : List BrickId) → accept_in g e b packet.message ≡ Some members → ⊥
-  says : (v : ViewWorld) → PacketSays layout v packet
+pub record IsQuiet (layout : Layout) (packet : Packet) : Type 0 where
+  pub none : (g e : ℕ) (b : Ballot) (members : List BrickId) → accept_in g e b packet.message ≡ Some members → ⊥
+  pub says : (v : ViewWorld) → PacketSays layout v packet
 
 -- requests that are equal ask the same, under the same call
 same_request : (call other : Call) (one two : Request) → Message.Request call one ≡ Message.Request other two → one ≡ two
 same_request call other one two is = cc
 
-same_accept : (call other : Call) (b c : Ballot) (one two : List BrickId)
+pub same_accept : (call other : Call) (b c : Ballot) (one two : List BrickId)
     → Message.Request call (Request.Accept b one) ≡ Message.Request other (Request.Accept c two) → (call ≡ other) × (b ≡ c) × (one ≡ two)
 same_accept call other b c one two is = (cc, cc, cc)
 
@@ -114,7 +114,7 @@ quiet_request layout from to call request never says = record {
 }
 
 -- one that names no ballot is such
-request_quiet : (layout : Layout) (from to : BrickId) (call : Call) (request : Request) → OfBallot (λ other b. ⊥) call request
+pub request_quiet : (layout : Layout) (from to : BrickId) (call : Call) (request : Request) → OfBallot (λ other b. ⊥) call request
     → IsQuiet layout (record { from = from; to = to; message = Message.Request call request })
 request_quiet layout from to call (Request.Read want) none = quiet_request layout from to call (Request.Read want) (λ b members is. cc) (λ v. tt)
 request_quiet layout from to call (Request.Order t) none = quiet_request layout from to call (Request.Order t) (λ b members is. cc) (λ v. tt)
@@ -159,7 +159,7 @@ named_later : (layout : Layout) (packets : List Packet) (g e : ℕ) → 1 < e
     → named_in layout packets g e ≡ first_told (λ packet. learn_in g e packet.message) packets
 named_later layout packets g e later =
     let above : nat_lt 1 e ≡ true = grind (arith, nat_tests, later) in
-    ap (λ (t : Bool). cond t (first_told (λ packet. learn_in g e packet.message) packets) _) above
+    ap (λ (t : Bool). cond t (first_told (λ packet. learn_in g e packet.message) packets) (cond (nat_eq e 1) (Some (first_view (members_of (group_of layout g)))) None)) above
 
 -- views with the same number, members and members before are the same
 view_of : ℕ → List BrickId → List BrickId → View
@@ -169,7 +169,7 @@ view_is : (a : View) → a ≡ view_of a.number.0 a.members a.prior
 unfolding view_of
 view_is a = refl
 
-view_from : (a b : View) → a.number.0 ≡ b.number.0 → a.members ≡ b.members → a.prior ≡ b.prior → a ≡ b
+pub view_from : (a b : View) → a.number.0 ≡ b.number.0 → a.members ≡ b.members → a.prior ≡ b.prior → a ≡ b
 view_from a b number members prior =
     view_is a ∙ (let e : view_of a.number.0 a.members a.prior ≡ view_of b.number.0 b.members b.prior = cc in e) ∙ sym (view_is b)
 

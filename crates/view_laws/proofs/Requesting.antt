@@ -34,7 +34,7 @@ use Rattle.protocol.proofs.Puts.{put_other}
 use Rattle.protocol.proofs.Tables.{put_same}
 use Rattle.view_laws.proofs.FirstTold.{first_stays}
 use Rattle.view_laws.proofs.Histories.{ViewWorld, IsSent, IsNamed, accept_in, ballot_called, history, PacketSays, ReplySays, IsTaught, Extends, taught_stays, known_taught, kept_is}
-use Rattle.view_laws.proofs.Agreeing.{Agreed, KeepsViews, StaysAt, VoteFits, vote_request, VotesAt, LearnsAt, Turn, turned, promise_says, accepted_says, vote_proposed, sending_more, sent_grows}
+use Rattle.view_laws.proofs.Agreeing.{Agreed, KeepsViews, StaysAt, VoteFits, vote_request, VotesAt, LearnsAt, Turn, turned, promise_says, accepted_says, sending_more, sent_grows}
 use Rattle.view_laws.proofs.Calling.{OfBallots, IsBallotOf, Called}
 use Rattle.view_laws.proofs.CallSteps.{put_back}
 use Rattle.view_laws.proofs.Owning.{learnt_own}
@@ -367,10 +367,9 @@ module _ (setting : Setting) (v : ViewWorld) (called : Called v.packets v.nodes)
   granted_says : (ballot : Ballot) (asks : Option (List BrickId)) (new : List Packet)
       → IsSent v.packets (record { from = from; to = me; message = Message.Request call (vote_request ballot asks) })
       → call.view.0 ≡ view_at node call.group.0 → is_promised_above (node.ballots call.group.0) ballot ≡ false
-      → VotesAt setting.layout v.packets node (granted ballot asks) call.group.0
       → ReplySays setting.layout (sending_more (turned v me.0 (granted ballot asks)) new) me.0 from.0 call
       (granting (node.ballots call.group.0) ballot asks).reply
-  granted_says ballot None new sent now free votes = (
+  granted_says ballot None new sent now free = (
     ballot,
     first_stays _ v.packets new ballot (vote_called ballot None sent),
     said_stays (history (turned v me.0 (granted ballot None)) call.group.0 call.view.0)
@@ -385,13 +384,13 @@ module _ (setting : Setting) (v : ViewWorld) (called : Called v.packets v.nodes)
         (promise_says setting.layout v me.0 (granted ballot None) agreed call.group.0 ballot free refl
         (put_same node.ballots call.group.0 (granting (node.ballots call.group.0) ballot None).kept)))),
   )
-  granted_says ballot (Some members) new sent now free votes = (
+  granted_says ballot (Some members) new sent now free = (
     ballot,
     members,
     first_stays _ v.packets new ballot (vote_called ballot (Some members) sent),
     ap (λ (e : ℕ). (turned v me.0 (granted ballot (Some members))).votes me.0 call.group.0 e ballot) now
         ∙ accepted_says setting.layout v me.0 (granted ballot (Some members)) agreed call.group.0 ballot members free
-        (vote_proposed setting.layout v agreed node (granted ballot (Some members)) call.group.0 votes members refl) refl
+        (subst (λ (e : ℕ). (history v call.group.0 e).proposals ballot ≡ Some members) now (agreed.says sent.0 _ sent.1)) refl
         (put_same node.ballots call.group.0 (granting (node.ballots call.group.0) ballot (Some members)).kept),
   )
 
@@ -416,7 +415,7 @@ module _ (setting : Setting) (v : ViewWorld) (called : Called v.packets v.nodes)
             (each_reply (PacketSays setting.layout (sending_more (turned v me.0 (granted ballot asks)) new)) me from call
             (Some (granting (node.ballots call.group.0) ballot asks).reply)
             (λ one is. subst (λ (z : Reply). ReplySays setting.layout (sending_more (turned v me.0 (granted ballot asks)) new) me.0 from.0 call z)
-            (same_Some (granting (node.ballots call.group.0) ballot asks).reply one is) (granted_says ballot asks new sent now free votes)));
+            (same_Some (granting (node.ballots call.group.0) ballot asks).reply one is) (granted_says ballot asks new sent now free)));
       }
 
   -- where it refuses
