@@ -64,9 +64,9 @@ invoked_says setting v agreed drafting me now ask = by (group_at setting.layout 
         let c : Coordinator = new_coordinator group me now node ask in
         let kept = kept_is setting.layout (node.learnt ask.group.0).view.members ask.group.0 group is in
         let view : view_in c ≡ (node.learnt ask.group.0).view
-            = view_from (view_in c) (node.learnt ask.group.0).view refl (ap (λ (z : Group). z.members) kept.2) refl in
+        = view_from (view_in c) (node.learnt ask.group.0).view refl (ap (λ (z : Group). z.members) kept.2) refl in
         let named : IsNamed setting.layout v.packets ask.group.0 (view_in c)
-            = subst (λ (z : View). IsNamed setting.layout v.packets ask.group.0 z) (sym view) (agreed.learnt me.0 ask.group.0) in
+        = subst (λ (z : View). IsNamed setting.layout v.packets ask.group.0 z) (sym view) (agreed.learnt me.0 ask.group.0) in
         quiet_step setting.layout v me.0 (opened node c) (phase_packets setting me c) agreed drafting
         (no_turn setting.layout v.packets node (opened node c) (refl, refl))
         (put_each (λ k (o : Option Coordinator). (d : Coordinator) → o ≡ Some d → IsNamed setting.layout v.packets d.call.group.0 (view_in d)) node.calls
@@ -111,12 +111,12 @@ proposed_says setting v called agreed drafting me group members = by (group_of s
         let new : List Packet = ballot_packets me p in
         let turn : Turn setting.layout v.packets node next = no_turn setting.layout v.packets node next (refl, refl) in
         let quiet : OfEach (IsQuiet setting.layout) new = each_ballot (IsQuiet setting.layout) me p
-            (λ to. record {
-              none = λ g e b named asks.
-                  let accept = accept_is g e b (Message.Request p.call (Request.Prepare p.ballot)) named asks in
-                  never_accept p.call accept.call p.ballot b named accept.is;
-              says = λ x. tt;
-            }) in
+        (λ to. record {
+          none = λ g e b named asks.
+              let accept = accept_is g e b (Message.Request p.call (Request.Prepare p.ballot)) named asks in
+              never_accept p.call accept.call p.ballot b named accept.is;
+          says = λ x. tt;
+        }) in
         record {
           turn = turn;
           body = record {
@@ -159,12 +159,12 @@ ticked_says setting v agreed drafting me =
     let turn : Turn setting.layout v.packets node node = no_turn setting.layout v.packets node node (refl, refl) in
     let extends : Extends setting.layout v (sending_more (turned v me.0 node) new) = step_extends setting.layout v me.0 node new agreed turn in
     let accepts : OfEach Accepts new = each_both Accepts (resent_up_to setting me node.calls node.seq) (ballot_resent me node.proposal)
-        (each_ticked Accepts setting me node.calls node.seq
-        (λ j c is seat to g e b members asks. absurd ((phase_quiet setting.layout setting.code me to c.call c seat).none g e b members asks))
-        (λ j c is later from to g e b members asks. absurd (let never : None ≡ Some members = asks in cc)))
-        (each_ballot_resent Accepts me node.proposal
-        (λ p is to. ballot_accepts p.asks p refl (drafting.drafts me.0 p is) to)
-        (λ p is later from to g e b members asks. absurd (let never : None ≡ Some members = asks in cc))) in
+    (each_ticked Accepts setting me node.calls node.seq
+    (λ j c is seat to g e b members asks. absurd ((phase_quiet setting.layout setting.code me to c.call c seat).none g e b members asks))
+    (λ j c is later from to g e b members asks. absurd (let never : None ≡ Some members = asks in cc)))
+    (each_ballot_resent Accepts me node.proposal
+    (λ p is to. ballot_accepts p.asks p refl (drafting.drafts me.0 p is) to)
+    (λ p is later from to g e b members asks. absurd (let never : None ≡ Some members = asks in cc))) in
     record {
       turn = turn;
       body = record {
@@ -173,7 +173,7 @@ ticked_says setting v agreed drafting me =
             (λ unasked. still_unproposed v.packets new q.call.group.0 q.view.number.0 q.ballot ((drafting.drafts me.0 q is).unasked unasked)
             (λ k packet members at asks.
             let never : None ≡ Some members = sym ((drafting.drafts me.0 q is).unasked unasked)
-                ∙ accepts k packet at q.call.group.0 q.view.number.0 q.ballot members asks in cc))
+            ∙ accepts k packet at q.call.group.0 q.view.number.0 q.ballot members asks in cc))
             (drafting.drafts me.0 q is);
         accepts = λ k packet at g e b members asks. inl (accepts k packet at g e b members asks);
         says = each_both (PacketSays setting.layout (sending_more (turned v me.0 node) new)) (resent_up_to setting me node.calls node.seq)

@@ -469,8 +469,8 @@ calls_cases setting w calls = record {
       })
       (let own = calls.left brick.0 (not-true (w.up brick.0) down.0) in
       let found_called : Called w.packets (put w.nodes brick.0 (w.after brick.0))
-          = subst (λ (l : List Packet). Called l (put w.nodes brick.0 (w.after brick.0))) (append_none w.packets)
-          (called_after w.packets w.nodes calls.called brick.0 (w.after brick.0) [] (found_calls brick.0 (w.nodes brick.0) (w.after brick.0) own)) in
+      = subst (λ (l : List Packet). Called l (put w.nodes brick.0 (w.after brick.0))) (append_none w.packets)
+      (called_after w.packets w.nodes calls.called brick.0 (w.after brick.0) [] (found_calls brick.0 (w.nodes brick.0) (w.after brick.0) own)) in
       record {
         called = started_calls w.packets (put w.nodes brick.0 (w.after brick.0)) found_called brick.0 openings some;
         left = subst (λ (nodes : ℕ → Node). (k : ℕ) → put w.up brick.0 true k ≡ false → LeavesOwn (nodes k) (w.after k))

@@ -204,7 +204,7 @@ pub unused : (packets : List Packet) (nodes : ℕ → Node) → Called packets n
 unused packets nodes called i b is =
     let found = first_found (λ packet. called_by i (nodes i).boot ((nodes i).seq + 1) packet.from.0 packet.message) packets b is in
     let of = called_of (IsBallotOf packets (nodes found.1.from.0) found.1.from.0) i (nodes i).boot ((nodes i).seq + 1) found.1.from.0 found.1.message b
-        (called.requests found.0 found.1 found.2) found.3 in
+    (called.requests found.0 found.1 found.2) found.3 in
     let here : IsBallotOf packets (nodes i) i of.0 b = subst (λ (k : ℕ). IsBallotOf packets (nodes k) k of.0 b) of.1 of.4 in
     let before = (here.now of.2).0 in
     let next = of.3 in
@@ -217,9 +217,9 @@ unproposed packets nodes called i g e b members brick boot later is =
     let found = first_found (λ packet. accept_in g e b packet.message) packets members is in
     let accept = accept_is g e b found.1.message members found.3 in
     let of : IsBallotOf packets (nodes found.1.from.0) found.1.from.0 accept.call b
-        = subst (λ (z : Message). OfBallots (IsBallotOf packets (nodes found.1.from.0) found.1.from.0) z) accept.is (called.requests found.0 found.1 found.2) in
+    = subst (λ (z : Message). OfBallots (IsBallotOf packets (nodes found.1.from.0) found.1.from.0) z) accept.is (called.requests found.0 found.1 found.2) in
     let here : IsBallotOf packets (nodes i) i accept.call b
-        = subst (λ (k : ℕ). IsBallotOf packets (nodes k) k accept.call b) (sym of.brick ∙ brick) of in
+    = subst (λ (k : ℕ). IsBallotOf packets (nodes k) k accept.call b) (sym of.brick ∙ brick) of in
     let before = (here.now (sym here.boot ∙ boot)).1 in
     omega (arith, before, later)
 
@@ -351,9 +351,9 @@ module _ (packets : List Packet) (nodes : ℕ → Node) (called : Called packets
           let boot_is = of.boot in
           let some = first_some (λ (other : Packet). called_by packet.from.0 call.boot call.seq other.from.0 other.message) (packets ++ new) k packet b at here in
           let called_at : ballot_called (packets ++ new) i of.draft.call.boot of.draft.call.seq ≡ Some some.0
-              = ap (λ (j : ℕ). ballot_called (packets ++ new) j of.draft.call.boot of.draft.call.seq) (sym of.from_is)
-              ∙ ap (λ (j : ℕ). ballot_called (packets ++ new) packet.from.0 j of.draft.call.seq) (sym of.boot)
-              ∙ ap (λ (j : ℕ). ballot_called (packets ++ new) packet.from.0 call.boot j) (sym of.seq) ∙ some.1 in
+          = ap (λ (j : ℕ). ballot_called (packets ++ new) j of.draft.call.boot of.draft.call.seq) (sym of.from_is)
+          ∙ ap (λ (j : ℕ). ballot_called (packets ++ new) packet.from.0 j of.draft.call.seq) (sym of.boot)
+          ∙ ap (λ (j : ℕ). ballot_called (packets ++ new) packet.from.0 call.boot j) (sym of.seq) ∙ some.1 in
           let same : some.0 ≡ b = draft_after of.draft of.is some.0 called_at ∙ sym of.ballot in
           let node : put nodes i next packet.from.0 ≡ next = ap (put nodes i next) of.from_is ∙ put_same nodes i next in
           subst (λ (n : Node). IsBallotOf (packets ++ new) n packet.from.0 call b) (sym node)

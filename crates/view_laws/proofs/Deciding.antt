@@ -63,7 +63,7 @@ view_limits layout v g view base limits says named is =
         let some = (name_has_number layout v.packets g view.number.0 view named).1 in
         let one : view.number.0 ≡ 1 = grind (arith, nat_tests, isnt, some) in
         let members : base.members ≡ view.members
-            = sym (ap members_of is) ∙ ap (λ (z : View). z.members) (first_is layout v.packets g view.number.0 view one named) in
+        = sym (ap members_of is) ∙ ap (λ (z : View). z.members) (first_is layout v.packets g view.number.0 view one named) in
         subst (λ (l : List BrickId). IsWithinLimits base.m (length l)) members base_limits
 
 -- the invariant of the abstract history, by the seats of a known view's members
@@ -98,9 +98,9 @@ voice_says layout v i p from call reply seat was counts sent =
     let facts = voice_counts layout.bricks p from.0 call reply seat counts in
     let one : Counted = record { seat = seat; brick = from; reply = reply } in
     let seats : seats_of (promises (p.counted ++ (one ∷ []))) ≡ seats_of (promises p.counted) ++ (seat ∷ [])
-        = ap (λ (l : List (ℕ × Option (Ballot × List BrickId))). seats_of l)
-        (map-append (λ (c : Counted). (c.seat, told_choice c.reply)) p.counted (one ∷ []))
-        ∙ map-append (λ (told : ℕ × Option (Ballot × List BrickId)). told.0) (promises p.counted) (promises (one ∷ [])) in
+    = ap (λ (l : List (ℕ × Option (Ballot × List BrickId))). seats_of l)
+    (map-append (λ (c : Counted). (c.seat, told_choice c.reply)) p.counted (one ∷ []))
+    ∙ map-append (λ (told : ℕ × Option (Ballot × List BrickId)). told.0) (promises p.counted) (promises (one ∷ [])) in
     record {
       group = was.group;
       group_is = was.group_is;
@@ -177,13 +177,13 @@ module _ (layout : Layout) (limits : HasLimits layout) (v : ViewWorld) (agreed :
   promised prepares k c at =
       let one = says.counted k c at in
       let promise = promise_of q.m layout.bricks c.seat c.brick c.reply
-          (subst (λ (z : Option (List BrickId)). answers_ballot q.m layout.bricks z c.reply ≡ true) prepares one.answers) (unrefused q.counted free k c at) in
+      (subst (λ (z : Option (List BrickId)). answers_ballot q.m layout.bricks z c.reply ≡ true) prepares one.answers) (unrefused q.counted free k c at) in
       let said : ReplySays layout v c.brick.0 i q.call (Reply.Promise promise.0)
-          = subst (λ (z : Reply). ReplySays layout v c.brick.0 i q.call z) promise.1 (reply_says k c at) in
+      = subst (λ (z : Reply). ReplySays layout v c.brick.0 i q.call z) promise.1 (reply_says k c at) in
       let ballot : said.0 ≡ q.ballot = called said.0 said.1 in
       let here : SaysPromise (history v g e) c.brick.0 q.ballot (told_choice (Reply.Promise promise.0))
-          = subst (λ (b : Ballot). SaysPromise (history v g e) c.brick.0 b (told_choice (Reply.Promise promise.0))) ballot
-          (subst (λ (view : ℕ). SaysPromise (history v g view) c.brick.0 said.0 (told_choice (Reply.Promise promise.0))) (ap (λ (z : ViewNo). z.0) says.view_is) said.2) in
+      = subst (λ (b : Ballot). SaysPromise (history v g e) c.brick.0 b (told_choice (Reply.Promise promise.0))) ballot
+      (subst (λ (view : ℕ). SaysPromise (history v g view) c.brick.0 said.0 (told_choice (Reply.Promise promise.0))) (ap (λ (z : ViewNo). z.0) says.view_is) said.2) in
       promise_seated group (history v g e) c.brick.0 c.seat q.ballot (told_choice c.reply) (brick_is k c at)
       (subst (λ (z : Reply). SaysPromise (history v g e) c.brick.0 q.ballot (told_choice z)) (sym promise.1) here)
 
@@ -207,15 +207,15 @@ module _ (layout : Layout) (limits : HasLimits layout) (v : ViewWorld) (agreed :
   voted members asks k c at =
       let one = says.counted k c at in
       let acceptance = acceptance_of q.m layout.bricks c.seat c.brick members c.reply
-          (subst (λ (z : Option (List BrickId)). answers_ballot q.m layout.bricks z c.reply ≡ true) asks one.answers) (unrefused q.counted free k c at) in
+      (subst (λ (z : Option (List BrickId)). answers_ballot q.m layout.bricks z c.reply ≡ true) asks one.answers) (unrefused q.counted free k c at) in
       let said : ReplySays layout v c.brick.0 i q.call Reply.Accepted
-          = subst (λ (z : Reply). ReplySays layout v c.brick.0 i q.call z) acceptance (reply_says k c at) in
+      = subst (λ (z : Reply). ReplySays layout v c.brick.0 i q.call z) acceptance (reply_says k c at) in
       let ballot : said.0 ≡ q.ballot = called said.0 said.2 in
       let vote : v.votes c.brick.0 g e q.ballot ≡ Some said.1
-          = subst (λ (b : Ballot). v.votes c.brick.0 g e b ≡ Some said.1) ballot
-          (subst (λ (view : ℕ). v.votes c.brick.0 g view said.0 ≡ Some said.1) (ap (λ (z : ViewNo). z.0) says.view_is) said.3) in
+      = subst (λ (b : Ballot). v.votes c.brick.0 g e b ≡ Some said.1) ballot
+      (subst (λ (view : ℕ). v.votes c.brick.0 g view said.0 ≡ Some said.1) (ap (λ (z : ViewNo). z.0) says.view_is) said.3) in
       let same : said.1 ≡ members
-          = same_Some said.1 members (sym (agreed.proposed c.brick.0 g e q.ballot said.1 vote) ∙ says.asked members asks) in
+      = same_Some said.1 members (sym (agreed.proposed c.brick.0 g e q.ballot said.1 vote) ∙ says.asked members asks) in
       vote ∙ ap (λ (l : List BrickId). Some l) same
 
   -- so that list is chosen

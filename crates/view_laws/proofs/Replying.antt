@@ -184,16 +184,18 @@ decided_after layout v g view before group decided named next group_is =
     let number : decided.before.number.0 ≡ before.number.0 = (let first = decided.next in omega (arith, first, next)) in
     let same : decided.before ≡ before = names_once layout v.packets g decided.before before decided.named named number in
     let kept : group_kept layout before.members g ≡ Some decided.group
-        = subst (λ (z : View). group_kept layout z.members g ≡ Some decided.group) same decided.group_is in
+    = subst (λ (z : View). group_kept layout z.members g ≡ Some decided.group) same decided.group_is in
     let chosen : IsChosen (length decided.group.members) (quorum_of decided.group) (seated decided.group (history v g before.number.0)) decided.ballot view.members
-        = subst (λ (z : View).
-        IsChosen (length decided.group.members) (quorum_of decided.group) (seated decided.group (history v g z.number.0)) decided.ballot view.members)
-        same decided.chosen in
-    ((
-      decided.ballot,
-      subst (λ (z : Group). IsChosen (length z.members) (quorum_of z) (seated z (history v g before.number.0)) decided.ballot view.members)
-          (same_Some decided.group group (sym kept ∙ group_is)) chosen,
-    ), decided.prior ∙ ap (λ (z : View). z.members) same)
+    = subst (λ (z : View).
+    IsChosen (length decided.group.members) (quorum_of decided.group) (seated decided.group (history v g z.number.0)) decided.ballot view.members)
+    same decided.chosen in (
+      (
+        decided.ballot,
+        subst (λ (z : Group). IsChosen (length z.members) (quorum_of z) (seated z (history v g before.number.0)) decided.ballot view.members)
+            (same_Some decided.group group (sym kept ∙ group_is)) chosen,
+      ),
+      decided.prior ∙ ap (λ (z : View). z.members) same,
+    )
 
 -- what a brick keeps of views it keeps as it carries out what an operation or a proposal decided
 carried_keeps : (setting : Setting) (me : BrickId) (node : Node) (known : ℕ) (c : Coordinator) (next : Next)
@@ -394,14 +396,14 @@ module _ (setting : Setting) (limits : HasLimits setting.layout) (v : ViewWorld)
         let one = sends_one me (asked members).call (λ seat. Request.Accept p.ballot members) p.view.members some_member in
         let view : p.call.view.0 ≡ p.view.number.0 = ap (λ (z : ViewNo). z.0) q_says.view_is in
         let first = first_some (λ packet. accept_in p.call.group.0 p.view.number.0 p.ballot packet.message) (ballot_packets me (asked members)) 0
-            (record { from = me; to = one.0; message = Message.Request (asked members).call (Request.Accept p.ballot members) }) members one.1
-            (accept_here p.call.group.0 p.view.number.0 (asked members).call p.ballot members refl view) in
+        (record { from = me; to = one.0; message = Message.Request (asked members).call (Request.Accept p.ballot members) }) members one.1
+        (accept_here p.call.group.0 p.view.number.0 (asked members).call p.ballot members refl view) in
         let same : first.0 ≡ members = first_alike (λ packet. accept_in p.call.group.0 p.view.number.0 p.ballot packet.message) (ballot_packets me (asked members)) members
-            (λ k packet named at asks.
-            sym (asks_same members p.call.group.0 p.view.number.0 p.ballot named packet.message
-            (asks_each (λ (other : Packet). other.message ≡ Message.Request (asked members).call (Request.Accept p.ballot members)) members (λ to. refl) k packet at)
-            asks).3)
-            first.0 first.1 in
+        (λ k packet named at asks.
+        sym (asks_same members p.call.group.0 p.view.number.0 p.ballot named packet.message
+        (asks_each (λ (other : Packet). other.message ≡ Message.Request (asked members).call (Request.Accept p.ballot members)) members (λ to. refl) k packet at)
+        asks).3)
+        first.0 first.1 in
         first_of_later (λ packet. accept_in p.call.group.0 p.view.number.0 p.ballot packet.message) v.packets (ballot_packets me (asked members))
         ((drafting.drafts me.0 p is).unasked prepares)
         ∙ first.1 ∙ ap (λ (l : List BrickId). Some l) same
@@ -414,7 +416,7 @@ module _ (setting : Setting) (limits : HasLimits setting.layout) (v : ViewWorld)
         let new : List Packet = ballot_packets me (asked members) in
         let view : p.call.view.0 ≡ p.view.number.0 = ap (λ (z : ViewNo). z.0) q_says.view_is in
         let safe : IsSafeIn setting.layout v p.call.group.0 p.view.number.0 p.ballot members
-            = asks_safely setting.layout limits v agreed me.0 q q_says q_called enough free prepares in
+        = asks_safely setting.layout limits v agreed me.0 q q_says q_called enough free prepares in
         record {
           calls = other_calls mid calls;
           drafts = λ r same. subst (λ (z : Proposal). DraftSays setting.layout (sending_more x new) me.0 z) (same_Some (asked members) r same)
@@ -431,8 +433,8 @@ module _ (setting : Setting) (limits : HasLimits setting.layout) (v : ViewWorld)
               });
           accepts = λ k packet at g e b named asks.
               let parts = asks_same members g e b named packet.message
-                  (asks_each (λ (other : Packet). other.message ≡ Message.Request (asked members).call (Request.Accept p.ballot members)) members (λ to. refl) k packet at)
-                  asks in
+              (asks_each (λ (other : Packet). other.message ≡ Message.Request (asked members).call (Request.Accept p.ballot members)) members (λ to. refl) k packet at)
+              asks in
               inr (
                 ap (λ (z : Ballot). z.brick.0) (sym parts.2) ∙ (called.drafts me.0 p is).brick,
                 subst (λ (l : List BrickId). IsSafeIn setting.layout v g e b l) parts.3
@@ -478,10 +480,10 @@ module _ (setting : Setting) (limits : HasLimits setting.layout) (v : ViewWorld)
           let number = name_has_number setting.layout v.packets g (e + 1) other named in
           let number_is : other.number.0 ≡ e + 1 = number.0 in
           let taught : IsTaught setting.layout v g other
-              = known_taught setting.layout v g other agreed.says (name_is setting.layout v.packets g (e + 1) other named)
-              (omega (arith, number_is, positive)) in
+          = known_taught setting.layout v g other agreed.says (name_is setting.layout v.packets g (e + 1) other named)
+          (omega (arith, number_is, positive)) in
           let after = decided_after setting.layout v g other p.view group taught.1 q_says.named number_is
-              (group_is setting.layout limits v agreed me.0 q q_says q_called enough free) in
+          (group_is setting.layout limits v agreed me.0 q q_says q_called enough free) in
           view_from other view number_is
           (two_chosen (length group.members) (quorum_of group) (seated group (history v g e)) after.0.0 p.ballot other.members members
           (majority setting.layout limits v agreed me.0 q q_says q_called enough free) (agrees setting.layout limits v agreed me.0 q q_says q_called enough free)
@@ -499,12 +501,12 @@ module _ (setting : Setting) (limits : HasLimits setting.layout) (v : ViewWorld)
               let later : 1 < e + 1 = omega (arith, positive) in
               let before = sym (named_later setting.layout v.packets g (e + 1) later) ∙ none in
               let told : learn_in g (e + 1) packet.message ≡ Some view
-                  = ap (λ (z : Message). learn_in g (e + 1) z) (teaches k packet at) ∙ learn_here g p.call.group view refl in
+              = ap (λ (z : Message). learn_in g (e + 1) z) (teaches k packet at) ∙ learn_here g p.call.group view refl in
               let first = first_some (λ other. learn_in g (e + 1) other.message) new k packet view at told in
               let same : first.0 ≡ view = first_alike (λ other. learn_in g (e + 1) other.message) new view
-                  (λ j other found at_j tells.
-                  same_Some found view (sym tells ∙ ap (λ (z : Message). learn_in g (e + 1) z) (teaches j other at_j) ∙ learn_here g p.call.group view refl))
-                  first.0 first.1 in
+              (λ j other found at_j tells.
+              same_Some found view (sym tells ∙ ap (λ (z : Message). learn_in g (e + 1) z) (teaches j other at_j) ∙ learn_here g p.call.group view refl))
+              first.0 first.1 in
               named_later setting.layout (v.packets ++ new) g (e + 1) later
               ∙ first_of_later (λ other. learn_in g (e + 1) other.message) v.packets new before ∙ first.1 ∙ ap (λ (z : View). Some z) same
 
@@ -586,7 +588,7 @@ heard_says setting limits v called agreed drafting me from now call said sent =
     let new : List Packet = (replied_at setting me now from (with_round node said) call said (node.calls call.seq)).packets in
     let next : Node = node_taught_by setting.layout.block call.group.0 mid (view_counted setting.layout from node call said) in
     let turn : Turn setting.layout v.packets node next
-        = reply_turn setting.layout v from me call said node mid agreed sent (replied_keeps setting me now from node call said (node.calls call.seq)) node in
+    = reply_turn setting.layout v from me call said node mid agreed sent (replied_keeps setting me now from node call said (node.calls call.seq)) node in
     record {
       turn = turn;
       body = body_own setting.layout v (turned v me.0 next) me.0 mid next new

@@ -61,14 +61,16 @@ taught_turn layout packets node mid block g view keeps named =
     at : is_later (mid.learnt g) view ≡ true → (h : ℕ) (t : Bool) → nat_eq h g ≡ t
         → StaysAt node taught h ⊎ (VotesAt layout packets node taught h ⊎ LearnsAt layout packets node taught h)
     at later h false isnt =
-        inl (put_other mid.learnt g (learns (mid.learnt g) view) h (eqb-false h g isnt) ∙ ap (λ (l : ℕ → Learnt). l h) keeps.0,
-        put_other mid.ballots g _ h (eqb-false h g isnt) ∙ ap (λ (l : ℕ → Kept (List BrickId)). l h) keeps.1)
+        inl (
+          put_other mid.learnt g (learns (mid.learnt g) view) h (eqb-false h g isnt) ∙ ap (λ (l : ℕ → Learnt). l h) keeps.0,
+          put_other mid.ballots g _ h (eqb-false h g isnt) ∙ ap (λ (l : ℕ → Kept (List BrickId)). l h) keeps.1,
+        )
     at later h true is =
         let same : h ≡ g = eqb-true h g is in
         let before : view_at mid g ≡ view_at node g = ap (λ (l : ℕ → Learnt). (l g).view.number.0) keeps.0 in
         let above : view_at mid g < view.number.0 = grind (arith, nat_tests, later) in
         let learnt : (learns (mid.learnt g) view).view ≡ view
-            = ap (λ (t : Bool). (cond t (record { view = view; synced = false }) (mid.learnt g)).view) later in
+        = ap (λ (t : Bool). (cond t (record { view = view; synced = false }) (mid.learnt g)).view) later in
         subst (λ (k : ℕ). StaysAt node taught k ⊎ (VotesAt layout packets node taught k ⊎ LearnsAt layout packets node taught k)) (sym same)
         (inr (inr (record {
           view = view;
