@@ -3,6 +3,7 @@ use Rattle.std.proofs.Common.{◌≡◌, ◌≢◌, ℕ, ◌+◌, ◌-◌, ◌<�
 use Rattle.std.specs.Prelude.{slice_get, if◌then◌else◌, ◌^◌}
 use Rattle.std.proofs.lemmas.Bool.{cond_both, eqb-true, eq-eqb, ne_eqb, or_left, or_cases, and_parts}
 use Rattle.std.proofs.lemmas.Bool.Decides.{nat_tests}
+use Rattle.std.proofs.Math.Path.{fun_ext}
 use Rattle.std.proofs.lemmas.Option.{same_Some}
 use Rattle.fab_base.specs.declared.identities.BrickId.{BrickId}
 use Rattle.fab_base.specs.declared.member_lists.View.{View}
@@ -533,6 +534,20 @@ placed_agrees layout v i next keeps agreed = record {
   says = λ k packet at. message_stays layout v (placed v i next) (placed_extends layout v i next keeps) packet.from.0 packet.to.0 packet.message
       (agreed.says k packet at);
 }
+
+-- a brick that keeps what it kept of views has accepted nothing new, so noting it changes nothing
+pub turned_placed : (layout : Layout) (v : ViewWorld) (i : ℕ) (next : Node) → Agreed layout v → KeepsViews (v.nodes i) next → turned v i next ≡ placed v i next
+turned_placed layout v i next agreed keeps =
+    ap (λ (votes : ℕ → ℕ → ℕ → Ballot → Option (List BrickId)). noting votes)
+    (fun_ext (λ k. fun_ext (λ g. fun_ext (λ e. fun_ext (λ b.
+    votes_same layout v i next agreed g e (λ c members is. last_noted layout v i next agreed g e c members (sym (last g e) ∙ is)) k b)))))
+  where
+    noting : (ℕ → ℕ → ℕ → Ballot → Option (List BrickId)) → ViewWorld
+    noting votes = record { packets = v.packets; votes = votes; nodes = put v.nodes i next }
+
+    last : (g e : ℕ) → accepted_in next g e ≡ accepted_in (v.nodes i) g e
+    last g e = ap (λ (l : ℕ → Learnt). accepted_by e (l g) (next.ballots g)) keeps.0
+        ∙ ap (λ (z : ℕ → Kept (List BrickId)). accepted_by e ((v.nodes i).learnt g) (z g)) keeps.1
 
 -- ---- packets
 

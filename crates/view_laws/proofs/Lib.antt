@@ -1,4 +1,6 @@
 pub mod Agreeing
+pub mod Agreements
+pub mod Beginning
 pub mod CallSteps
 pub mod Calling
 pub mod Deciding
@@ -6,8 +8,7 @@ pub mod Drafting
 pub mod FirstTold
 pub mod Histories
 pub mod Owning
+pub mod Replying
+pub mod Requesting
 pub mod Voices
 pub mod Votings
-pub mod Requesting
-pub mod Replying
-pub mod Beginning
