@@ -299,7 +299,7 @@ stopped_agreement setting v i agreed drafting = (
 )
 
 -- an operation that begins leaves what its brick keeps of views
-invoked_keeps : (setting : Setting) (me : BrickId) (now : ℕ) (node : Node) (ask : Ask) → KeepsViews node (invoked setting me now node ask).node
+pub invoked_keeps : (setting : Setting) (me : BrickId) (now : ℕ) (node : Node) (ask : Ask) → KeepsViews node (invoked setting me now node ask).node
 unfolding invoked
 invoked_keeps setting me now node ask = by (group_at setting.layout node ask.group.0)
   where
@@ -315,9 +315,9 @@ agreement_cases setting limits w calls was = record {
       let up = up_not_down setting.layout w brick (and_parts (is_up setting.layout w brick) _ may).0 in
       let step : NodeStep = invoked setting brick (w.clocks brick.0) (w.nodes brick.0) ask in
       let says : StepSays setting.layout (view_world w) brick.0 step.node step.packets
-          = invoked_says setting (view_world w) was.agreed was.drafting brick (w.clocks brick.0) ask in
+      = invoked_says setting (view_world w) was.agreed was.drafting brick (w.clocks brick.0) ask in
       let same : turned (view_world w) brick.0 step.node ≡ placed (view_world w) brick.0 step.node
-          = turned_placed setting.layout (view_world w) brick.0 step.node was.agreed (invoked_keeps setting brick (w.clocks brick.0) (w.nodes brick.0) ask) in
+      = turned_placed setting.layout (view_world w) brick.0 step.node was.agreed (invoked_keeps setting brick (w.clocks brick.0) (w.nodes brick.0) ask) in
       record {
         agreed = subst (λ (z : ViewWorld). Agreed setting.layout (sending_more z step.packets)) same
             (step_agrees setting.layout (view_world w) brick.0 step.node step.packets was.agreed says);
@@ -339,8 +339,8 @@ agreement_cases setting limits w calls was = record {
       let new : List Packet = ticked setting brick (w.nodes brick.0) in
       let says : StepSays setting.layout (view_world w) brick.0 (w.nodes brick.0) new = ticked_says setting (view_world w) was.agreed was.drafting brick in
       let same : turned (view_world w) brick.0 (w.nodes brick.0) ≡ view_world w
-          = turned_placed setting.layout (view_world w) brick.0 (w.nodes brick.0) was.agreed (refl, refl)
-          ∙ ap (λ (nodes : ℕ → Node). record { packets = w.packets; votes = w.choices.votes; nodes = nodes }) (put_back w.nodes brick.0) in
+      = turned_placed setting.layout (view_world w) brick.0 (w.nodes brick.0) was.agreed (refl, refl)
+      ∙ ap (λ (nodes : ℕ → Node). record { packets = w.packets; votes = w.choices.votes; nodes = nodes }) (put_back w.nodes brick.0) in
       record {
         agreed = subst (λ (z : ViewWorld). Agreed setting.layout (sending_more z new)) same
             (step_agrees setting.layout (view_world w) brick.0 (w.nodes brick.0) new was.agreed says);
@@ -365,8 +365,8 @@ agreement_cases setting limits w calls was = record {
       let after : Node = w.after brick.0 in
       let before_is = restarted_agreement setting w.packets w.choices.votes w.nodes brick.0 openings was.agreed was.drafting in
       let after_is = restarted_agreement setting w.packets (turned (view_world w) brick.0 after).votes (put w.nodes brick.0 after) brick.0 openings
-          (turn_agrees setting.layout (view_world w) brick.0 after was.agreed left.turn)
-          (turned_drafting setting.layout (view_world w) brick.0 after was.agreed left.turn left.calls left.proposal was.drafting) in
+      (turn_agrees setting.layout (view_world w) brick.0 after was.agreed left.turn)
+      (turned_drafting setting.layout (view_world w) brick.0 after was.agreed left.turn left.calls left.proposal was.drafting) in
       started_each (Agreement setting.layout) w brick openings
       (record {
         agreed = before_is.0;
