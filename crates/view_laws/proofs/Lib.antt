@@ -5,7 +5,9 @@ pub mod CallSteps
 pub mod Calling
 pub mod Deciding
 pub mod Drafting
+pub mod Extending
 pub mod FirstTold
+pub mod Followed
 pub mod Histories
 pub mod Owning
 pub mod Replying
