@@ -32,7 +32,7 @@ use Rattle.protocol.specs.declared.phases.Phase.TheVariants.{Looks, LooksAt, Ord
 use Rattle.protocol.specs.declared.phases.Counted.{Counted}
 use Rattle.protocol.specs.Coordinators.{Coordinator, Next, Ignores, Waits, Sends, Makes, Ends, most_rounds, with_reply, once_full, counted_at, counts_at, on_reply}
 use Rattle.protocol.specs.Nodes.{Node, NodeStep, put, no_step, has_block, has_length, refusal_in, refusal_of, began, invoked, with_replica, replica_at, full_at, reply_packets, requested, absorbed, ticked, may_open, has_later_time, next_time, new_stamp, fresh_stamp, known_after, with_call, with_known, carried_out, phase_packets, collect_packets, sending, replied_at, heard, received, group_at, vote_at, with_round, with_proposal, replied_ballot, carried_ballot, ended_packets, new_proposal, proposing, reporting, proposed_in, proposed, node_taught_by, node_learnt, view_counted, lists_fit}
-use Rattle.protocol.specs.Worlds.{World, world_found, Operation, Found, Before, After, Found, Before, After, Event, is_answer, first_world, is_brick, is_up, may_begin, number_of, may_start, world_found, world_began, world_stepped, with_made, with_seen, with_answer, with_content, replies_with, voiced, run, with_held, Choices}
+use Rattle.protocol.specs.Worlds.{World, world_found, Operation, Found, Before, After, Found, Before, After, Event, is_answer, first_world, is_brick, is_up, may_begin, number_of, may_start, world_found, world_began, world_stepped, with_made, with_seen, with_answer, with_content, replies_with, voiced, run, with_held, choices_after, Choices}
 use Rattle.protocol_laws.specs.Laws.{WasSent}
 use Rattle.protocol.proofs.Served.{request_each}
 use Rattle.protocol_laws.proofs.Left.{IsLeft, kept_of, Leaves, always_leaves, found_down}
@@ -601,8 +601,7 @@ module _ (setting : Setting) (w : World) where
       hearing_each (Books setting) setting w me now from call reply
       (books_silent setting w w.replies me (with_known (with_round (w.nodes me.0) reply) (known_after (w.nodes me.0).known reply)) [] [] books
       (record { boot = refl; seq = omega arith; known = known_grows (w.nodes me.0).known reply }, λ l. refl))
-      (λ fit.
-      let node : Node = taught_by setting w me from call reply in
+      (let node : Node = taught_by setting w me from call reply in
       let keeps = hearing_keeps setting w me from call reply in
       let x : World = kept_world w me node in
       books_replied_at setting x x.replies me now from call reply ((w.nodes me.0).calls call.seq) (books_kept setting w me node books keeps)

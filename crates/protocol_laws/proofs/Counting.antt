@@ -436,11 +436,11 @@ full_counted P (x ∷ counted) f each is =
     (one_full (full_member_of x) (lowest_full counted) f is)
 
 -- of two members that moved on the lower is one of them
-mover_one : (a b : Mover) → (lower_mover (Some a) (Some b) ≡ Some a) ⊎ (lower_mover (Some a) (Some b) ≡ Some b)
+pub mover_one : (a b : Mover) → (lower_mover (Some a) (Some b) ≡ Some a) ⊎ (lower_mover (Some a) (Some b) ≡ Some b)
 mover_one a b =
     cond_both (nat_lt b.seat a.seat) (Some b) (Some a) (λ (z : Option Mover). (z ≡ Some a) ⊎ (z ≡ Some b)) (λ lower. inr refl) (λ isnt. inl refl)
 
-no_mover : (a b : Option Mover) → lower_mover a b ≡ None → (a ≡ None) × (b ≡ None)
+pub no_mover : (a b : Option Mover) → lower_mover a b ≡ None → (a ≡ None) × (b ≡ None)
 no_mover None b is = (refl, is)
 no_mover (Some a) None is = cc
 no_mover (Some a) (Some b) is =

@@ -1,14 +1,14 @@
 -- A request to store a version is sent while a quorum takes nothing below it, and while its operation is open: an event that sends one lowers and raises no
 -- brick, and sends it for a call that is open.
-use Rattle.std.proofs.Common.{◌≡◌, ℕ, not, List, [], ◌∷◌, ◌++◌, length, Option, Some, None, refl, sym, ap, ◌∙◌, subst, arith}
-use Rattle.std.specs.Prelude.{slice_get}
+use Rattle.std.proofs.Common.{◌≡◌, ℕ, Bool, true, false, ⊎_elim, not, List, [], ◌∷◌, ◌++◌, length, Option, Some, None, refl, sym, ap, ◌∙◌, subst, arith}
+use Rattle.std.specs.Prelude.{slice_get, nat_lt, if◌then◌else◌}
 use Rattle.fab_base.specs.declared.identities.BrickId.{BrickId}
 use Rattle.fab_base.specs.declared.asks.Ask.{Ask}
 use Rattle.fab_base.specs.declared.asks.Op.{Op}
 use Rattle.fab_base.specs.declared.asks.Op.TheVariants.{ReadBlock, WriteBlock, ReadStripe, WriteStripe}
 use Rattle.fab_base.specs.declared.stamps.Stamp.{Stamp}
 use Rattle.fab_base.specs.Stamps.{stamp_below}
-use Rattle.fab_base.specs.Layouts.{Group, brick_at}
+use Rattle.fab_base.specs.Layouts.{Group, group_of, brick_at}
 use Rattle.quorum.proofs.Counts.{count_monotone}
 use Rattle.messages.specs.declared.calls.Call.{Call}
 use Rattle.messages.specs.declared.packets.Message.{Message}
@@ -16,13 +16,28 @@ use Rattle.messages.specs.declared.packets.Packet.{Packet}
 use Rattle.messages.specs.declared.replies.Reply.{Reply}
 use Rattle.reg_model.specs.Marks.{Life, life_of, IsOpen}
 use Rattle.protocol.specs.Settings.{Setting, Code, IsSound}
-use Rattle.protocol.specs.Views.{Views}
+use Rattle.protocol.specs.Views.{Views, view_told}
+use Rattle.protocol.specs.declared.phases.Counted.{Counted}
+use Rattle.protocol.specs.declared.phases.Mover.{Mover}
+use Rattle.protocol.specs.Proposals.{Proposal, Voting, Ignored, Waited, Asks, Ended, ballot_request, ballot_packets, voted}
+use Rattle.protocol.specs.declared.tellings.ViewAnswer.{ViewAnswer}
+use Rattle.protocol.specs.declared.tellings.ViewAnswer.TheVariants as answers
+use Rattle.protocol.specs.declared.tellings.Report.TheVariants as Report
+use Rattle.quorum.specs.Memberships.{is_membership}
+use Rattle.quorum.specs.Quorums.{quorum_of}
+use Rattle.fab_base.specs.declared.identities.GroupId.{GroupId}
+use Rattle.fab_base.specs.declared.identities.ViewNo.{ViewNo}
+use Rattle.fab_base.specs.declared.member_lists.View.{View}
+use Rattle.messages.specs.declared.replies.Lineage.{Lineage}
+use Rattle.std.proofs.lemmas.Bool.{cond_both}
+use Rattle.protocol_laws.proofs.Counting.{mover_one}
+use Rattle.protocol_laws.proofs.Teaching.{heard_each, replied_rests}
 use Rattle.protocol.specs.Replicas.{handle}
-use Rattle.protocol.specs.Coordinators.{Coordinator, Next, Ignores, Waits, Sends, Makes, Ends, with_reply, once_full, counted_at, counts_at, on_reply, request_of}
-use Rattle.protocol.specs.Nodes.{Node, NodeStep, put, top_at, first_phase, phase_packets, new_coordinator, began, invoked, replica_at, full_at, known_after, fresh_stamp, carried_out, group_at, replied_at, replied, received, ticked}
-use Rattle.protocol.specs.Worlds.{World, Event, first_world, world_began, world_stopped, happens, run, world_ticked, world_started, world_found, After}
+use Rattle.protocol.specs.Coordinators.{mover_of, lower_mover, lowest_mover, aborted_moved, decided, Coordinator, Next, Ignores, Waits, Sends, Makes, Ends, with_reply, once_full, counted_at, counts_at, on_reply, request_of}
+use Rattle.protocol.specs.Nodes.{Node, NodeStep, put, top_at, first_phase, phase_packets, new_coordinator, began, invoked, replica_at, full_at, known_after, fresh_stamp, carried_out, group_at, replied_at, heard, received, ticked, with_round, with_known, node_taught, node_taught_by, view_counted, counts_here, vote_at, replied_ballot, carried_ballot, ended_packets, decided_view, new_proposal, proposing, reporting, sending, proposed_in, proposed, ballot_resent}
+use Rattle.protocol.specs.Worlds.{World, Event, first_world, world_began, world_stopped, happens, run, world_ticked, world_stepped, world_started, world_found, After}
 use Rattle.protocol.proofs.Events.{EventCases, step_on, world_handled, happens_each, started_each, run-append}
-use Rattle.protocol.proofs.Packets.{OfEach, each_none, each_member, each_collect, each_reply, each_ticked}
+use Rattle.protocol.proofs.Packets.{OfEach, each_none, each_both, each_member, each_collect, each_reply, each_ticked, each_learn, each_ballot, each_ballot_resent}
 use Rattle.protocol.proofs.Served.{request_each}
 use Rattle.protocol.proofs.Tables.{put_each}
 use Rattle.protocol_laws.specs.Laws.{top_in, stamp_stored, IsGuarded, RunFollows, WritesWereGuarded}
@@ -84,6 +99,50 @@ next_same fresh c (Sends d) fits = (fits.same.boot, fits.same.seq)
 next_same fresh c (Makes d) fits = (fits.same.boot, fits.same.seq)
 next_same fresh c (Ends answer seen stored) fits = tt
 
+-- what a coordinator decides begins no phase
+abbrev BeginsNone : Next → Type 0
+BeginsNone (Sends d) = ⊥
+BeginsNone (Makes d) = ⊥
+BeginsNone next = Unit {0}
+
+-- a member that tells of a later view is the lowest of those that do, or one is
+some_lower : (a b : Option Mover) (m : Mover) → b ≡ Some m → (n : Mover) × (lower_mover a b ≡ Some n)
+some_lower None b m is = (m, is)
+some_lower (Some a) None m is = absurd (let never : None ≡ Some m = is in cc)
+some_lower (Some a) (Some b) m is = ⊎_elim
+    (λ (one : lower_mover (Some a) (Some b) ≡ Some a). (a, one)) (λ (other : lower_mover (Some a) (Some b) ≡ Some b). (b, other)) (mover_one a b)
+
+some_mover : (counted : List Counted) (x : Counted) (m : Mover) → mover_of x ≡ Some m → (n : Mover) × (lowest_mover (counted ++ (x ∷ [])) ≡ Some n)
+some_mover [] x m is = (m, ap (λ (z : Option Mover). lower_mover z None) is)
+some_mover (y ∷ counted) x m is =
+    let rest = some_mover counted x m is in some_lower (mover_of y) (lowest_mover (counted ++ (x ∷ []))) rest.0 rest.1
+
+-- so a quorum of replies of which one tells of a later view aborts the operation
+decided_moved : (block : ℕ) (code : Code) (fresh : Option Stamp) (d : Coordinator) (m : Mover) → lowest_mover d.counted ≡ Some m
+    → decided block code fresh d ≡ aborted_moved m
+unfolding decided
+decided_moved block code fresh d m is = rw is
+
+-- and begins no phase
+moved_ends : (block : ℕ) (code : Code) (fresh : Option Stamp) (c : Coordinator) (from : BrickId) (view : ViewNo) (lineage : Option Lineage) (seat : Option ℕ)
+    → BeginsNone (counted_at block code fresh c from (Reply.Moved view lineage) seat)
+moved_ends block code fresh c from view lineage None = tt
+moved_ends block code fresh c from view lineage (Some seat) =
+    let d : Coordinator = with_reply c seat from (Reply.Moved view lineage) in
+    let one : Counted = record { seat = seat; brick = from; reply = Reply.Moved view lineage } in
+    let lowest = some_mover c.counted one (record { seat = seat; brick = from; view = view }) refl in
+    cond_both (nat_lt (length d.counted) (quorum_of d.group)) (Waits d) (decided block code fresh d) BeginsNone (λ few. tt)
+    (λ full. subst BeginsNone (sym (decided_moved block code fresh d lowest.0 lowest.1)) tt)
+
+-- what a proposal asks for stores nothing
+ballot_none : (w next : World) (from to : BrickId) (p : Proposal) → StoresOpen w next (record { from = from; to = to; message = Message.Request p.call (ballot_request p) })
+ballot_none w next from to p = of p.asks
+  where
+    of : (asks : Option (List BrickId))
+        → StoresOpen w next (record { from = from; to = to; message = Message.Request p.call (ballot_request (record p { asks = asks })) })
+    of None t stores = absurd (let never : None ≡ Some t = stores in cc)
+    of (Some members) t stores = absurd (let never : None ≡ Some t = stores in cc)
+
 module _ (setting : Setting) (w next : World) (me : BrickId) (books : Books setting w) where
   abbrev P : Packet → Type 0
   P = StoresOpen w next
@@ -110,41 +169,120 @@ module _ (setting : Setting) (w next : World) (me : BrickId) (books : Books sett
             (subst (λ (k : ℕ). IsOpen (life_of w.marks (w.numbers me.0 c.call.boot k))) (sym same.1) open'),
       )) 0 d.group.members
 
-  carried_stores : (known : ℕ) (c : Coordinator) (decision : Next) → NextIsSame c decision
+  carried_stores : (node : Node) (known : ℕ) (c : Coordinator) (decision : Next) → KeepsPlaces (w.nodes me.0) node → NextIsSame c decision
       → IsOpen (life_of w.marks (w.numbers me.0 c.call.boot c.call.seq))
-      → next.nodes ≡ put w.nodes me.0 (carried_out setting me (w.nodes me.0) known c decision).node
-      → OfEach P (carried_out setting me (w.nodes me.0) known c decision).packets
-  carried_stores known c Ignores same open' nodes = each_none P
-  carried_stores known c (Waits d) same open' nodes = each_none P
-  carried_stores known c (Sends d) same open' nodes =
-      phase_stores c d (tops_put w next me.0 (carried_out setting me (w.nodes me.0) known c (Sends d)).node nodes (refl, refl, refl)) open' same
-  carried_stores known c (Makes d) same open' nodes =
-      phase_stores c d (tops_put w next me.0 (carried_out setting me (w.nodes me.0) known c (Makes d)).node nodes (refl, refl, refl)) open' same
-  carried_stores known c (Ends answer seen stored) same open' nodes =
+      → next.nodes ≡ put w.nodes me.0 (carried_out setting me node known c decision).node
+      → OfEach P (carried_out setting me node known c decision).packets
+  carried_stores node known c Ignores places same open' nodes = each_none P
+  carried_stores node known c (Waits d) places same open' nodes = each_none P
+  carried_stores node known c (Sends d) places same open' nodes =
+      phase_stores c d (tops_put w next me.0 (carried_out setting me node known c (Sends d)).node nodes places) open' same
+  carried_stores node known c (Makes d) places same open' nodes =
+      phase_stores c d (tops_put w next me.0 (carried_out setting me node known c (Makes d)).node nodes places) open' same
+  carried_stores node known c (Ends answer seen stored) places same open' nodes =
       each_collect P me c stored (λ t to u stores. absurd (let never : None ≡ Some u = stores in cc))
 
-  replied_stores : (now : ℕ) (from : BrickId) (call : Call) (reply : Reply)
-      → next.nodes ≡ put w.nodes me.0 (replied setting me now from (w.nodes me.0) call reply).node
-      → OfEach P (replied setting me now from (w.nodes me.0) call reply).packets
-  unfolding replied on_reply
-  replied_stores now from call reply = at_call ((w.nodes me.0).calls call.seq) refl
+  -- what begins no phase stores nothing
+  carried_none : (node : Node) (known : ℕ) (c : Coordinator) (decision : Next) → BeginsNone decision → OfEach P (carried_out setting me node known c decision).packets
+  carried_none node known c Ignores none = each_none P
+  carried_none node known c (Waits d) none = each_none P
+  carried_none node known c (Sends d) none = absurd none
+  carried_none node known c (Makes d) none = absurd none
+  carried_none node known c (Ends answer seen stored) none =
+      each_collect P me c stored (λ t to u stores. absurd (let never : None ≡ Some u = stores in cc))
+
+  -- a proposal stores nothing
+  ballot_stores : (p : Proposal) → OfEach P (ballot_packets me p)
+  ballot_stores p = each_ballot P me p (λ to. ballot_none w next me to p)
+
+  voted_stores : (node : Node) (p : Proposal) (decision : Voting) → OfEach P (carried_ballot setting.layout me node p decision).packets
+  voted_stores node p Ignored = each_none P
+  voted_stores node p (Waited q) = each_none P
+  voted_stores node p (Asks q) = ballot_stores q
+  voted_stores node p (Ended call answer) = teaches answer
     where
-      decides : (c : Coordinator) (fresh : Option Stamp) (seat : Option ℕ)
+      teaches : (answer : ViewAnswer) → OfEach P (ended_packets setting.layout me p answer)
+      teaches (answers.Decided number members) = each_learn P me p.call.group (decided_view p number members) (λ to. tt) setting.layout.bricks 0
+      teaches answer = each_none P
+
+  proposed_stores : (group : GroupId) (members : List BrickId) → OfEach P (proposed setting me (w.nodes me.0) group members).packets
+  unfolding proposed
+  proposed_stores group members = in_group (group_of setting.layout group.0)
+    where
+      in_group : (z : Option Group) → OfEach P (proposed_in setting me (w.nodes me.0) group members z).packets
+      in_group None = each_none P
+      in_group (Some kept) =
+          let p : Proposal = new_proposal me (w.nodes me.0) kept.m group members in
+          cond_both (is_membership kept.m setting.layout.bricks members) (sending (proposing (w.nodes me.0) p) (ballot_packets me p))
+          (reporting (w.nodes me.0) [] (Report.View group None answers.BadMembers)) (λ (step : NodeStep). OfEach P step.packets)
+          (λ may. ballot_stores p) (λ isnt. each_none P)
+
+  -- a reply to an open operation, or to a proposal
+  replied_stores : (node : Node) (now : ℕ) (from : BrickId) (call : Call) (reply : Reply) (found : Option Coordinator) → KeepsPlaces (w.nodes me.0) node
+      → (w.nodes me.0).calls call.seq ≡ found → next.nodes ≡ put w.nodes me.0 (replied_at setting me now from node call reply found).node
+      → OfEach P (replied_at setting me now from node call reply found).packets
+  unfolding on_reply
+  replied_stores node now from call reply None places is nodes = in_proposal node.proposal
+    where
+      in_proposal : (z : Option Proposal) → OfEach P (replied_ballot setting.layout me from (with_known node (known_after node.known reply)) call reply z).packets
+      in_proposal None = each_none P
+      in_proposal (Some p) = voted_stores (with_known node (known_after node.known reply)) p (voted setting.layout.bricks p from call reply)
+  replied_stores node now from call reply (Some c) places is nodes =
+      let known : ℕ = known_after node.known reply in
+      carried_stores node known c _ places
+      (decides (fresh_stamp me c.call.view now node.boot known) (counts_at setting.layout.block c from.0 call reply))
+      (call_open setting w books me.0 call.seq c is) nodes
+    where
+      decides : (fresh : Option Stamp) (seat : Option ℕ)
           → NextIsSame c (counted_at setting.layout.block setting.code fresh c from reply seat)
-      decides c fresh None = tt
-      decides c fresh (Some seat) =
+      decides fresh None = tt
+      decides fresh (Some seat) =
           next_same fresh (with_reply c seat from reply) (once_full setting.layout.block setting.code fresh (with_reply c seat from reply))
           (once_full_fits setting.layout.block setting.code fresh (with_reply c seat from reply))
 
-      at_call : (z : Option Coordinator) → (w.nodes me.0).calls call.seq ≡ z
-          → next.nodes ≡ put w.nodes me.0 (replied_at setting me now from (w.nodes me.0) call reply z).node
-          → OfEach P (replied_at setting me now from (w.nodes me.0) call reply z).packets
-      at_call None is nodes = each_none P
-      at_call (Some c) is nodes =
-          let known : ℕ = known_after (w.nodes me.0).known reply in
-          carried_stores known c _
-          (decides c (fresh_stamp me c.call.view now (w.nodes me.0).boot known) (counts_at setting.layout.block c from.0 call reply))
-          (call_open setting w books me.0 call.seq c is) nodes
+  -- one that tells of a later view has nothing stored
+  moved_stores : (node : Node) (now : ℕ) (from : BrickId) (call : Call) (view : ViewNo) (lineage : Option Lineage) (found : Option Coordinator)
+      → OfEach P (replied_at setting me now from node call (Reply.Moved view lineage) found).packets
+  unfolding on_reply
+  moved_stores node now from call view lineage None = in_proposal node.proposal
+    where
+      in_proposal : (z : Option Proposal) → OfEach P (replied_ballot setting.layout me from (with_known node node.known) call (Reply.Moved view lineage) z).packets
+      in_proposal None = each_none P
+      in_proposal (Some p) = voted_stores (with_known node node.known) p (voted setting.layout.bricks p from call (Reply.Moved view lineage))
+  moved_stores node now from call view lineage (Some c) =
+      carried_none node node.known c _
+      (moved_ends setting.layout.block setting.code (fresh_stamp me c.call.view now node.boot node.known) c from view lineage
+      (counts_at setting.layout.block c from.0 call (Reply.Moved view lineage)))
+
+  -- so has one that teaches a view
+  teaching_stores : (node : Node) (now : ℕ) (from : BrickId) (call : Call) (reply : Reply) (found : Option Coordinator) (view : View) → view_told reply ≡ Some view
+      → OfEach P (replied_at setting me now from node call reply found).packets
+  teaching_stores node now from call (Reply.Moved number lineage) found view told = moved_stores node now from call number lineage found
+  teaching_stores node now from call reply found view told = absurd (let never : None ≡ Some view = told in cc)
+
+  heard_stores : (now : ℕ) (from : BrickId) (call : Call) (reply : Reply)
+      → next.nodes ≡ put w.nodes me.0 (heard setting me now from (w.nodes me.0) call reply).node
+      → OfEach P (heard setting me now from (w.nodes me.0) call reply).packets
+  heard_stores now from call reply =
+      heard_each (λ (step : NodeStep). next.nodes ≡ put w.nodes me.0 step.node → OfEach P step.packets) setting me now from (w.nodes me.0) call reply
+      (λ nodes. each_none P) (λ fit. by (view_counted setting.layout from (w.nodes me.0) call reply) (told (counts_here setting.layout from call reply (w.nodes me.0).proposal found)))
+    where
+      found : Option Coordinator
+      found = (w.nodes me.0).calls call.seq
+
+      -- a view that counts is told
+      told : (counts : Bool) (view : View) → (if counts then view_told reply else None) ≡ Some view → view_told reply ≡ Some view
+      told true view is = is
+      told false view is = absurd (let never : None ≡ Some view = is in cc)
+
+      by : (z : Option View) → ((view : View) → z ≡ Some view → view_told reply ≡ Some view)
+          → (let node : Node = node_taught_by setting.layout.block call.group.0 (with_round (w.nodes me.0) reply) z in
+          next.nodes ≡ put w.nodes me.0 (replied_at setting me now from node call reply found).node → OfEach P (replied_at setting me now from node call reply found).packets)
+      by None is nodes =
+          (let rests = replied_rests setting me from now call.group.0 call reply (with_round (w.nodes me.0) reply) found in
+          replied_stores (with_round (w.nodes me.0) reply) now from call reply found (refl, refl, refl) refl nodes)
+      by (Some view) is nodes =
+          teaching_stores (node_taught setting.layout.block call.group.0 (with_round (w.nodes me.0) reply) view) now from call reply found view (is view refl)
 
   received_stores : (now : ℕ) (from to : BrickId) (message : Message)
       → next.nodes ≡ put w.nodes me.0 (received setting me now (w.nodes me.0) (record { from = from; to = to; message = message })).node
@@ -152,10 +290,13 @@ module _ (setting : Setting) (w next : World) (me : BrickId) (books : Books sett
   unfolding received
   received_stores now from to (Message.Request call request) nodes =
       request_each (λ (step : NodeStep). OfEach P step.packets) setting me from (w.nodes me.0) call request (each_none P)
-      (λ group seat here at view.
+      (λ moved is. each_reply P me from call (Some moved) (λ r at. tt))
+      (λ group seat here served.
       each_reply P me from call
       (handle setting.code group.m (full_at setting.layout.records (w.nodes me.0).live) seat (replica_at (w.nodes me.0) call) request).reply (λ r is. tt))
-  received_stores now from to (Message.Reply call reply) nodes = replied_stores now from call reply nodes
+      (λ group ballot asked here. each_reply P me from call (Some (vote_at (w.nodes me.0) call ballot asked).reply) (λ r is. tt))
+  received_stores now from to (Message.Reply call reply) nodes = heard_stores now from call reply nodes
+  received_stores now from to (Message.Learn group view) nodes = each_none P
   received_stores now from to message nodes = each_none P
 
 -- where nothing is sent
@@ -173,6 +314,12 @@ stores_cases setting w books = record {
         each = invoked_stores setting w (world_began w brick ask (invoked setting brick (w.clocks brick.0) (w.nodes brick.0) ask)) brick books
             (w.clocks brick.0) ask;
       };
+  proposes = λ brick group members may.
+      record {
+        more = (proposed setting brick (w.nodes brick.0) group members).packets;
+        packets = refl;
+        each = proposed_stores setting w (world_stepped setting w brick (proposed setting brick (w.nodes brick.0) group members)) brick books group members;
+      };
   handles = λ number packet at up.
       record {
         more = (step_on setting w packet).packets;
@@ -185,8 +332,11 @@ stores_cases setting w books = record {
       record {
         more = ticked setting brick (w.nodes brick.0);
         packets = refl;
-        each = each_ticked (StoresOpen w (world_ticked setting w brick)) setting brick (w.nodes brick.0).calls (w.nodes brick.0).seq
-            (λ k c is seat to t stores. ((λ g s i. refl), call_open setting w books brick.0 k c is));
+        each = each_both (StoresOpen w (world_ticked setting w brick)) _ (ballot_resent brick (w.nodes brick.0).proposal)
+            (each_ticked (StoresOpen w (world_ticked setting w brick)) setting brick (w.nodes brick.0).calls (w.nodes brick.0).seq
+            (λ k c is seat to t stores. ((λ g s i. refl), call_open setting w books brick.0 k c is)) (λ k c is later from to. tt))
+            (each_ballot_resent (StoresOpen w (world_ticked setting w brick)) brick (w.nodes brick.0).proposal (λ p is to. ballot_none w (world_ticked setting w brick) brick to p)
+            (λ p is later from to. tt));
       };
   stops = λ brick during up. none_sent w (world_stopped setting w brick during) refl;
   starts = λ brick openings found may.

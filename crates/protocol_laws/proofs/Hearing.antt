@@ -18,12 +18,13 @@ use Rattle.protocol.specs.declared.tellings.Report.{Report}
 use Rattle.protocol.specs.Views.{Learnt, view_of}
 use Rattle.protocol.specs.Replicas.{Replica, is_held}
 use Rattle.protocol.specs.Coordinators.{Coordinator}
-use Rattle.protocol.specs.Nodes.{Node, NodeStep, put, no_step, with_known, with_round, known_after, node_taught_by, view_counted, replied_at, lists_fit, heard}
+use Rattle.protocol.specs.Nodes.{Node, NodeStep, put, no_step, with_known, with_round, known_after, node_taught_by, view_counted, replied_at, replied, lists_fit, heard}
 use Rattle.protocol.specs.Worlds.{World, Choices, with_made, with_seen, with_content, with_answer, mark_of, with_held, vote_with, accepted_in, with_votes, reports_of, choices_after, world_told, world_tells, world_answered, world_answers, world_stepped}
 use Rattle.protocol.proofs.Tables.{put_same, put_twice}
 use Rattle.protocol_laws.proofs.Left.{told_same}
 use Rattle.protocol_laws.proofs.Tops.{KeepsPlaces}
-use Rattle.protocol_laws.proofs.Teaching.{told_each, heard_each, replied_rests}
+use Rattle.protocol_laws.proofs.Teaching.{told_each, taught_first, replied_rests}
+use Rattle.std.proofs.lemmas.Bool.{cond_both}
 
 -- the world in which a brick keeps what it is now
 abbrev pub kept_world : World → BrickId → Node → World
@@ -187,21 +188,33 @@ abbrev pub taught_by : Setting → World → BrickId → BrickId → Call → Re
 taught_by setting w me from call reply =
     node_taught_by setting.layout.block call.group.0 (with_round (w.nodes me.0) reply) (view_counted setting.layout from (w.nodes me.0) call reply)
 
--- A brick hears a reply: it learns of a time and a round, or it does what it does with the reply in the world in which it was taught the view.
-pub hearing_each : (P : World → Type 0) (setting : Setting) (w : World) (me : BrickId) (now : ℕ) (from : BrickId) (call : Call) (reply : Reply)
-    → P (world_stepped setting w me (no_step (with_known (with_round (w.nodes me.0) reply) (known_after (w.nodes me.0).known reply))))
-    → (lists_fit setting.layout call reply ≡ true
+-- A brick handles a reply: it does so in the world in which it was taught the view.
+pub replying_each : (P : World → Type 0) (setting : Setting) (w : World) (me : BrickId) (now : ℕ) (from : BrickId) (call : Call) (reply : Reply)
     → (let x : World = kept_world w me (taught_by setting w me from call reply) in
-    P (world_stepped setting x me (replied_at setting me now from (x.nodes me.0) call reply ((w.nodes me.0).calls call.seq)))))
-    → P (world_stepped setting w me (heard setting me now from (w.nodes me.0) call reply))
-hearing_each P setting w me now from call reply left handles =
-    heard_each (λ (step : NodeStep). P (world_stepped setting w me step)) setting me now from (w.nodes me.0) call reply left (λ fit.
+    P (world_stepped setting x me (replied_at setting me now from (x.nodes me.0) call reply ((w.nodes me.0).calls call.seq))))
+    → P (world_stepped setting w me (replied setting me now from (w.nodes me.0) call reply))
+unfolding replied
+replying_each P setting w me now from call reply handles =
     let node : Node = taught_by setting w me from call reply in
     let found : Option Coordinator = (w.nodes me.0).calls call.seq in
     let rests = replied_rests setting me from now call.group.0 call reply node found in
-    subst P (stepped_after setting w me node (replied_at setting me now from node call reply found)
+    subst (λ (step : NodeStep). P (world_stepped setting w me step))
+    (sym (taught_first setting me from now call.group.0 call reply (with_round (w.nodes me.0) reply) found
+    (view_counted setting.layout from (w.nodes me.0) call reply)))
+    (subst P (stepped_after setting w me node (replied_at setting me now from node call reply found)
     (told_each (λ (n : Node). n.boot ≡ (w.nodes me.0).boot) setting.layout.block call.group.0 (with_round (w.nodes me.0) reply)
     (view_counted setting.layout from (w.nodes me.0) call reply) refl (λ v later. refl))
     (rests.learnt, rests.ballots, rests.replicas))
     (subst (λ (n : Node). P (world_stepped setting (kept_world w me node) me (replied_at setting me now from n call reply found)))
-    (put_same w.nodes me.0 node) (handles fit)))
+    (put_same w.nodes me.0 node) handles))
+
+-- It hears a reply: it learns of a time and a round, or it handles it.
+pub hearing_each : (P : World → Type 0) (setting : Setting) (w : World) (me : BrickId) (now : ℕ) (from : BrickId) (call : Call) (reply : Reply)
+    → P (world_stepped setting w me (no_step (with_known (with_round (w.nodes me.0) reply) (known_after (w.nodes me.0).known reply))))
+    → (let x : World = kept_world w me (taught_by setting w me from call reply) in
+    P (world_stepped setting x me (replied_at setting me now from (x.nodes me.0) call reply ((w.nodes me.0).calls call.seq))))
+    → P (world_stepped setting w me (heard setting me now from (w.nodes me.0) call reply))
+hearing_each P setting w me now from call reply left handles =
+    cond_both (lists_fit setting.layout call reply) (replied setting me now from (w.nodes me.0) call reply)
+    (no_step (with_known (with_round (w.nodes me.0) reply) (known_after (w.nodes me.0).known reply)))
+    (λ (step : NodeStep). P (world_stepped setting w me step)) (λ fit. replying_each P setting w me now from call reply handles) (λ isnt. left)

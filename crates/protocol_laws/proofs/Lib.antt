@@ -17,8 +17,8 @@ pub mod Entries
 pub mod EveryRun
 pub mod Falls
 pub mod FirstViews
-pub mod FirstWorlds
 pub mod Growth
+pub mod FollowedViews
 pub mod Guards
 pub mod Hearing
 pub mod Left

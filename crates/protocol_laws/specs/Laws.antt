@@ -2,6 +2,8 @@
 use Rattle.std.specs.Prelude.{◌≡◌, ℕ, ◌+◌, ◌<◌, ◌≤◌, Bool, true, false, not, nat_eq, ◌&&◌, List, [], ◌++◌, length, map, ◌⊎◌, Option, Some, None, is_some, slice_get, ◌-◌}
 use Rattle.std.specs.List.{IsDistinct}
 use Rattle.fab_base.specs.declared.identities.BrickId.{BrickId}
+use Rattle.fab_base.specs.declared.identities.ViewNo.{ViewNo}
+use Rattle.messages.specs.declared.replies.Lineage.{Lineage}
 use Rattle.fab_base.specs.declared.stamps.Stamp.{Stamp}
 use Rattle.fab_base.specs.declared.asks.Op.{Op}
 use Rattle.fab_base.specs.declared.asks.Op.TheVariants.{ReadBlock, WriteBlock, ReadStripe, WriteStripe}
@@ -79,12 +81,6 @@ abbrev pub EveryRunFollowsItsViews : Type 0
 EveryRunFollowsItsViews =
     (setting : Setting) (events : List Event) → IsSound setting
     → RunFollows setting (views_in setting.layout (run setting events (first_world setting.layout)).packets) events
-
--- the members that a run's messages teach are the layout's, in every view: no message names any yet
-abbrev pub EveryRunKeepsItsMembers : Type 0
-EveryRunKeepsItsMembers =
-    (setting : Setting) (events : List Event) (group view : ℕ)
-    → views_in setting.layout (run setting events (first_world setting.layout)).packets group view ≡ layout_views setting.layout group view
 
 -- a request was sent, under a call, to a brick
 abbrev pub RequestSent : World → Call → BrickId → BrickId → Request → Type 0
@@ -294,10 +290,22 @@ pub record FullEvidence (w : World) (n : ℕ) (o : Operation) (brick : BrickId) 
   pub lowest : lowest_full (w.replies n call.phase) ≡ Some (record { seat = seat; brick = brick; live = live })
   pub final : IsLastPhase w n call.phase
 
--- the evidence of an abort, by its cause: there are two causes
+-- What the abort of operation n for a member that serves its view no more shows: in the last phase of this very operation the brick had
+-- told the coordinator of this later view, and no reply that counted in that phase told one from a lower seat.
+pub record MovedEvidence (w : World) (n : ℕ) (o : Operation) (brick : BrickId) (view : ViewNo) : Type 0 where
+  pub call : Call
+  pub seat : ℕ
+  pub lineage : Option Lineage
+  pub own : IsCallOf call o
+  pub told : WasSent w (record { from = brick; to = o.brick; message = Message.Reply call (Reply.Moved view lineage) })
+  pub lowest : lowest_mover (w.replies n call.phase) ≡ Some (record { seat = seat; brick = brick; view = view })
+  pub final : IsLastPhase w n call.phase
+
+-- the evidence of an abort, by its cause: there are three causes
 abbrev pub Evidence : World → ℕ → Operation → Cause → Type 0
 Evidence w n o (Cause.Later brick x) = LaterEvidence w n o brick x
 Evidence w n o (Cause.Full brick live) = FullEvidence w n o brick live
+Evidence w n o (Cause.Moved brick view) = MovedEvidence w n o brick view
 Evidence w n o cause = ⊥
 
 -- each reply that counted in a phase of an operation was sent to it, as a reply to that phase
