@@ -145,10 +145,10 @@ voted_calls : (layout : Layout) (me from : BrickId) (node : Node) (p : Proposal)
     → StepCalls me.0 node (carried_ballot layout me node p (voted layout.bricks p from call reply)).node
     (carried_ballot layout me node p (voted layout.bricks p from call reply)).packets
 voted_calls layout me from node p call reply is =
-    voting_each (λ (v : Voting). StepCalls me.0 node (carried_ballot layout me node p v).node (carried_ballot layout me node p v).packets) layout.bricks p
+    voting_each (λ (at : Option ℕ) (v : Voting). StepCalls me.0 node (carried_ballot layout me node p v).node (carried_ballot layout me node p v).packets) layout.bricks p
     from call reply
     (record {
-      ignores = still_calls me.0 node node [] refl (omega arith) (omega arith) refl (each_none NamesNone);
+      ignores = λ none. still_calls me.0 node node [] refl (omega arith) (omega arith) refl (each_none NamesNone);
       waits = λ seat counts. record {
         rises = inr (refl, omega arith, omega arith);
         drafts = λ q same. inl (old_draft q _ (same_Some _ q same) refl refl refl);

@@ -40,7 +40,7 @@ abbrev pub HasLimits : Layout → Type 0
 HasLimits layout = (number : ℕ) (group : Group) → group_of layout number ≡ Some group → IsWithinLimits group.m (length group.members)
 
 -- view 1 is the layout's
-first_is : (layout : Layout) (packets : List Packet) (g e : ℕ) (view : View) → e ≡ 1 → named_in layout packets g e ≡ Some view
+pub first_is : (layout : Layout) (packets : List Packet) (g e : ℕ) (view : View) → e ≡ 1 → named_in layout packets g e ≡ Some view
     → first_view (members_of (group_of layout g)) ≡ view
 first_is layout packets g e view one is =
     same_Some (first_view (members_of (group_of layout g))) view (ap (λ (z : ℕ). named_in layout packets g z) (sym one) ∙ is)

@@ -43,6 +43,10 @@ first_learn_is g e [] = refl
 first_learn_is g e (packet ∷ packets) =
     by packet.message ∙ ap (either (learn_in g e packet.message)) (first_learn_is g e packets)
   where
+    one : Option View → Option View
+    one None = first_learn g e packets
+    one (Some view) = Some view
+
     by : (message : Message) → first_learn g e (record { from = packet.from; to = packet.to; message = message } ∷ packets)
         ≡ either (learn_in g e message) (first_learn g e packets)
     by (Message.Learn group view) =
@@ -53,10 +57,6 @@ first_learn_is g e (packet ∷ packets) =
     by (Message.Synced group view) = refl
     by (Message.Client ask) = refl
     by (Message.ClientReply id answered) = refl
-
-    one : Option View → Option View
-    one None = first_learn g e packets
-    one (Some view) = Some view
 
 -- the members of a view that has a name are those that it tells
 pub views_of_name : (layout : Layout) (packets : List Packet) (g e : ℕ) (view : View) → named_in layout packets g e ≡ Some view

@@ -491,7 +491,7 @@ module _ (setting : Setting) (limits : HasLimits setting.layout) (v : ViewWorld)
           after.1
 
       -- so it is known, once it is taught
-      decided_named : (k : ℕ) (packet : Packet) → slice_get new k ≡ Some packet → IsNamed setting.layout (v.packets ++ new) g view
+      pub decided_named : (k : ℕ) (packet : Packet) → slice_get new k ≡ Some packet → IsNamed setting.layout (v.packets ++ new) g view
       decided_named k packet at = by (named_in setting.layout v.packets g (e + 1)) refl
         where
           by : (z : Option View) → named_in setting.layout v.packets g (e + 1) ≡ z → IsNamed setting.layout (v.packets ++ new) g view
@@ -543,11 +543,11 @@ module _ (setting : Setting) (limits : HasLimits setting.layout) (v : ViewWorld)
       BodySays setting.layout v x me.0 step.node step.packets)
   proposal_body mid calls proposal p is =
       voting_each
-      (λ (decision : Voting).
+      (λ (at : Option ℕ) (decision : Voting).
       BodySays setting.layout v x me.0 (carried_ballot setting.layout me mid p decision).node (carried_ballot setting.layout me mid p decision).packets)
       setting.layout.bricks p from call said
       (record {
-        ignores = quiet_body mid [] (other_calls mid calls) proposal (each_none (IsQuiet setting.layout));
+        ignores = λ none. quiet_body mid [] (other_calls mid calls) proposal (each_none (IsQuiet setting.layout));
         waits = λ seat counts. waits_body mid calls p is seat counts;
         asks = λ seat counts enough free prepares. asks_body p is seat counts enough free mid calls prepares;
         decides = λ seat members counts enough free some. decides_body p is seat counts enough free members some mid calls;
