@@ -43,15 +43,9 @@ first_learn_is g e [] = refl
 first_learn_is g e (packet ∷ packets) =
     by packet.message ∙ ap (either (learn_in g e packet.message)) (first_learn_is g e packets)
   where
-    one : Option View → Option View
-    one None = first_learn g e packets
-    one (Some view) = Some view
-
     by : (message : Message) → first_learn g e (record { from = packet.from; to = packet.to; message = message } ∷ packets)
         ≡ either (learn_in g e message) (first_learn g e packets)
-    by (Message.Learn group view) =
-        cond_both (nat_eq group.0 g && nat_eq view.number.0 e) (Some view) None
-        (λ (z : Option View). one z ≡ either z (first_learn g e packets)) (λ is. refl) (λ isnt. refl)
+    by (Message.Learn group view) = refl
     by (Message.Request call request) = refl
     by (Message.Reply call said) = refl
     by (Message.Synced group view) = refl
@@ -66,8 +60,8 @@ views_of_name layout packets g e view named = by (nat_lt 1 e) refl
     by : (t : Bool) → nat_lt 1 e ≡ t → views_in layout packets g e ≡ view.members
     by true later =
         let first : first_told (λ packet. learn_in g e packet.message) packets ≡ Some view
-            = sym (ap (λ (t : Bool). cond t (first_told (λ packet. learn_in g e packet.message) packets)
-            (cond (nat_eq e 1) (Some (first_view (members_of (group_of layout g)))) None)) later) ∙ named in
+        = sym (ap (λ (t : Bool). cond t (first_told (λ packet. learn_in g e packet.message) packets)
+        (cond (nat_eq e 1) (Some (first_view (members_of (group_of layout g)))) None)) later) ∙ named in
         ap (λ (t : Bool). cond t (unwrap_or (option_map (λ (z : View). z.members) (first_learn g e packets)) (layout_views layout g e)) (layout_views layout g e)) later
         ∙ ap (λ (z : Option View). unwrap_or (option_map (λ (y : View). y.members) z) (layout_views layout g e)) (first_learn_is g e packets ∙ first)
     by false isnt =
@@ -84,8 +78,8 @@ views_of_none layout packets g e none = by (nat_lt 1 e) refl
     by : (t : Bool) → nat_lt 1 e ≡ t → views_in layout packets g e ≡ members_of (group_of layout g)
     by true later =
         let first : first_told (λ packet. learn_in g e packet.message) packets ≡ None
-            = sym (ap (λ (t : Bool). cond t (first_told (λ packet. learn_in g e packet.message) packets)
-            (cond (nat_eq e 1) (Some (first_view (members_of (group_of layout g)))) None)) later) ∙ none in
+        = sym (ap (λ (t : Bool). cond t (first_told (λ packet. learn_in g e packet.message) packets)
+        (cond (nat_eq e 1) (Some (first_view (members_of (group_of layout g)))) None)) later) ∙ none in
         ap (λ (t : Bool). cond t (unwrap_or (option_map (λ (z : View). z.members) (first_learn g e packets)) (layout_views layout g e)) (layout_views layout g e)) later
         ∙ ap (λ (z : Option View). unwrap_or (option_map (λ (y : View). y.members) z) (layout_views layout g e)) (first_learn_is g e packets ∙ first)
     by false isnt =
@@ -134,7 +128,7 @@ view_distinct setting v g view base sound agreed named is = by (nat_lt 1 view.nu
         let some = (name_has_number setting.layout v.packets g view.number.0 view named).1 in
         let one : view.number.0 ≡ 1 = grind (arith, nat_tests, isnt, some) in
         let members : base.members ≡ view.members
-            = sym (ap members_of is) ∙ ap (λ (z : View). z.members) (first_is setting.layout v.packets g view.number.0 view one named) in
+        = sym (ap members_of is) ∙ ap (λ (z : View). z.members) (first_is setting.layout v.packets g view.number.0 view one named) in
         subst (λ (l : List BrickId). IsDistinct nat_eq (map (λ (member : BrickId). member.0) l)) members (sound.distinct g base is)
 
 -- ---- closed views
@@ -219,12 +213,13 @@ named_fits setting w g e group sound agreed is = by (named_in setting.layout w.p
     by (Some view) named =
         let kept = kept_is setting.layout view.members g group (sym (group_of_name setting.layout w.packets g e view named) ∙ is) in
         let known = name_is setting.layout w.packets g e view named in
-        subst (λ (z : Group). IsWithinLimits z.m (length z.members) × IsDistinct nat_eq (map (λ (member : BrickId). member.0) z.members)) (sym kept.2)
-        (view_limits setting.layout (view_world w) g view kept.0 sound.limits agreed.says known kept.1,
-        view_distinct setting (view_world w) g view kept.0 sound agreed known kept.1)
+        subst (λ (z : Group). IsWithinLimits z.m (length z.members) × IsDistinct nat_eq (map (λ (member : BrickId). member.0) z.members)) (sym kept.2) (
+          view_limits setting.layout (view_world w) g view kept.0 sound.limits agreed.says known kept.1,
+          view_distinct setting (view_world w) g view kept.0 sound agreed known kept.1,
+        )
     by None none =
         let kept = kept_is setting.layout (members_of (group_of setting.layout g)) g group
-            (sym (ap (λ (members : List BrickId). group_kept setting.layout members g) (views_of_none setting.layout w.packets g e none)) ∙ is) in
+        (sym (ap (λ (members : List BrickId). group_kept setting.layout members g) (views_of_none setting.layout w.packets g e none)) ∙ is) in
         let members : members_of (group_of setting.layout g) ≡ kept.0.members = ap members_of kept.1 in
         subst (λ (z : Group). IsWithinLimits z.m (length z.members) × IsDistinct nat_eq (map (λ (member : BrickId). member.0) z.members)) (sym kept.2)
         (subst (λ (l : List BrickId). IsWithinLimits kept.0.m (length l) × IsDistinct nat_eq (map (λ (member : BrickId). member.0) l)) (sym members)
@@ -238,10 +233,10 @@ decided_guards layout w g e s view agreed some decided number =
     let seats : ℕ → Bool = decided.chosen.0 in
     let many = decided.chosen.1 in
     let more = count_monotone (length group.members) seats (λ seat. not (stamp_below (top_at (w.nodes (brick_at group seat)) g s) (floor_of (e + 1))))
-        (λ k below member.
-        ap not (closed_above (w.nodes (brick_at group k)) g e s some
-        (voter_closed layout (view_world w) (brick_at group k) g e decided.ballot view.members agreed
-        (subst (λ (z : ℕ). w.choices.votes (brick_at group k) g z decided.ballot ≡ Some view.members) number (decided.chosen.2 k below member))))) in
+    (λ k below member.
+    ap not (closed_above (w.nodes (brick_at group k)) g e s some
+    (voter_closed layout (view_world w) (brick_at group k) g e decided.ballot view.members agreed
+    (subst (λ (z : ℕ). w.choices.votes (brick_at group k) g z decided.ballot ≡ Some view.members) number (decided.chosen.2 k below member))))) in
     omega (arith, many, more)
 
 -- a world follows the members that the packets of a later one name
@@ -254,7 +249,7 @@ follows_later setting w later sound agreed agreed_later extends = record {
       (extends.named g (view_at (w.nodes i) g) ((w.nodes i).learnt g).view (agreed.learnt i g)));
   prior = λ i g above.
       let decided : IsDecided setting.layout (view_world w) g ((w.nodes i).learnt g).view
-          = (known_taught setting.layout (view_world w) g ((w.nodes i).learnt g).view agreed.says (agreed.learnt i g) above).1 in
+      = (known_taught setting.layout (view_world w) g ((w.nodes i).learnt g).view agreed.says (agreed.learnt i g) above).1 in
       let next = decided.next in
       let number : decided.before.number.0 ≡ view_at (w.nodes i) g - 1 = omega (arith, next) in
       decided.prior ∙ sym (views_of_name setting.layout later.packets g (view_at (w.nodes i) g - 1) decided.before
@@ -262,17 +257,17 @@ follows_later setting w later sound agreed agreed_later extends = record {
       (extends.named g decided.before.number.0 decided.before decided.named)));
   passed = λ i g e s group some before found.
       let known = below_known setting.layout (view_world w) g e (view_at (w.nodes i) g - (e + 1)) ((w.nodes i).learnt g).view agreed some
-          (omega (arith, before)) (agreed.learnt i g) in
+      (omega (arith, before)) (agreed.learnt i g) in
       let number = known.2 in
       let decided : IsDecided setting.layout (view_world w) g known.0
-          = (known_taught setting.layout (view_world w) g known.0 agreed.says known.1 (omega (arith, number, some))).1 in
+      = (known_taught setting.layout (view_world w) g known.0 agreed.says known.1 (omega (arith, number, some))).1 in
       let next = decided.next in
       let number_before : decided.before.number.0 ≡ e = omega (arith, next, number) in
       let named : named_in setting.layout later.packets g e ≡ Some decided.before
-          = subst (λ (z : ℕ). named_in setting.layout later.packets g z ≡ Some decided.before) number_before
-          (extends.named g decided.before.number.0 decided.before decided.named) in
+      = subst (λ (z : ℕ). named_in setting.layout later.packets g z ≡ Some decided.before) number_before
+      (extends.named g decided.before.number.0 decided.before decided.named) in
       let same : decided.group ≡ group
-          = same_Some decided.group group (sym decided.group_is ∙ sym (group_of_name setting.layout later.packets g e decided.before named) ∙ found) in
+      = same_Some decided.group group (sym decided.group_is ∙ sym (group_of_name setting.layout later.packets g e decided.before named) ∙ found) in
       subst (λ (z : Group). IsGuarded w g s z (floor_of (e + 1))) same
       (decided_guards setting.layout w g e s known.0 agreed some decided number_before);
 }
@@ -282,7 +277,7 @@ pub every_run_follows : EveryRunFollowsItsViews
 every_run_follows setting events sound earlier later is =
     let first : World = first_world setting.layout in
     let same : run setting events first ≡ run setting later (run setting earlier first)
-        = ap (λ (l : List Event). run setting l first) is ∙ run-append setting first earlier later in
+    = ap (λ (l : List Event). run setting l first) is ∙ run-append setting first earlier later in
     subst (λ (x : World). Follows setting.layout (views_in setting.layout x.packets) (run setting earlier first)) (sym same)
     (follows_later setting (run setting earlier first) (run setting later (run setting earlier first)) sound (always_agreed setting sound earlier).agreed
     (subst (λ (x : World). Agreed setting.layout (view_world x)) (run-append setting first earlier later) (always_agreed setting sound (earlier ++ later)).agreed)
