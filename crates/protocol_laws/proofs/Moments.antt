@@ -1,7 +1,7 @@
 -- What a member told was true of it when it told it.
-use Rattle.std.proofs.Common.{nat_lt, ◌≡◌, ◌+◌, ℕ, true, List, [], Option, Some, None, refl, sym, ap, ◌∙◌, subst, false}
-use Rattle.std.specs.Prelude.{nat_eq}
-use Rattle.std.proofs.lemmas.Bool.{cond_both}
+use Rattle.std.proofs.Common.{nat_lt, ◌≡◌, ◌≤◌, ◌+◌, ⊎_elim, arith, not, Bool, ℕ, true, List, [], Option, Some, None, refl, sym, ap, ◌∙◌, subst, false}
+use Rattle.std.specs.Prelude.{nat_eq, if◌then◌else◌}
+use Rattle.std.proofs.lemmas.Bool.{cond_both, cases_Bool, or_parts, ltb-true, ltb-false}
 use Rattle.std.proofs.lemmas.Option.{same_Some}
 use Rattle.fab_base.specs.declared.identities.BrickId.{BrickId}
 use Rattle.fab_base.specs.declared.asks.Ask.{Ask}
@@ -12,7 +12,7 @@ use Rattle.messages.specs.declared.packets.Message.{Message}
 use Rattle.messages.specs.declared.packets.Packet.{Packet}
 use Rattle.messages.specs.declared.requests.Request.{Request}
 use Rattle.messages.specs.declared.replies.Reply.{Reply}
-use Rattle.fab_base.specs.Layouts.{Group, group_of}
+use Rattle.fab_base.specs.Layouts.{Layout, Group, group_of}
 use Rattle.fab_base.specs.declared.stamps.Ballot.{Ballot}
 use Rattle.fab_base.specs.declared.identities.GroupId.{GroupId}
 use Rattle.protocol.specs.Ballots.{Voted, moved_to, granting}
@@ -25,11 +25,11 @@ use Rattle.protocol.specs.Settings.{Setting, Code}
 use Rattle.protocol_laws.proofs.Reactions.{modified_each}
 use Rattle.protocol.specs.Replicas.{Replica, Reaction, top_of, is_held, is_wanted, told_version, stays, unless_full, promised, stored, looked_up, handle, ignored}
 use Rattle.protocol.specs.Coordinators.{Coordinator, Next, Ignores, Waits, Sends, Makes, Ends, request_of, on_reply}
-use Rattle.protocol.specs.Nodes.{view_at, Node, replica_at, full_at, reply_packets, ticked, began, invoked, requested, known_after, fresh_stamp, carried_out, group_at, replied_at, heard, received, with_round, node_taught_by, view_counted, moved_at, has_accepted, vote_at, with_known, replied_ballot, carried_ballot, ended_packets, decided_view, new_proposal, proposing, reporting, sending, proposed_in, proposed, ballot_resent, NodeStep, phase_packets, new_coordinator, view_floor}
+use Rattle.protocol.specs.Nodes.{view_at, Node, replica_at, full_at, reply_packets, ticked, began, invoked, requested, known_after, fresh_stamp, carried_out, group_at, replied_at, heard, received, with_round, node_taught_by, view_counted, moved_at, is_void, requested_in, requested_as, no_step, has_accepted, vote_at, with_known, replied_ballot, carried_ballot, ended_packets, decided_view, new_proposal, proposing, reporting, sending, proposed_in, proposed, ballot_resent, NodeStep, phase_packets, new_coordinator, view_floor}
 use Rattle.protocol.specs.Worlds.{World, Event, first_world, world_stopped, happens, run}
 use Rattle.protocol_laws.specs.Laws.{RefusalIsTrue, RefusalsWereTrue, stamp_asked}
 use Rattle.protocol.proofs.Served.{request_each}
-use Rattle.protocol_laws.proofs.Votes.{vote_each}
+use Rattle.protocol_laws.proofs.Votes.{vote_each, outbid_promised}
 use Rattle.protocol_laws.proofs.Teaching.{heard_each}
 use Rattle.protocol.proofs.Events.{EventCases, step_on, happens_each, started_each}
 use Rattle.protocol.proofs.Packets.{OfEach, each_none, each_one, each_both, each_member, each_collect, each_reply, each_ticked, each_learn, each_ballot, each_ballot_resent}
@@ -55,6 +55,9 @@ abbrev SaysTrue : Option ℕ → Replica → Request → Option Reply → Type 0
 SaysTrue full replica request None = Unit {0}
 SaysTrue full replica request (Some (Reply.Later x)) = (top_of replica ≡ x) × ((t : Stamp) × (stamp_asked request ≡ Some t) × (stamp_below t x ≡ true))
 SaysTrue full replica request (Some (Reply.Full live)) = full ≡ Some live
+SaysTrue full replica request (Some (Reply.Moved view lineage)) = ⊥
+SaysTrue full replica request (Some (Reply.Outbid ballot)) = ⊥
+SaysTrue full replica request (Some Reply.NotSynced) = ⊥
 SaysTrue full replica request (Some reply) = Unit {0}
 
 unless_full_true : (full whole : Option ℕ) (replica : Replica) (request : Request) (reaction : Reaction) → whole ≡ full → SaysTrue whole replica request reaction.reply
@@ -96,6 +99,15 @@ full_live records node live is =
     cond_both (nat_eq node.live records) (Some node.live) None (λ (z : Option ℕ). z ≡ Some live → node.live ≡ live)
     (λ same e. same_Some node.live live e) (λ other e. cc) is
 
+-- a request that is not void is of no later view than its brick has learnt
+unvoid_view : (layout : Layout) (me : BrickId) (node : Node) (call : Call) (request : Request) (group : Group) → is_void layout me node call request group ≡ false
+    → call.view.0 ≤ view_at node call.group.0
+unvoid_view layout me node call request group isnt =
+    let stripe = or_parts (not (nat_lt call.stripe.0 group.stripes)) _ isnt in
+    let view = or_parts (nat_eq call.view.0 0) _ stripe.1 in
+    let known = or_parts (nat_lt (view_at node call.group.0) call.view.0) _ view.1 in
+    ltb-false (view_at node call.group.0) call.view.0 known.0
+
 module _ (setting : Setting) (w : World) where
   replies_true : (me to : BrickId) (call : Call) (request : Request) (reply : Option Reply)
       → ((t : Stamp) → stamp_asked request ≡ Some t → stamp_below t (view_floor (w.nodes me.0) call.group.0) ≡ false)
@@ -115,45 +127,72 @@ module _ (setting : Setting) (w : World) where
           top_is_part (w.nodes me.0) call.group.0 call.stripe.0 is.1.0 (above is.1.0 is.1.1) (ap (λ (z : Stamp). stamp_below is.1.0 z) part ∙ is.1.2)
           ∙ part
       said (Reply.Full live) is = full_live setting.layout.records (w.nodes me.0) live is
+      said (Reply.Moved number lineage) is = absurd is
+      said (Reply.Outbid ballot) is = absurd is
+      said Reply.NotSynced is = absurd is
       said r is = tt
+
+  -- what a member tells that serves the view of a call no more
+  moved_true : (me from : BrickId) (call : Call) (moved : Reply) → call.view.0 ≤ view_at (w.nodes me.0) call.group.0 → moved_at (w.nodes me.0) call ≡ Some moved
+      → IsTrue w (record { from = me; to = from; message = Message.Reply call moved })
+  moved_true me from call moved known =
+      cond_both (nat_lt call.view.0 (view_at (w.nodes me.0) call.group.0)) (Some (moved_to ((w.nodes me.0).learnt call.group.0).view)) _
+      (λ (z : Option Reply). z ≡ Some moved → IsTrue w (record { from = me; to = from; message = Message.Reply call moved }))
+      (λ later is. told (moved_to ((w.nodes me.0).learnt call.group.0).view) (same_Some _ moved is)
+      (ltb-true call.view.0 (view_at (w.nodes me.0) call.group.0) later, refl))
+      (λ isnt. cond_both (has_accepted (w.nodes me.0) call.group.0) (Some (Reply.Moved (record { 0 = call.view.0 + 1 }) None)) None
+      (λ (z : Option Reply). z ≡ Some moved → IsTrue w (record { from = me; to = from; message = Message.Reply call moved }))
+      (λ has is. told (Reply.Moved (record { 0 = call.view.0 + 1 }) None) (same_Some _ moved is)
+      (refl, (let most = ltb-false call.view.0 (view_at (w.nodes me.0) call.group.0) isnt in omega (arith, most, known)), has))
+      (λ free is. absurd (let never : None ≡ Some moved = is in cc)))
+    where
+      told : (one : Reply) → one ≡ moved → IsTrue w (record { from = me; to = from; message = Message.Reply call one })
+          → IsTrue w (record { from = me; to = from; message = Message.Reply call moved })
+      told one same is = subst (λ (r : Reply). IsTrue w (record { from = me; to = from; message = Message.Reply call r })) same is
+
+  -- and one that votes
+  vote_true : (me from : BrickId) (call : Call) (ballot : Ballot) (asked : Option (List BrickId)) → call.view.0 ≤ view_at (w.nodes me.0) call.group.0
+      → IsTrue w (record { from = me; to = from; message = Message.Reply call (vote_at (w.nodes me.0) call ballot asked).reply })
+  vote_true me from call ballot asked known =
+      vote_each (λ (v : Voted). IsTrue w (record { from = me; to = from; message = Message.Reply call v.reply })) call.view.0
+      ((w.nodes me.0).learnt call.group.0) ((w.nodes me.0).ballots call.group.0) ballot asked (λ later. (later, refl))
+      (λ most not. (omega (arith, most, known), not))
+      (λ greater most is. (omega (arith, most, known), outbid_promised ((w.nodes me.0).ballots call.group.0) ballot greater is)) (granted asked)
+    where
+      granted : (asks : Option (List BrickId))
+          → IsTrue w (record { from = me; to = from; message = Message.Reply call (granting ((w.nodes me.0).ballots call.group.0) ballot asks).reply })
+      granted None = tt
+      granted (Some members) = tt
 
   -- what a step on a message sends
   requested_true : (me from : BrickId) (call : Call) (request : Request) → NodeViews setting.layout (w.nodes me.0)
       → RequestIsOf call request → AreTrue w (requested setting me from (w.nodes me.0) call request).packets
-  requested_true me from call request has asks =
-      request_each (λ step. AreTrue w step.packets) setting me from (w.nodes me.0) call request (each_none (IsTrue w))
-      (λ moved is. each_one (IsTrue w) _ [] (moved_true moved is) (each_none (IsTrue w)))
-      (λ group seat here served. replies_true me from call request
-      (handle setting.code group.m (full_at setting.layout.records (w.nodes me.0).live) seat (replica_at (w.nodes me.0) call) request).reply
-      (asks_above setting.layout (w.nodes me.0) call request has asks served.view (free_for (w.nodes me.0) call request served.free)) served.view
-      (handle_true setting.code group.m (full_at setting.layout.records (w.nodes me.0).live) seat (replica_at (w.nodes me.0) call) request))
-      (λ group ballot asked here. each_one (IsTrue w) _ [] (vote_true ballot asked) (each_none (IsTrue w)))
+  unfolding requested
+  requested_true me from call request has asks = in_group (group_at setting.layout (w.nodes me.0) call.group.0) refl
     where
-      of_reply : (one other : Reply) → one ≡ other → IsTrue w (record { from = me; to = from; message = Message.Reply call one })
-          → IsTrue w (record { from = me; to = from; message = Message.Reply call other })
-      of_reply one other same is = subst (λ (r : Reply). IsTrue w (record { from = me; to = from; message = Message.Reply call r })) same is
+      node : Node
+      node = w.nodes me.0
 
-      granted : (ballot : Ballot) (asked : Option (List BrickId))
-          → IsTrue w (record { from = me; to = from; message = Message.Reply call (granting ((w.nodes me.0).ballots call.group.0) ballot asked).reply })
-      granted ballot None = tt
-      granted ballot (Some members) = tt
+      -- a request that is not void
+      handled : call.view.0 ≤ view_at node call.group.0 → AreTrue w (requested setting me from node call request).packets
+      handled known =
+          request_each (λ step. AreTrue w step.packets) setting me from node call request (each_none (IsTrue w))
+          (λ moved is. each_one (IsTrue w) _ [] (moved_true me from call moved known is) (each_none (IsTrue w)))
+          (λ group seat here served. replies_true me from call request
+          (handle setting.code group.m (full_at setting.layout.records node.live) seat (replica_at node call) request).reply
+          (asks_above setting.layout node call request has asks served.view (free_for node call request served.free)) served.view
+          (handle_true setting.code group.m (full_at setting.layout.records node.live) seat (replica_at node call) request))
+          (λ group ballot asked here. each_one (IsTrue w) _ [] (vote_true me from call ballot asked known) (each_none (IsTrue w)))
 
-      moved_true : (moved : Reply) → moved_at (w.nodes me.0) call ≡ Some moved → IsTrue w (record { from = me; to = from; message = Message.Reply call moved })
-      moved_true moved =
-          cond_both (nat_lt call.view.0 (view_at (w.nodes me.0) call.group.0)) (Some (moved_to ((w.nodes me.0).learnt call.group.0).view)) _
-          (λ (z : Option Reply). z ≡ Some moved → IsTrue w (record { from = me; to = from; message = Message.Reply call moved }))
-          (λ later is. of_reply (moved_to ((w.nodes me.0).learnt call.group.0).view) moved (same_Some _ moved is) tt)
-          (λ isnt. cond_both (has_accepted (w.nodes me.0) call.group.0) (Some (Reply.Moved (record { 0 = call.view.0 + 1 }) None)) None
-          (λ (z : Option Reply). z ≡ Some moved → IsTrue w (record { from = me; to = from; message = Message.Reply call moved }))
-          (λ has is. of_reply (Reply.Moved (record { 0 = call.view.0 + 1 }) None) moved (same_Some _ moved is) tt)
-          (λ free is. absurd (let never : None ≡ Some moved = is in cc)))
-
-      vote_true : (ballot : Ballot) (asked : Option (List BrickId))
-          → IsTrue w (record { from = me; to = from; message = Message.Reply call (vote_at (w.nodes me.0) call ballot asked).reply })
-      vote_true ballot asked =
-          vote_each (λ (v : Voted). IsTrue w (record { from = me; to = from; message = Message.Reply call v.reply })) call.view.0
-          ((w.nodes me.0).learnt call.group.0) ((w.nodes me.0).ballots call.group.0) ballot asked (λ later. tt) (λ most not. tt) (λ greater is. tt)
-          (granted ballot asked)
+      in_group : (z : Option Group) → group_at setting.layout node call.group.0 ≡ z → AreTrue w (requested_in setting me from node call request z).packets
+      in_group None here = each_none (IsTrue w)
+      in_group (Some group) here = ⊎_elim
+          (λ (void : is_void setting.layout me node call request group ≡ true).
+          subst (λ (b : Bool). AreTrue w (if b then no_step node else requested_as setting group me from node call request).packets) (sym void) (each_none (IsTrue w)))
+          (λ (isnt : is_void setting.layout me node call request group ≡ false).
+          subst (λ (z : Option Group). AreTrue w (requested_in setting me from node call request z).packets) here
+          (handled (unvoid_view setting.layout me node call request group isnt)))
+          (cases_Bool (is_void setting.layout me node call request group))
 
   carried_true : (me : BrickId) (node : Node) (known : ℕ) (c : Coordinator) (next : Next)
       → AreTrue w (carried_out setting me node known c next).packets

@@ -224,7 +224,7 @@ module _ (setting : Setting) (views : Views) (w : World) (stamps : Stamping) (bo
   vote_says me from call ballot asked next =
       each_one (PacketSays setting views next stamps) (record { from = me; to = from; message = Message.Reply call (vote_at (w.nodes me.0) call ballot asked).reply }) []
       (vote_each (λ (v : Voted). PacketSays setting views next stamps (record { from = me; to = from; message = Message.Reply call v.reply })) call.view.0
-      ((w.nodes me.0).learnt call.group.0) ((w.nodes me.0).ballots call.group.0) ballot asked (λ later. tt) (λ most not. tt) (λ greater is. tt) (granted asked))
+      ((w.nodes me.0).learnt call.group.0) ((w.nodes me.0).ballots call.group.0) ballot asked (λ later. tt) (λ most not. tt) (λ greater most is. tt) (granted asked))
       (each_none (PacketSays setting views next stamps))
     where
       granted : (asks : Option (List BrickId)) → PacketSays setting views next stamps

@@ -3,6 +3,8 @@
 use Rattle.std.specs.Option.{option_map}
 use Rattle.std.proofs.Common.{◌≡◌, ℕ, ◌<◌, Bool, true, false, nat_lt, ltb-true, ltb-false, ◌≤◌, ◌&&◌, ◌^◌, ◌-◌, List, Option, Some, None, is_some, refl, sym, ap, ◌∙◌, subst, ◌⊎◌, inl, inr}
 use Rattle.std.proofs.lemmas.Bool.{cond_both, and_parts, and_from}
+use Rattle.std.proofs.lemmas.Option.{same_Some}
+use Rattle.fab_base.specs.Stamps.{ballot_below}
 use Rattle.fab_base.specs.declared.identities.BrickId.{BrickId}
 use Rattle.fab_base.specs.declared.stamps.Ballot.{Ballot}
 use Rattle.messages.specs.declared.calls.Call.{Call}
@@ -18,19 +20,30 @@ use Rattle.protocol.proofs.Tables.{put_each}
 pub vote_each : (P : Voted → Type 0) (view : ℕ) (learnt : Learnt) (kept : Kept (List BrickId)) (ballot : Ballot) (asks : Option (List BrickId))
     → (view < learnt.view.number.0 → P (record { reply = moved_to learnt.view; kept = kept }))
     → (learnt.view.number.0 ≤ view → learnt.synced ≡ false → P (record { reply = NotSynced; kept = kept }))
-    → ((greater : Ballot) → outbidding kept ballot ≡ Some greater → P (record { reply = Outbid greater; kept = kept }))
+    → ((greater : Ballot) → learnt.view.number.0 ≤ view → outbidding kept ballot ≡ Some greater → P (record { reply = Outbid greater; kept = kept }))
     → P (granting kept ballot asks) → P (voting view learnt kept ballot asks)
 unfolding voting
 vote_each P view learnt kept ballot asks moved unsynced outbid granted =
     cond_both (nat_lt view learnt.view.number.0) (Some (moved_to learnt.view)) _ (λ (z : Option Reply). P (unless_barred z kept (granting kept ballot asks)))
     (λ later. moved (ltb-true view learnt.view.number.0 later))
     (λ isnt. cond_both learnt.synced _ (Some NotSynced) (λ (z : Option Reply). P (unless_barred z kept (granting kept ballot asks)))
-    (λ synced. unless_outbid (outbidding kept ballot) refl) (λ not. unsynced (ltb-false view learnt.view.number.0 isnt) not))
+    (λ synced. unless_outbid (ltb-false view learnt.view.number.0 isnt) (outbidding kept ballot) refl) (λ not. unsynced (ltb-false view learnt.view.number.0 isnt) not))
   where
-    unless_outbid : (z : Option Ballot) → outbidding kept ballot ≡ z
+    unless_outbid : learnt.view.number.0 ≤ view → (z : Option Ballot) → outbidding kept ballot ≡ z
         → P (unless_barred (option_map (λ greater. Outbid greater) z) kept (granting kept ballot asks))
-    unless_outbid None is = granted
-    unless_outbid (Some greater) is = outbid greater is
+    unless_outbid most None is = granted
+    unless_outbid most (Some greater) is = outbid greater most is
+
+-- the ballot that is told was promised to
+pub outbid_promised : (kept : Kept (List BrickId)) (ballot greater : Ballot) → outbidding kept ballot ≡ Some greater
+    → (accepted : Option (Ballot × List BrickId)) × (kept ≡ Some (greater, accepted))
+outbid_promised None ballot greater is = absurd (let never : None ≡ Some greater = is in cc)
+outbid_promised (Some (promised, accepted)) ballot greater is = (accepted, ap (λ (b : Ballot). Some (b, accepted)) same)
+  where
+    same : promised ≡ greater
+    same =
+        cond_both (ballot_below ballot promised) (Some promised) None (λ (z : Option Ballot). z ≡ Some greater → promised ≡ greater)
+        (λ below told. same_Some promised greater told) (λ isnt told. absurd (let never : None ≡ Some greater = told in cc)) is
 
 -- an accepted list stays one
 abbrev pub StaysAccepted : Kept (List BrickId) → Kept (List BrickId) → Type 0
@@ -43,7 +56,7 @@ granting_stays kept ballot (Some members) accepted = refl
 vote_stays : (view : ℕ) (learnt : Learnt) (kept : Kept (List BrickId)) (ballot : Ballot) (asks : Option (List BrickId))
     → StaysAccepted kept (voting view learnt kept ballot asks).kept
 vote_stays view learnt kept ballot asks =
-    vote_each (λ (v : Voted). StaysAccepted kept v.kept) view learnt kept ballot asks (λ later has. has) (λ most not has. has) (λ greater is has. has)
+    vote_each (λ (v : Voted). StaysAccepted kept v.kept) view learnt kept ballot asks (λ later has. has) (λ most not has. has) (λ greater most is has. has)
     (granting_stays kept ballot asks)
 
 -- the brick with what a vote leaves of ballots

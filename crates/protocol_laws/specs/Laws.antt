@@ -4,6 +4,7 @@ use Rattle.std.specs.List.{IsDistinct}
 use Rattle.fab_base.specs.declared.identities.BrickId.{BrickId}
 use Rattle.fab_base.specs.declared.identities.ViewNo.{ViewNo}
 use Rattle.messages.specs.declared.replies.Lineage.{Lineage}
+use Rattle.fab_base.specs.declared.stamps.Ballot.{Ballot}
 use Rattle.fab_base.specs.declared.stamps.Stamp.{Stamp}
 use Rattle.fab_base.specs.declared.asks.Op.{Op}
 use Rattle.fab_base.specs.declared.asks.Op.TheVariants.{ReadBlock, WriteBlock, ReadStripe, WriteStripe}
@@ -32,7 +33,7 @@ use Rattle.protocol.specs.Replicas.{Replica, is_held, is_wanted}
 use Rattle.protocol.specs.declared.phases.Counted.{Counted}
 use Rattle.protocol.specs.declared.phases.Phase.TheVariants.{Bases}
 use Rattle.protocol.specs.Coordinators.{Coordinator, most_rounds, greatest_refuser, lowest_full, lowest_mover, told_in, counts_at, with_reply, pieces_at, delta_at}
-use Rattle.protocol.specs.Nodes.{view_at, top_at, has_later_time}
+use Rattle.protocol.specs.Nodes.{view_at, has_accepted, top_at, has_later_time}
 use Rattle.protocol.specs.Worlds.{World, Event, Operation, content_on, first_world, mark_of, known_in, happens, run}
 use Rattle.protocol.specs.Happenings.{is_of, effect_in, happenings_of}
 use Rattle.protocol_laws.specs.Marked.{WordsFit, AreWithoutGaps, OwnMarks}
@@ -317,10 +318,22 @@ CountedWereSent w =
     × WasSent w (record { from = x.brick; to = o.brick; message = Message.Reply call x.reply }))
 
 -- A message that was sent says what was so of its brick then, where it refuses: of a later stamp, that the brick took nothing below just that
--- stamp for the stripe; of a full store, that it kept so many live records.
+-- stamp for the stripe; of a full store, that it kept so many live records; of a later view with its members, that it had learnt just that; of one
+-- without, that it had learnt the call's view, and accepted a list to follow it; of a view that is not synced, that it had learnt the call's view, and did
+-- not know all stripes to be kept in it; of a greater ballot, that it had learnt the call's view, and promised to that ballot.
 abbrev pub RefusalIsTrue : World → BrickId → Message → Type 0
 RefusalIsTrue w from (Message.Reply call (Reply.Later x)) = top_in w call.group.0 call.stripe.0 from.0 ≡ x
 RefusalIsTrue w from (Message.Reply call (Reply.Full live)) = (w.nodes from.0).live ≡ live
+RefusalIsTrue w from (Message.Reply call (Reply.Moved number (Some lineage))) =
+    (call.view.0 < number.0)
+    × (((w.nodes from.0).learnt call.group.0).view ≡ record { number = number; members = lineage.members; prior = lineage.prior })
+RefusalIsTrue w from (Message.Reply call (Reply.Moved number None)) =
+    (number.0 ≡ call.view.0 + 1) × (view_at (w.nodes from.0) call.group.0 ≡ call.view.0) × (has_accepted (w.nodes from.0) call.group.0 ≡ true)
+RefusalIsTrue w from (Message.Reply call Reply.NotSynced) =
+    (view_at (w.nodes from.0) call.group.0 ≡ call.view.0) × (((w.nodes from.0).learnt call.group.0).synced ≡ false)
+RefusalIsTrue w from (Message.Reply call (Reply.Outbid ballot)) =
+    (view_at (w.nodes from.0) call.group.0 ≡ call.view.0)
+    × ((accepted : Option (Ballot × List BrickId)) × ((w.nodes from.0).ballots call.group.0 ≡ Some (ballot, accepted)))
 RefusalIsTrue w from message = Unit {0}
 
 -- A moment of the run that led to a world: the one just before the event that sent the packet of a place among those sent.
