@@ -410,7 +410,7 @@ left_own setting brick node (Some packet) =
     (λ elsewhere. record { boot = refl; seq = refl; round = refl; proposal = refl })
 
 -- a brick that starts has no call yet in its boot
-restarted_calls : (i : ℕ) (node : Node) (openings : ℕ) → nat_lt 0 openings ≡ true → StepCalls i node (restarted openings node) []
+pub restarted_calls : (i : ℕ) (node : Node) (openings : ℕ) → nat_lt 0 openings ≡ true → StepCalls i node (restarted openings node) []
 unfolding restarted
 restarted_calls i node openings some = record {
   rises = inl (let more : 0 < openings = grind (arith, nat_tests, some) in omega (arith, more));
@@ -426,9 +426,22 @@ started_calls packets nodes called i openings some =
     (called_after packets nodes called i (restarted openings (nodes i)) [] (restarted_calls i (nodes i) openings some))
 
 -- a brick that stops has no proposal
-stopped_calls : (i : ℕ) (node : Node) → StepCalls i node (stopped node) []
+pub stopped_calls : (i : ℕ) (node : Node) → StepCalls i node (stopped node) []
 unfolding stopped
 stopped_calls i node = ends_calls i node (stopped node) [] refl (omega arith) (omega arith) refl (each_none NamesNone)
+
+-- one that is found so has none
+pub found_calls : (i : ℕ) (node left : Node) → LeavesOwn node left → StepCalls i node left []
+found_calls i node left own =
+    ends_calls i node left [] own.boot (let same = own.seq in omega (arith, same)) (let same = own.round in omega (arith, same)) own.proposal
+    (each_none NamesNone)
+
+-- and keeps calls in order
+pub found_called : (packets : List Packet) (nodes : ℕ → Node) → Called packets nodes → (i : ℕ) (left : Node) → LeavesOwn (nodes i) left
+    → Called packets (put nodes i left)
+found_called packets nodes called i left own =
+    subst (λ (l : List Packet). Called l (put nodes i left)) (append_none packets)
+    (called_after packets nodes called i left [] (found_calls i (nodes i) left own))
 
 -- each event keeps calls in order
 calls_cases : (setting : Setting) (w : World) → Calls w → EventCases setting w Calls
@@ -492,11 +505,6 @@ calls_cases setting w calls = record {
               (subst (λ (after : ℕ → Node). (k : ℕ) → x.up k ≡ false → LeavesOwn (put x.nodes brick.0 step.node k) (after k)) (sym same.1)
               (left_stays LeavesOwn x.up x.nodes x.after brick.0 step.node up left));
         }
-
-    found_calls : (i : ℕ) (node left : Node) → LeavesOwn node left → StepCalls i node left []
-    found_calls i node left own =
-        ends_calls i node left [] own.boot (let same = own.seq in omega (arith, same)) (let same = own.round in omega (arith, same)) own.proposal
-        (each_none NamesNone)
 
 -- calls are in order in every world that a run reaches
 pub always_calls : (setting : Setting) (events : List Event) → Calls (run setting events (first_world setting.layout))

@@ -11,6 +11,7 @@ pub mod Followed
 pub mod Histories
 pub mod Owning
 pub mod Replying
+pub mod ReportSteps
 pub mod Reporting
 pub mod Requesting
 pub mod Voices
