@@ -481,11 +481,8 @@ calls_cases setting w calls = record {
         left = left_fewer LeavesOwn w.up w.nodes w.after brick.0 _ calls.left;
       })
       (let own = calls.left brick.0 (not-true (w.up brick.0) down.0) in
-      let found_called : Called w.packets (put w.nodes brick.0 (w.after brick.0))
-      = subst (λ (l : List Packet). Called l (put w.nodes brick.0 (w.after brick.0))) (append_none w.packets)
-      (called_after w.packets w.nodes calls.called brick.0 (w.after brick.0) [] (found_calls brick.0 (w.nodes brick.0) (w.after brick.0) own)) in
       record {
-        called = started_calls w.packets (put w.nodes brick.0 (w.after brick.0)) found_called brick.0 openings some;
+        called = started_calls w.packets (put w.nodes brick.0 (w.after brick.0)) (found_called w.packets w.nodes calls.called brick.0 (w.after brick.0) own) brick.0 openings some;
         left = subst (λ (nodes : ℕ → Node). (k : ℕ) → put w.up brick.0 true k ≡ false → LeavesOwn (nodes k) (w.after k))
             (sym (put_twice w.nodes brick.0 (w.after brick.0) (restarted openings (put w.nodes brick.0 (w.after brick.0) brick.0))))
             (left_fewer LeavesOwn w.up w.nodes w.after brick.0 (restarted openings (put w.nodes brick.0 (w.after brick.0) brick.0)) calls.left);

@@ -9,6 +9,7 @@ pub mod Extending
 pub mod FirstTold
 pub mod Followed
 pub mod Histories
+pub mod Named
 pub mod Owning
 pub mod Replying
 pub mod ReportSteps

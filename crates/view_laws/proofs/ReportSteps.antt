@@ -27,9 +27,9 @@ use Rattle.protocol.specs.declared.tellings.ViewAnswer.{ViewAnswer}
 use Rattle.protocol.specs.declared.tellings.ViewAnswer.TheVariants as answer
 use Rattle.protocol.specs.Settings.{Setting, IsSound}
 use Rattle.protocol.specs.Views.{kept_by}
-use Rattle.protocol.specs.Proposals.{Proposal, Voting, Ignored, Waited, Asks, Ended, ballot_quorum, seat_voting, with_voice, refused_by, greatest_choice, asking, answers_ballot, voted}
+use Rattle.protocol.specs.Proposals.{Proposal, Voting, Ignored, Waited, Asks, Ended, ballot_quorum, seat_voting, with_voice, refused_by, greatest_choice, asking, answers_ballot, ballot_packets, voted}
 use Rattle.protocol.specs.Coordinators.{Coordinator, Next, Ignores, Waits, Sends, Makes, Ends, on_reply}
-use Rattle.protocol.specs.Nodes.{Node, NodeStep, put, no_step, sending, with_known, with_round, known_after, fresh_stamp, learn_packets, group_at, began, invoked, requested, carried_out, carried_ballot, replied_ballot, replied_at, view_counted, node_taught_by, replied, lists_fit, heard, node_learnt, received, proposed, proposed_in, new_proposal, proposing, reporting, ballot_packets, ticked, stopped, restarted, may_open}
+use Rattle.protocol.specs.Nodes.{Node, NodeStep, put, no_step, sending, with_known, with_round, known_after, fresh_stamp, learn_packets, group_at, began, invoked, requested, carried_out, carried_ballot, replied_ballot, replied_at, view_counted, node_taught_by, replied, lists_fit, heard, node_learnt, received, proposed, proposed_in, new_proposal, proposing, reporting, ticked, stopped, restarted, may_open}
 use Rattle.protocol.specs.Worlds.{World, Event, first_world, is_up, is_brick, run, reports_of, voiced_after, voices_at, voices_with, with_voiced}
 use Rattle.protocol.proofs.Events.{EventCases, step_on, always_where, started_each}
 use Rattle.protocol.proofs.Served.{request_each}
@@ -328,7 +328,7 @@ cond_two false a b c d P yes_is isnt = isnt refl
 -- what a step leaves of replies and reports, by its proposal
 voices_own : (layout : Layout) (last : ViewWorld) (voices changed : Voices) (node : Node) (i : ℕ) (one other : Option Proposal) (fresh : List (BrickId × Report))
     → other ≡ one → StepVoices layout last voices changed node i one fresh → StepVoices layout last voices changed node i other fresh
-voices_own layout last voices changed node i one other fresh same says =
+voices_own layout last voices changed node i old other fresh same says =
     subst (λ (z : Option Proposal). StepVoices layout last voices changed node i z fresh) (sym same) says
 
 -- a reply is handled
@@ -419,6 +419,9 @@ proposed_voices setting w was me group members last = by (group_of setting.layou
           here = was.unmade me.0 (w.nodes me.0).boot ((w.nodes me.0).seq + 1) 1 (inr (refl, omega arith));
           later = λ phase less. was.unmade me.0 (w.nodes me.0).boot ((w.nodes me.0).seq + 1) phase (inr (refl, omega arith));
         }))
+
+    none_some : (call : Call) → None ≡ Some call → ⊥
+    none_some call never = cc
 
     bad : StepVoices setting.layout last w.choices.voices w.choices.voices (w.nodes me.0) me.0 (w.nodes me.0).proposal
         ((me, report.View group None answer.BadMembers) ∷ [])

@@ -60,7 +60,7 @@ pub record EndSays (layout : Layout) (v : ViewWorld) (voices : List Counted) (i 
   pub cause : (refused_by voices ≡ Some ended) ⊎ DecidedSays layout v voices number.0 view group ended
 
 -- it stays so
-end_stays : (layout : Layout) (v next : ViewWorld) (voices : List Counted) (i : ℕ) (number : GroupId) (call : Call) (ended : ViewAnswer) → Extends layout v next
+pub end_stays : (layout : Layout) (v next : ViewWorld) (voices : List Counted) (i : ℕ) (number : GroupId) (call : Call) (ended : ViewAnswer) → Extends layout v next
     → EndSays layout v voices i number call ended → EndSays layout next voices i number call ended
 end_stays layout v next voices i number call ended extends was = record {
   own = was.own;

@@ -138,7 +138,7 @@ none_alone seat None is = refl
 none_alone seat (Some x) is = cc
 
 -- how three kinds of refusal answer
-answer_of : Option (ℕ × ViewNo) → Option (ℕ × BrickId) → Option Ballot → Option ViewAnswer
+unfoldable pub answer_of : Option (ℕ × ViewNo) → Option (ℕ × BrickId) → Option Ballot → Option ViewAnswer
 answer_of a b c =
     first_answer (option_map (λ (told : ℕ × ViewNo). answer.Moved told.1) a)
     (first_answer (option_map (λ (told : ℕ × BrickId). answer.NotSynced told.1) b)
