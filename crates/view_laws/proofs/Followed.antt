@@ -203,7 +203,7 @@ below_known layout v g e (suc d) view agreed some number named =
 -- ---- following
 
 -- each list of the members that are named is within the limits of its group, and distinct
-named_fits : (setting : Setting) (w : World) (g e : ℕ) (group : Group) → IsSound setting → Agreed setting.layout (view_world w)
+pub named_fits : (setting : Setting) (w : World) (g e : ℕ) (group : Group) → IsSound setting → Agreed setting.layout (view_world w)
     → group_in setting.layout (views_in setting.layout w.packets) g e ≡ Some group
     → IsWithinLimits group.m (length group.members) × IsDistinct nat_eq (map (λ (member : BrickId). member.0) group.members)
 named_fits setting w g e group sound agreed is = by (named_in setting.layout w.packets g e) refl
