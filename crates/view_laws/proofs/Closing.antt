@@ -29,7 +29,7 @@ use Rattle.protocol.specs.Replicas.{Replica, Reaction, fresh_replica, is_held, i
 use Rattle.protocol.specs.Ballots.{moved_to, outbidding, ballot_refusal, granting, unless_barred, voting}
 use Rattle.protocol.specs.Proposals.{Proposal, Voting, Ignored, Waited, Asks, Ended, voted}
 use Rattle.protocol.specs.Coordinators.{Coordinator, Next, Ignores, Waits, Sends, Makes, Ends, request_of, on_reply}
-use Rattle.protocol.specs.Nodes.{Node, NodeStep, view_at, has_accepted, put, no_step, sending, with_known, with_round, known_after, fresh_stamp, group_at, began, invoked, phase_packets, replica_at, full_at, with_replica, reply_packets, moved_at, vote_at, requested, with_learnt, node_taught, node_taught_by, may_teach, node_learnt, view_counted, carried_out, ended_packets, carried_ballot, replied_ballot, replied_at, replied, lists_fit, heard, received, absorbed, resent_up_to, ballot_resent, ticked, new_proposal, proposing, proposed_in, proposed, stopped, restarted, may_open}
+use Rattle.protocol.specs.Nodes.{Node, NodeStep, view_at, has_accepted, put, no_step, sending, with_known, with_round, known_after, fresh_stamp, group_at, began, invoked, phase_packets, replica_at, full_at, with_replica, reply_packets, moved_at, vote_at, voted_on, requested, with_learnt, node_taught, node_taught_by, may_teach, node_learnt, view_counted, carried_out, ended_packets, carried_ballot, replied_ballot, replied_at, replied, lists_fit, heard, received, absorbed, resent_up_to, ballot_resent, ticked, new_proposal, proposing, proposed_in, proposed, stopped, restarted, may_open}
 use Rattle.protocol.specs.Worlds.{World, Event, first_world, is_up, packet_during, left_after, world_stepped, run, happens}
 use Rattle.protocol.proofs.Events.{EventCases, step_on, world_counting, always, always_where, happens_each, started_each, run-append}
 use Rattle.protocol.proofs.Packets.{OfEach, each_none, each_both, each_member, each_collect, each_reply, each_learn, each_ticked, each_ballot, each_ballot_resent}
@@ -138,7 +138,7 @@ requested_takes setting me from node call request =
     (handle setting.code group.m (full_at setting.layout.records node.live) seat (replica_at node call) z).replica) (sym collects.1)
     (collected_takes (fresh_replica setting.layout.block call.view.0) (replica_at node call) collects.0))
     (λ h f r closed. takes_same (fresh_replica setting.layout.block f) (node.replicas h f r)) g e s)
-    (λ group ballot asks is. parts_same setting.layout node _ refl)
+    (λ group ballot asks is. parts_same setting.layout node (voted_on me from node call (vote_at node call ballot asks)).node refl)
 
 -- so does a view that it learns, for it may drop what it kept
 taught_takes : (layout : Layout) (g : ℕ) (node mid : Node) (view : Option View) → mid.replicas ≡ node.replicas

@@ -3,6 +3,7 @@ pub mod Agreements
 pub mod Beginning
 pub mod CallSteps
 pub mod Calling
+pub mod Closed
 pub mod Closing
 pub mod Deciding
 pub mod Drafting

@@ -4,4 +4,7 @@
 
 pub mod laws;
 
-pub use laws::every_run_follows_its_views;
+pub use laws::{
+    a_closed_view_stays_closed, a_view_has_one_successor, every_run_follows_its_views,
+    proposals_show_their_ends,
+};
