@@ -1,0 +1,16 @@
+pub mod Agreeing
+pub mod Agreements
+pub mod Beginning
+pub mod CallSteps
+pub mod Calling
+pub mod Deciding
+pub mod Drafting
+pub mod Extending
+pub mod FirstTold
+pub mod Followed
+pub mod Histories
+pub mod Owning
+pub mod Replying
+pub mod Requesting
+pub mod Voices
+pub mod Votings
