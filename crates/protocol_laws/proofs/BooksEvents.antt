@@ -23,7 +23,6 @@ use Rattle.protocol.specs.Ballots.{Voted}
 use Rattle.protocol.specs.Proposals.{Proposal, Voting, Ignored, Waited, Asks, Ended, ballot_packets, voted}
 use Rattle.protocol.specs.declared.tellings.ViewAnswer.TheVariants as answers
 use Rattle.protocol.specs.declared.tellings.Report.{Report}
-use Rattle.protocol.specs.declared.tellings.Report.TheVariants as Report
 use Rattle.quorum.specs.Memberships.{is_membership}
 use Rattle.protocol.specs.Settings.{Setting}
 use Rattle.protocol.specs.Replicas.{handle}
@@ -31,7 +30,7 @@ use Rattle.protocol.specs.declared.phases.Phase.{Phase}
 use Rattle.protocol.specs.declared.phases.Phase.TheVariants.{Looks, LooksAt, Orders, OrdersAt, Recovers, Descends, Modifies, Bases, Stores}
 use Rattle.protocol.specs.declared.phases.Counted.{Counted}
 use Rattle.protocol.specs.Coordinators.{Coordinator, Next, Ignores, Waits, Sends, Makes, Ends, most_rounds, with_reply, once_full, counted_at, counts_at, on_reply}
-use Rattle.protocol.specs.Nodes.{Node, NodeStep, put, no_step, has_block, has_length, refusal_in, refusal_of, began, invoked, with_replica, replica_at, full_at, reply_packets, requested, absorbed, ticked, may_open, has_later_time, next_time, new_stamp, fresh_stamp, known_after, with_call, with_known, carried_out, phase_packets, collect_packets, sending, replied_at, heard, received, group_at, vote_at, with_round, with_proposal, replied_ballot, carried_ballot, ended_packets, new_proposal, proposing, reporting, proposed_in, proposed, node_taught_by, node_learnt, view_counted, lists_fit}
+use Rattle.protocol.specs.Nodes.{Node, NodeStep, put, no_step, has_block, has_length, refusal_in, refusal_of, began, invoked, with_replica, replica_at, full_at, reply_packets, requested, ticked, may_open, has_later_time, next_time, new_stamp, fresh_stamp, known_after, with_call, with_known, carried_out, phase_packets, collect_packets, sending, replied_at, heard, received, group_at, vote_at, with_round, with_proposal, replied_ballot, carried_ballot, ended_packets, new_proposal, proposing, reporting, proposed_in, proposed, node_taught_by, node_learnt, view_counted, lists_fit}
 use Rattle.protocol.specs.Worlds.{World, world_found, Operation, Found, Before, After, Found, Before, After, Event, is_answer, first_world, is_brick, is_up, may_begin, number_of, may_start, world_found, world_began, world_stepped, with_made, with_seen, with_answer, with_content, replies_with, voiced, run, with_held, choices_after, Choices}
 use Rattle.protocol_laws.specs.Laws.{WasSent}
 use Rattle.protocol.proofs.Served.{request_each}

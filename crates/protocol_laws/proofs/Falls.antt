@@ -1,6 +1,6 @@
 -- No event lowers what a brick has promised or stored, or drops a version that it holds.
 use Rattle.protocol_laws.proofs.Logs.{LogAscends, IsKept}
-use Rattle.std.proofs.Common.{◌≡◌, ◌≢◌, ℕ, ◌≤◌, ◌<◌, ◌-◌, ◌⊎◌, inl, inr, arith, true, nat_eq, nat_lt, ltb-true, List, [], ◌∷◌, Option, Some, None, refl, ⊎_elim, sym, subst, false, ap}
+use Rattle.std.proofs.Common.{◌≡◌, ◌≢◌, ℕ, ◌≤◌, ◌<◌, ◌-◌, ◌⊎◌, inl, inr, arith, true, nat_eq, ltb-true, List, [], ◌∷◌, Option, Some, None, refl, ⊎_elim, sym, subst, false, ap}
 use Rattle.fab_base.specs.declared.identities.BrickId.{BrickId}
 use Rattle.fab_base.specs.declared.asks.Ask.{Ask}
 use Rattle.messages.specs.declared.calls.Call.{Call}
@@ -11,8 +11,7 @@ use Rattle.messages.specs.declared.replies.Reply.{Reply}
 use Rattle.fab_base.specs.Layouts.{Layout, Group, group_of}
 use Rattle.protocol.specs.Settings.{Setting}
 use Rattle.protocol.specs.Replicas.{Replica, first_replica, fresh_replica, handle, is_held}
-use Rattle.protocol.specs.Coordinators.{Coordinator, Next, Ignores, Waits, Sends, Makes, Ends, on_reply}
-use Rattle.protocol.specs.Nodes.{Node, fresh_stamp, put, began, invoked, replica_at, full_at, requested, absorbed, stopped, restarted, known_after, carried_out, group_at, replied_at, heard, received, view_at, top_at, NodeStep, with_known, with_round, with_learnt, node_taught_by, node_learnt, view_counted, lists_fit, vote_at, reporting, proposed_in, proposed}
+use Rattle.protocol.specs.Nodes.{Node, put, began, invoked, replica_at, full_at, requested, stopped, restarted, known_after, group_at, replied_at, heard, received, view_at, top_at, NodeStep, with_known, with_round, with_learnt, node_taught_by, node_learnt, view_counted, lists_fit, vote_at, reporting, proposed_in, proposed}
 use Rattle.protocol.specs.Worlds.{World, Found, Before, After, Event, world_ticked, world_stopped, world_found, world_started, world_stepped, happens, first_world, run}
 use Rattle.protocol_laws.specs.Laws.{WasSent}
 use Rattle.protocol_laws.proofs.Reactions.{handle_after}

@@ -15,10 +15,9 @@ use Rattle.protocol.specs.declared.tellings.Told.{Told}
 use Rattle.protocol.specs.declared.tellings.Told.TheVariants.{Made, Seen}
 use Rattle.protocol.specs.declared.tellings.Answered.{Answered}
 use Rattle.messages.specs.declared.replies.Reply.{Reply}
-use Rattle.fab_base.specs.declared.identities.GroupId.{GroupId}
 use Rattle.fab_base.specs.declared.member_lists.View.{View}
 use Rattle.protocol.specs.Views.{learns, is_later, view_told}
-use Rattle.protocol.specs.Nodes.{Node, NodeStep, group_at, put, refusal_of, requested_at, seat_now, is_void, moved_at, served_unless, requested_as, requested_in, requested, lists_fit, counts_here, view_counted, may_teach, with_learnt, node_taught, node_taught_by, node_learnt, no_step, absorbed, stopped, restarted, proposed, proposal_refusal, invoked}
+use Rattle.protocol.specs.Nodes.{Node, NodeStep, group_at, put, refusal_of, requested_at, seat_now, is_void, moved_at, served_unless, requested_as, requested_in, requested, lists_fit, counts_here, may_teach, with_learnt, node_taught, node_taught_by, node_learnt, no_step, absorbed, stopped, restarted, proposed, proposal_refusal, invoked}
 use Rattle.protocol.specs.Worlds.{World, Choices, Found, Before, After, Event, first_world, is_brick, is_up, world_began, world_told, world_tells, world_answered, world_answers, world_stepped, world_ticked, left_after, packet_during, world_stopped, world_found, world_started, replies_with, voiced, packet_of, run}
 use Rattle.protocol_laws.specs.Laws.{WasSent}
 use Rattle.protocol.proofs.Puts.{put_other}

@@ -18,7 +18,6 @@ pub mod EveryRun
 pub mod Falls
 pub mod FirstViews
 pub mod Growth
-pub mod FollowedViews
 pub mod Guards
 pub mod Hearing
 pub mod Left

@@ -1,16 +1,15 @@
 -- What is said is so in every world that a run reaches.
-use Rattle.std.specs.Option.{option_map}
 use Rattle.protocol_laws.proofs.Blocking.{first_fits}
 use Rattle.std.proofs.Common.{◌≡◌, ℕ, ◌<◌, ◌≤◌, ◌+◌, nat_lt, inl, true, false, List, [], ◌∷◌, ◌++◌, length, replicate, Option, Some, None, refl, sym, ap, ◌∙◌, subst, ⊎_elim, arith, ◌⊎◌, append_assoc}
 use Rattle.std.specs.Prelude.{slice_get, nat_eq}
-use Rattle.std.proofs.lemmas.List.{append-nil, length-append}
-use Rattle.std.proofs.lemmas.Bool.{cond-false, false≢true, or_left, or_cases, cond_both}
+use Rattle.std.proofs.lemmas.List.{length-append}
+use Rattle.std.proofs.lemmas.Bool.{false≢true, or_left, or_cases, cond_both}
 use Rattle.fab_base.specs.declared.identities.BrickId.{BrickId}
 use Rattle.fab_base.specs.declared.identities.ViewNo.{ViewNo}
 use Rattle.fab_base.specs.declared.stamps.Stamp.{Stamp}
 use Rattle.fab_base.specs.declared.asks.Ask.{Ask}
 use Rattle.fab_base.specs.Stamps.{stamp_below, stamp_same, first_stamp}
-use Rattle.fab_base.proofs.StampOrder.{stamp_below_irrefl, stamp_same_refl, stamp_same_true, stamp_below_first}
+use Rattle.fab_base.proofs.StampOrder.{stamp_same_refl, stamp_same_true, stamp_below_first}
 use Rattle.messages.specs.declared.calls.Call.{Call}
 use Rattle.messages.specs.declared.packets.Message.{Message}
 use Rattle.messages.specs.declared.packets.Packet.{Packet}
@@ -19,12 +18,12 @@ use Rattle.messages.specs.declared.requests.Version.{Version}
 use Rattle.messages.specs.declared.replies.Reply.{Reply}
 use Rattle.reg_model.specs.declared.marks.Mark.{Mark}
 use Rattle.reg_model.specs.declared.marks.Mark.TheVariants.{End, Crash}
-use Rattle.fab_base.specs.Layouts.{Group, group_of, seat_in, Layout}
+use Rattle.fab_base.specs.Layouts.{Group, group_of, Layout}
 use Rattle.protocol.specs.Settings.{Setting, IsSound}
 use Rattle.protocol.specs.Replicas.{Reaction, first_replica, top_of, handle, is_held, Replica}
 use Rattle.protocol.specs.Coordinators.{Coordinator}
-use Rattle.protocol.specs.Nodes.{Node, NodeStep, put, with_known, with_replica, replica_at, reacted, full_at, reply_packets, absorbed, ticked, stopped, restarted, new_stamp, fresh_stamp, no_step, began, invoked, requested, known_after, replied_at, replied, received, group_at, view_at, has_accepted, moved_at, vote_at, heard, with_round, with_proposal, replied_ballot, carried_ballot, ended_packets, decided_view, new_proposal, proposing, reporting, sending, proposed_in, proposed, node_taught_by, view_counted, lists_fit}
-use Rattle.protocol.specs.Worlds.{World, Found, Before, After, Event, replies_with, first_world, zero_content, world_ticked, left_after, packet_during, world_stopped, world_found, world_started, may_begin, world_began, world_stepped, run, with_held, reached_during, number_of, choices_after, voiced}
+use Rattle.protocol.specs.Nodes.{Node, NodeStep, put, with_known, with_replica, replica_at, reacted, full_at, reply_packets, ticked, stopped, restarted, new_stamp, fresh_stamp, no_step, began, invoked, requested, known_after, replied_at, received, group_at, view_at, has_accepted, moved_at, vote_at, heard, with_round, with_proposal, replied_ballot, carried_ballot, ended_packets, decided_view, new_proposal, proposing, reporting, sending, proposed_in, proposed, node_taught_by, view_counted, lists_fit}
+use Rattle.protocol.specs.Worlds.{World, Found, Before, After, Event, replies_with, first_world, zero_content, world_ticked, left_after, packet_during, world_stopped, world_found, world_started, may_begin, world_began, world_stepped, run, reached_during, number_of, voiced}
 use Rattle.protocol_laws.specs.Laws.{WasSent, Follows, RunFollows}
 use Rattle.protocol_laws.proofs.Books.{Books, IsCall}
 use Rattle.protocol_laws.proofs.Left.{IsLeft, kept_of, Leaves, always_leaves, packet_was_sent}
@@ -33,7 +32,7 @@ use Rattle.protocol_laws.proofs.BooksEvents.{known_grows, fresh_is, BeginFits, b
 use Rattle.protocol.proofs.Tables.{put_same, get_one, get_kept, get_grown}
 use Rattle.reg_model.proofs.GrowingLives.{last_grows}
 use Rattle.protocol_laws.proofs.Stampings.{ages_within}
-use Rattle.protocol_laws.proofs.Reactions.{top_is, handle_after, handle_says, top_is_order}
+use Rattle.protocol_laws.proofs.Reactions.{handle_after, handle_says, top_is_order}
 use Rattle.protocol_laws.proofs.Steps.{quiet, said_beside, said_added, said_idle}
 use Rattle.protocol_laws.proofs.Requests.{said_after_request, reply_packets_say}
 use Rattle.protocol.proofs.Served.{request_each, IsServed}

@@ -33,7 +33,6 @@ use Rattle.protocol.specs.Ballots.{Voted}
 use Rattle.protocol.specs.Proposals.{Proposal, Voting, Ignored, Waited, Asks, Ended, ballot_packets, voted}
 use Rattle.protocol.specs.declared.tellings.ViewAnswer.TheVariants as answers
 use Rattle.protocol.specs.declared.tellings.Report.{Report}
-use Rattle.protocol.specs.declared.tellings.Report.TheVariants as Report
 use Rattle.quorum.specs.Memberships.{is_membership}
 use Rattle.fab_base.specs.declared.identities.GroupId.{GroupId}
 use Rattle.protocol_laws.proofs.BooksQuiet.{quiet_world, started_calls, unstarted, started_known}

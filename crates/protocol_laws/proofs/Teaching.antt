@@ -1,20 +1,19 @@
 -- A brick is taught a view: by a message, or by a reply that counts. It does what it does with the reply as well if it is taught first.
-use Rattle.std.proofs.Common.{◌≡◌, ℕ, ◌<◌, Bool, true, false, nat_lt, List, Option, Some, None, refl, sym, ap, ◌∙◌, subst, ltb-true}
+use Rattle.std.proofs.Common.{◌≡◌, ℕ, ◌<◌, Bool, true, false, nat_lt, Option, Some, None, refl, sym, ap, ◌∙◌, subst, ltb-true}
 use Rattle.std.specs.Prelude.{if◌then◌else◌}
 use Rattle.std.proofs.lemmas.Bool.{cond_both}
 use Rattle.fab_base.specs.declared.identities.BrickId.{BrickId}
 use Rattle.fab_base.specs.declared.identities.GroupId.{GroupId}
 use Rattle.fab_base.specs.declared.member_lists.View.{View}
-use Rattle.fab_base.specs.declared.stamps.Stamp.{Stamp}
 use Rattle.fab_base.specs.Layouts.{Layout, group_of}
 use Rattle.messages.specs.declared.calls.Call.{Call}
 use Rattle.messages.specs.declared.replies.Reply.{Reply}
 use Rattle.protocol.specs.Settings.{Setting}
-use Rattle.protocol.specs.Views.{Learnt, first_kept, is_later, learns}
+use Rattle.protocol.specs.Views.{Learnt, is_later, learns}
 use Rattle.protocol.specs.Replicas.{Replica, fresh_replica}
 use Rattle.protocol.specs.Coordinators.{Coordinator, Next, Ignores, Waits, Sends, Makes, Ends, on_reply}
 use Rattle.protocol.specs.Proposals.{Proposal, Voting, Ignored, Waited, Asks, Ended, voted}
-use Rattle.protocol.specs.Nodes.{Node, NodeStep, put, no_step, with_known, with_round, known_after, fresh_stamp, dropping, with_learnt, node_taught, node_taught_by, may_teach, node_learnt, carried_out, carried_ballot, replied_ballot, replied_at, view_counted, then_taught, replied, lists_fit, heard}
+use Rattle.protocol.specs.Nodes.{Node, NodeStep, no_step, with_known, with_round, known_after, fresh_stamp, dropping, with_learnt, node_taught, node_taught_by, may_teach, node_learnt, carried_out, carried_ballot, replied_ballot, replied_at, view_counted, then_taught, replied, lists_fit, heard}
 use Rattle.protocol.proofs.Tables.{put_each}
 
 -- what is learnt of a view that takes the place of an earlier one

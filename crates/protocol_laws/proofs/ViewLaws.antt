@@ -1,13 +1,8 @@
 -- The laws of members and quorums, for every assignment of members to views that a world follows.
-use Rattle.fab_base.specs.declared.member_lists.View.{View}
-use Rattle.std.specs.Option.{option_map, unwrap_or}
 use Rattle.messages.specs.declared.packets.Message.{Message}
-use Rattle.messages.specs.declared.packets.Packet.{Packet}
-use Rattle.protocol_laws.proofs.StampViews.{MessageIsOf, always_views}
-use Rattle.protocol.proofs.Packets.{OfEach}
-use Rattle.std.proofs.Common.{◌≡◌, ℕ, ◌⊎◌, inl, inr, Bool, true, not, ◌&&◌, List, [], ◌∷◌, ◌++◌, length, Some, None, refl, sym, ap, ◌∙◌, subst, ⊎_elim, arith, suc, ◌-◌, Option}
-use Rattle.std.specs.Prelude.{slice_get, nat_lt}
-use Rattle.std.proofs.lemmas.Bool.{and_parts, not-true, cond_both}
+use Rattle.std.proofs.Common.{◌≡◌, ℕ, ◌⊎◌, inl, inr, Bool, true, not, ◌&&◌, List, [], ◌∷◌, ◌++◌, length, Some, None, refl, sym, ap, ◌∙◌, subst, ⊎_elim, arith}
+use Rattle.std.specs.Prelude.{slice_get}
+use Rattle.std.proofs.lemmas.Bool.{and_parts, not-true}
 use Rattle.std.proofs.lemmas.Option.{same_Some}
 use Rattle.fab_base.specs.declared.identities.BrickId.{BrickId}
 use Rattle.fab_base.specs.declared.stamps.Stamp.{Stamp}
@@ -22,16 +17,15 @@ use Rattle.messages.specs.declared.requests.Want.{Want}
 use Rattle.messages.specs.declared.replies.Reply.{Reply}
 use Rattle.quorum.specs.Quorums.{IsWithinLimits}
 use Rattle.quorum.proofs.Counts.{count_monotone}
-use Rattle.protocol.specs.Settings.{Setting, IsSound}
-use Rattle.protocol.specs.Views.{Views, layout_views, view_of, group_in, views_in, first_learn, group_kept}
+use Rattle.protocol.specs.Settings.{Setting}
+use Rattle.protocol.specs.Views.{Views, layout_views, view_of, group_in}
 use Rattle.protocol.specs.Replicas.{is_held, is_wanted}
 use Rattle.protocol.specs.declared.phases.Phase.{Phase}
 use Rattle.protocol.specs.declared.phases.Phase.TheVariants.{Modifies, Stores}
 use Rattle.protocol.specs.Coordinators.{told_in}
-use Rattle.protocol.specs.Nodes.{view_at}
 use Rattle.protocol.specs.Worlds.{World, Event, first_world, run, Operation}
-use Rattle.protocol_laws.specs.Laws.{part_in, top_in, RunFollows, IsBlocked, RequestSent, want_in, OneContent, BasesAreNewest, WritesAreGuarded, NoEventLowers, IsLost, NeverSurfaces, CollectsStand, IsHeldByQuorum, DropsOnlyOlder, NothingFalls}
-use Rattle.protocol_laws.proofs.FirstViews.{own_members, view_first}
+use Rattle.protocol_laws.specs.Laws.{part_in, top_in, IsBlocked, RequestSent, want_in, OneContent, BasesAreNewest, WritesAreGuarded, NoEventLowers, IsLost, NeverSurfaces, CollectsStand, IsHeldByQuorum, DropsOnlyOlder, NothingFalls}
+use Rattle.protocol_laws.proofs.FirstViews.{own_members}
 use Rattle.protocol_laws.proofs.Logs.{below_above, IsUnder, IsKept, place_held}
 use Rattle.protocol_laws.proofs.Blocking.{was_kept, passes_by, passes, blocked_by, blocked_stays, blocked_never_stands, count_split}
 use Rattle.protocol_laws.proofs.Said.{Stamping, Said, IsBegun, want_of, IsBlockOf, ToldSays, MakerSays, WriteSays, ModifySays, RequestSays, ReplySays, WritesWhole, ReadsBack, WasCollected, Stands, CollectSays, IsBottom}

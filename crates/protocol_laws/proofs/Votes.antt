@@ -1,7 +1,7 @@
 -- A member's vote on a ballot: it refuses, and keeps what it kept of ballots, or it promises to the ballot, and keeps a list that it accepted, or the one that it
 -- is asked to accept.
 use Rattle.std.specs.Option.{option_map}
-use Rattle.std.proofs.Common.{◌≡◌, ℕ, ◌<◌, Bool, true, false, nat_lt, ltb-true, ltb-false, ◌≤◌, ◌&&◌, ◌^◌, ◌-◌, List, Option, Some, None, is_some, refl, sym, ap, ◌∙◌, subst, ◌⊎◌, inl, inr}
+use Rattle.std.proofs.Common.{◌≡◌, ℕ, ◌<◌, true, false, nat_lt, ltb-true, ltb-false, ◌≤◌, ◌^◌, ◌-◌, List, Option, Some, None, is_some, refl, ap}
 use Rattle.std.proofs.lemmas.Bool.{cond_both, and_parts, and_from}
 use Rattle.std.proofs.lemmas.Option.{same_Some}
 use Rattle.fab_base.specs.Stamps.{ballot_below}
@@ -12,7 +12,7 @@ use Rattle.messages.specs.declared.replies.Reply.{Reply}
 use Rattle.messages.specs.declared.replies.Reply.TheVariants.{Outbid, NotSynced}
 use Rattle.synod_laws.specs.Synods.{Kept, last_of}
 use Rattle.protocol.specs.Views.{Learnt}
-use Rattle.protocol.specs.Ballots.{Voted, moved_to, outbidding, ballot_refusal, granting, unless_barred, voting}
+use Rattle.protocol.specs.Ballots.{Voted, moved_to, outbidding, granting, unless_barred, voting}
 use Rattle.protocol.specs.Nodes.{Node, put, view_at, has_accepted, vote_at}
 use Rattle.protocol.proofs.Tables.{put_each}
 

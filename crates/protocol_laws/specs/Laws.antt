@@ -1,6 +1,5 @@
 -- The laws of the disk, as they hold in every world that a run reaches. Quorums are counted by seat.
-use Rattle.std.specs.Prelude.{◌≡◌, ℕ, ◌+◌, ◌<◌, ◌≤◌, Bool, true, false, not, nat_eq, ◌&&◌, List, [], ◌++◌, length, map, ◌⊎◌, Option, Some, None, is_some, slice_get, ◌-◌}
-use Rattle.std.specs.List.{IsDistinct}
+use Rattle.std.specs.Prelude.{◌≡◌, ℕ, ◌+◌, ◌<◌, ◌≤◌, Bool, true, false, not, ◌&&◌, List, [], ◌++◌, length, ◌⊎◌, Option, Some, None, is_some, slice_get}
 use Rattle.fab_base.specs.declared.identities.BrickId.{BrickId}
 use Rattle.fab_base.specs.declared.identities.ViewNo.{ViewNo}
 use Rattle.messages.specs.declared.replies.Lineage.{Lineage}
@@ -25,63 +24,27 @@ use Rattle.reg_model.specs.Marks.{life_of, IsOpen, stripe_marks, IsWellFormed}
 use Rattle.reg_model.specs.Registers.{zero_registers, block_of, with_block}
 use Rattle.reg_model.specs.Strict.{IsStrict}
 use Rattle.reg_model.specs.Walk.{last_of}
-use Rattle.fab_base.specs.Layouts.{Layout, Group, group_of, seat_in, brick_at}
-use Rattle.quorum.specs.Quorums.{quorum_of, IsWithinLimits}
+use Rattle.fab_base.specs.Layouts.{Group, group_of, seat_in, brick_at}
+use Rattle.quorum.specs.Quorums.{quorum_of}
 use Rattle.protocol.specs.Settings.{Setting, IsSound}
-use Rattle.protocol.specs.Views.{Views, layout_views, views_in, first_kept, view_of, floor_of, group_in}
+use Rattle.protocol.specs.Views.{Views, first_kept, view_of, group_in}
 use Rattle.protocol.specs.Replicas.{Replica, is_held, is_wanted}
 use Rattle.protocol.specs.declared.phases.Counted.{Counted}
 use Rattle.protocol.specs.declared.phases.Phase.TheVariants.{Bases}
 use Rattle.protocol.specs.Coordinators.{Coordinator, most_rounds, greatest_refuser, lowest_full, lowest_mover, told_in, counts_at, with_reply, pieces_at, delta_at}
-use Rattle.protocol.specs.Nodes.{view_at, has_accepted, top_at, has_later_time}
+use Rattle.protocol.specs.Nodes.{view_at, has_accepted, has_later_time}
 use Rattle.protocol.specs.Worlds.{World, Event, Operation, content_on, first_world, mark_of, known_in, happens, run}
 use Rattle.protocol.specs.Happenings.{is_of, effect_in, happenings_of}
+pub use Rattle.view_laws.specs.Following.{WasSent, top_in, AtQuorum, IsGuarded, Follows, RunFollows}
 use Rattle.protocol_laws.specs.Marked.{WordsFit, AreWithoutGaps, OwnMarks}
-
--- the packet was sent
-abbrev pub WasSent : World → Packet → Type 0
-WasSent w packet = (k : ℕ) × (slice_get w.packets k ≡ Some packet)
 
 -- a brick's part of a stripe in a view
 abbrev pub part_in : World → ℕ → ℕ → ℕ → ℕ → Replica
 part_in w group view stripe brick = (w.nodes brick).replicas group view stripe
 
--- the stamp below which a brick takes nothing for a stripe
-abbrev pub top_in : World → ℕ → ℕ → ℕ → Stamp
-top_in w group stripe brick = top_at (w.nodes brick) group stripe
-
 -- the first view of a group whose versions a brick keeps
 abbrev pub first_kept_in : World → ℕ → ℕ → ℕ
 first_kept_in w group brick = first_kept ((w.nodes brick).learnt group)
-
--- a test holds at a quorum of the group's seats
-abbrev pub AtQuorum : Group → (ℕ → Bool) → Type 0
-AtQuorum group test = quorum_of group ≤ count (length group.members) test
-
--- a quorum of the group's members takes nothing below this stamp for the stripe
-abbrev pub IsGuarded : World → ℕ → ℕ → Group → Stamp → Type 0
-IsGuarded w number stripe group stamp = AtQuorum group (λ seat. not (stamp_below (top_in w number stripe (brick_at group seat)) stamp))
-
--- A world follows an assignment of members to views: each of its lists is within the limits of its group's m, and distinct; what a brick has
--- learnt as its view is the assignment's, and so are the members of the view before that; and where a brick has learnt a view, a quorum of each view before that takes nothing below the next.
-pub record Follows (layout : Layout) (views : Views) (w : World) : Type 0 where
-  pub limits : (number view : ℕ) (group : Group) → group_in layout views number view ≡ Some group → IsWithinLimits group.m (length group.members)
-  pub distinct : (number view : ℕ) (group : Group) → group_in layout views number view ≡ Some group → IsDistinct nat_eq (map (λ member. member.0) group.members)
-  pub learnt : (brick number : ℕ) → ((w.nodes brick).learnt number).view.members ≡ views number (view_at (w.nodes brick) number)
-  pub prior : (brick number : ℕ) → 1 < view_at (w.nodes brick) number → ((w.nodes brick).learnt number).view.prior ≡ views number (view_at (w.nodes brick) number - 1)
-  pub passed : (brick number view stripe : ℕ) (group : Group) → 1 ≤ view → view < view_at (w.nodes brick) number → group_in layout views number view ≡ Some group
-      → IsGuarded w number stripe group (floor_of (view + 1))
-
--- a run follows an assignment where each world on its way does
-abbrev pub RunFollows : Setting → Views → List Event → Type 0
-RunFollows setting views events =
-    (earlier later : List Event) → events ≡ earlier ++ later → Follows setting.layout views (run setting earlier (first_world setting.layout))
-
--- every run follows the members that its messages teach
-abbrev pub EveryRunFollowsItsViews : Type 0
-EveryRunFollowsItsViews =
-    (setting : Setting) (events : List Event) → IsSound setting
-    → RunFollows setting (views_in setting.layout (run setting events (first_world setting.layout)).packets) events
 
 -- a request was sent, under a call, to a brick
 abbrev pub RequestSent : World → Call → BrickId → BrickId → Request → Type 0

@@ -1,14 +1,6 @@
 //! The laws of the disk. Each call does nothing: its contract is the law.
 
-ghost use Rattle.protocol_laws.specs.Laws.{EveryRunFollowsItsViews, EveryRunKeepsTheLaws, NeverSurfaces, NoEventLowers};
-
-/// Every run follows the members that its messages teach: those of view 1 are the layout's, and those of a later view are what the first
-/// message named that taught it.
-///
-/// So the laws below hold of every run, for these members.
-pub fn every_run_follows_its_views()
-    ensures { EveryRunFollowsItsViews }
-{}
+ghost use Rattle.protocol_laws.specs.Laws.{EveryRunKeepsTheLaws, NeverSurfaces, NoEventLowers};
 
 /// Every run of the disk keeps its laws, whatever is asked of it, whatever its clocks read, whichever of its
 /// bricks stop and start again, whether a handling that a stop cut short had kept its change or not, and whichever of its
