@@ -109,7 +109,7 @@ closed_cases setting limits w calls was left = record {
   begins = λ brick ask may.
       let step : NodeStep = invoked setting brick (w.clocks brick.0) (w.nodes brick.0) ask in
       let turn = turn_closes setting.layout w.packets (w.nodes brick.0) step.node
-          (invoked_says setting (view_world w) was.agreed was.drafting brick (w.clocks brick.0) ask).turn in
+      (invoked_says setting (view_world w) was.agreed was.drafting brick (w.clocks brick.0) ask).turn in
       let says = invoked_closes setting brick (w.clocks brick.0) (w.nodes brick.0) ask in
       record {
         closed = closed_after setting.layout w brick step.node step.packets turn says;
@@ -121,7 +121,7 @@ closed_cases setting limits w calls was left = record {
   proposes = λ brick group members may.
       let step : NodeStep = proposed setting brick (w.nodes brick.0) group members in
       let turn = turn_closes setting.layout w.packets (w.nodes brick.0) step.node
-          (proposed_says setting (view_world w) calls.called was.agreed was.drafting brick group members).turn in
+      (proposed_says setting (view_world w) calls.called was.agreed was.drafting brick group members).turn in
       let says = proposed_closes setting brick (w.nodes brick.0) group members in
       record {
         closed = closed_after setting.layout w brick step.node step.packets turn says;
@@ -133,8 +133,8 @@ closed_cases setting limits w calls was left = record {
   handles = λ number packet at up.
       let step : NodeStep = step_on setting w packet in
       let turn = turn_closes setting.layout w.packets (w.nodes packet.to.0) step.node
-          (received_says setting limits (view_world w) calls.called was.agreed was.drafting (w.clocks packet.to.0) packet
-          (packet_sent w.packets number packet at)).turn in
+      (received_says setting limits (view_world w) calls.called was.agreed was.drafting (w.clocks packet.to.0) packet
+      (packet_sent w.packets number packet at)).turn in
       let says = received_closes setting packet.to (w.clocks packet.to.0) (w.nodes packet.to.0) packet in
       record {
         closed = closed_after setting.layout w packet.to step.node step.packets turn says;
@@ -162,7 +162,7 @@ closed_cases setting limits w calls was left = record {
   stops = λ brick during up.
       let kept = stopped_keeps setting.layout (w.nodes brick.0) in
       let says : StepCloses setting.layout brick (w.nodes brick.0) (stopped (w.nodes brick.0)) []
-          = record { takes = kept.1; tells = each_none (ServesNone brick (w.nodes brick.0)) } in
+      = record { takes = kept.1; tells = each_none (ServesNone brick (w.nodes brick.0)) } in
       record {
         closed = closed_after setting.layout w brick (stopped (w.nodes brick.0)) [] kept.0 says;
         takes = takes_after setting.layout w brick (stopped (w.nodes brick.0)) [] kept.0 says;
@@ -178,7 +178,7 @@ closed_cases setting limits w calls was left = record {
       let after_is = started brick openings after (turn_closes setting.layout w.packets (w.nodes brick.0) after (was.left brick.0 down).turn) (left brick.0 down) in
       let same : restarted openings (put w.nodes brick.0 after brick.0) ≡ restarted openings after = ap (restarted openings) (put_same w.nodes brick.0 after) in
       let nodes : put (put w.nodes brick.0 after) brick.0 (restarted openings (put w.nodes brick.0 after brick.0)) ≡ put w.nodes brick.0 (restarted openings after)
-          = put_twice w.nodes brick.0 after (restarted openings (put w.nodes brick.0 after brick.0)) ∙ ap (put w.nodes brick.0) same in
+      = put_twice w.nodes brick.0 after (restarted openings (put w.nodes brick.0 after brick.0)) ∙ ap (put w.nodes brick.0) same in
       started_each (KeepsClosed setting.layout w) w brick openings
       (record {
         closed = before_is.0;
@@ -204,15 +204,16 @@ closed_cases setting limits w calls was left = record {
     started brick openings node turn takes =
         let kept = restarted_keeps setting.layout node openings in
         let turn_after : (g e : ℕ) → has_closed (w.nodes brick.0) g e ≡ true → has_closed (restarted openings node) g e ≡ true
-            = λ g e is. kept.0 g e (turn g e is) in
+        = λ g e is. kept.0 g e (turn g e is) in
         let says : StepCloses setting.layout brick (w.nodes brick.0) (restarted openings node) []
-            = record {
-              takes = λ g e s is. takes_on (fresh_replica setting.layout.block e) ((w.nodes brick.0).replicas g e s) (node.replicas g e s)
-                  ((restarted openings node).replicas g e s) (takes g e s is) (kept.1 g e s (turn g e is));
-              tells = each_none (ServesNone brick (w.nodes brick.0));
-            } in
-        (closed_after setting.layout w brick (restarted openings node) [] turn_after says,
-        takes_after setting.layout w brick (restarted openings node) [] turn_after says)
+        = record {
+          takes = λ g e s is. takes_on (fresh_replica setting.layout.block e) ((w.nodes brick.0).replicas g e s) (node.replicas g e s)
+              ((restarted openings node).replicas g e s) (takes g e s is) (kept.1 g e s (turn g e is));
+          tells = each_none (ServesNone brick (w.nodes brick.0));
+        } in (
+          closed_after setting.layout w brick (restarted openings node) [] turn_after says,
+          takes_after setting.layout w brick (restarted openings node) [] turn_after says,
+        )
 
 -- so does an event of a run
 event_keeps : (setting : Setting) → IsSound setting → (events : List Event) (event : Event)
@@ -253,13 +254,13 @@ closed_stays setting events more sound =
       chosen = λ number view group members chosen.
           let many = chosen.many in
           let all = count_monotone (length group.members) chosen.seats (λ seat. closes_in w number view (brick_at group seat))
-              (λ k below member. voter_closed setting.layout (view_world w) (brick_at group k) number view chosen.ballot members agreed
-              (chosen.accepted k below member)) in
+          (λ k below member. voter_closed setting.layout (view_world w) (brick_at group k) number view chosen.ballot members agreed
+          (chosen.accepted k below member)) in
           omega (arith, many, all);
       quorum = λ number view group many.
           let all = count_monotone (length group.members) (λ seat. closes_in w number view (brick_at group seat))
-              (λ seat. closes_in (run setting more w) number view (brick_at group seat))
-              (λ k below is. later.closed number view (brick_at group k) is) in
+          (λ seat. closes_in (run setting more w) number view (brick_at group seat))
+          (λ k below is. later.closed number view (brick_at group k) is) in
           omega (arith, many, all);
       closed = λ number view brick is. later.closed number view brick is;
       takes = λ number view stripe brick is. later.takes brick number view stripe is;

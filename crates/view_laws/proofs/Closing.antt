@@ -100,7 +100,7 @@ PartsTake layout node next =
     (g e s : ℕ) → has_closed node g e ≡ true → TakesNothing (fresh_replica layout.block e) (node.replicas g e s) (next.replicas g e s)
 
 -- where all parts are as they were
-parts_same : (layout : Layout) (node next : Node) → next.replicas ≡ node.replicas → PartsTake layout node next
+pub parts_same : (layout : Layout) (node next : Node) → next.replicas ≡ node.replicas → PartsTake layout node next
 parts_same layout node next same g e s closed =
     subst (λ (t : ℕ → ℕ → ℕ → Replica). TakesNothing (fresh_replica layout.block e) (node.replicas g e s) (t g e s)) (sym same)
     (takes_same (fresh_replica layout.block e) (node.replicas g e s))
@@ -263,8 +263,8 @@ requested_serves setting me from node call request =
     (λ closed.
     let collects = closed_collects setting.layout me node call request group seat served closed in
     absurd (let never : None ≡ Some one
-        = sym (ap (λ (z : Request). (handle setting.code group.m (full_at setting.layout.records node.live) seat (replica_at node call) z).reply) collects.1
-        ∙ collected_silent (replica_at node call) collects.0) ∙ same in cc))))
+    = sym (ap (λ (z : Request). (handle setting.code group.m (full_at setting.layout.records node.live) seat (replica_at node call) z).reply) collects.1
+    ∙ collected_silent (replica_at node call) collects.0) ∙ same in cc))))
     (λ group ballot asks is. each_reply (ServesNone me node) me from call (Some (vote_at node call ballot asks).reply)
     (λ one same. reply_serves me from node call one
     (λ closed. subst (λ (z : Reply). is_serving z ≡ false) (same_Some (vote_at node call ballot asks).reply one same) (vote_serves node call ballot asks))))
@@ -287,7 +287,7 @@ phase_serves setting me node c =
     c.group.members
 
 -- an operation begins
-invoked_closes : (setting : Setting) (me : BrickId) (now : ℕ) (node : Node) (ask : Ask)
+pub invoked_closes : (setting : Setting) (me : BrickId) (now : ℕ) (node : Node) (ask : Ask)
     → (let step = invoked setting me now node ask in StepCloses setting.layout me node step.node step.packets)
 unfolding invoked
 invoked_closes setting me now node ask = by (group_at setting.layout node ask.group.0)
@@ -297,7 +297,7 @@ invoked_closes setting me now node ask = by (group_at setting.layout node ask.gr
     by (Some group) = sends_closes setting.layout me node _ _ refl (phase_serves setting me node _)
 
 -- a proposal begins
-proposed_closes : (setting : Setting) (me : BrickId) (node : Node) (group : GroupId) (members : List BrickId)
+pub proposed_closes : (setting : Setting) (me : BrickId) (node : Node) (group : GroupId) (members : List BrickId)
     → (let step = proposed setting me node group members in StepCloses setting.layout me node step.node step.packets)
 unfolding proposed
 proposed_closes setting me node group members = by (group_of setting.layout group.0)
@@ -375,7 +375,7 @@ heard_closes setting me from now node call said =
     (λ isnt. sends_closes setting.layout me node _ [] refl (each_none (ServesNone me node)))
 
 -- a message is handled
-received_closes : (setting : Setting) (me : BrickId) (now : ℕ) (node : Node) (packet : Packet)
+pub received_closes : (setting : Setting) (me : BrickId) (now : ℕ) (node : Node) (packet : Packet)
     → (let step = received setting me now node packet in StepCloses setting.layout me node step.node step.packets)
 unfolding received
 received_closes setting me now node packet = by packet.message
@@ -397,7 +397,7 @@ received_closes setting me now node packet = by packet.message
     by (Message.ClientReply id answered) = quiet
 
 -- a clock ticks
-ticked_serves : (setting : Setting) (me : BrickId) (node : Node) → OfEach (ServesNone me node) (ticked setting me node)
+pub ticked_serves : (setting : Setting) (me : BrickId) (node : Node) → OfEach (ServesNone me node) (ticked setting me node)
 unfolding ticked
 ticked_serves setting me node =
     each_both (ServesNone me node) (resent_up_to setting me node.calls node.seq) (ballot_resent me node.proposal)
@@ -436,10 +436,10 @@ turn_closes layout packets node next turn g e closed = ⊎_elim
     let number : view_at next g ≡ x.view.number.0 = ap (λ (z : View). z.number.0) x.learnt in
     let above = x.later in
     let at_most : e ≤ view_at node g = ⊎_elim
-        (λ (later : nat_lt e (view_at node g) ≡ true). grind (arith, nat_tests, later))
-        (λ (now : (nat_eq e (view_at node g) && has_accepted node g) ≡ true).
-        let same : e ≡ view_at node g = eqb-true e (view_at node g) (and_parts (nat_eq e (view_at node g)) (has_accepted node g) now).0 in omega (arith, same))
-        (or_cases (nat_lt e (view_at node g)) (nat_eq e (view_at node g) && has_accepted node g) closed) in
+    (λ (later : nat_lt e (view_at node g) ≡ true). grind (arith, nat_tests, later))
+    (λ (now : (nat_eq e (view_at node g) && has_accepted node g) ≡ true).
+    let same : e ≡ view_at node g = eqb-true e (view_at node g) (and_parts (nat_eq e (view_at node g)) (has_accepted node g) now).0 in omega (arith, same))
+    (or_cases (nat_lt e (view_at node g)) (nat_eq e (view_at node g) && has_accepted node g) closed) in
     or_left (nat_lt e (view_at next g)) _ (grind (arith, nat_tests, number, above, at_most)))
     changes)
     (turn g)

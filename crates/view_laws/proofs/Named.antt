@@ -54,10 +54,10 @@ module _ (setting : Setting) (sound : IsSound setting) (w : World) (agreed : Agr
       let many = chosen.many in
       let voter = count_some (length group.members) chosen.seats (omega (arith, majority, many)) in
       let safe = agreed.safe g e chosen.ballot members
-          (agreed.proposed (brick_at group voter.0) g e chosen.ballot members (chosen.accepted voter.0 voter.1 voter.2)) in
+      (agreed.proposed (brick_at group voter.0) g e chosen.ballot members (chosen.accepted voter.0 voter.1 voter.2)) in
       let view = name_of_group setting.layout w.packets g e safe.group safe.group_is in
       let kept : group_in setting.layout (views_in setting.layout w.packets) g e ≡ Some safe.group
-          = group_of_name setting.layout w.packets g e view.0 view.1 ∙ view.2 in
+      = group_of_name setting.layout w.packets g e view.0 view.1 ∙ view.2 in
       safe.group_is ∙ sym kept ∙ is
 
   -- two lists that were chosen to follow a view are the same
@@ -157,11 +157,10 @@ module _ (setting : Setting) (sound : IsSound setting) (w : World) (agreed : Agr
         let view : call.view.0 ≡ end.view.number.0 = ap (λ (z : ViewNo). z.0) end.view_is in
         let next_is : next.0 ≡ call.view.0 + 1 = ap (λ (z : ViewNo). z.0) same.0 ∙ ap (λ (z : ℕ). z + 1) (sym view) in
         let prior : views_in setting.layout w.packets number.0 call.view.0 ≡ end.view.members
-            = ap (λ (z : ℕ). views_in setting.layout w.packets number.0 z) view
-            ∙ views_of_name setting.layout w.packets number.0 end.view.number.0 end.view end.named in
+        = ap (λ (z : ℕ). views_in setting.layout w.packets number.0 z) view
+        ∙ views_of_name setting.layout w.packets number.0 end.view.number.0 end.view end.named in
         let kept = kept_is setting.layout end.view.members number.0 end.group end.group_is in
-        let some = (name_has_number setting.layout w.packets number.0 end.view.number.0 end.view end.named).1 in
-        (
+        let some = (name_has_number setting.layout w.packets number.0 end.view.number.0 end.view end.named).1 in (
           next_is,
           record {
             before = call.view.0;
@@ -232,14 +231,14 @@ module _ (setting : Setting) (sound : IsSound setting) (w : World) (agreed : Agr
         (λ (decided : DecidedSays setting.layout (view_world w) (voices_of w brick call) number.0 end.view end.group ended).
         let view : call.view.0 ≡ end.view.number.0 = ap (λ (z : ViewNo). z.0) end.view_is in
         let chosen : WasChosen w number.0 end.view.number.0 end.group decided.members
-            = record { ballot = decided.ballot; seats = decided.chosen.0; many = decided.chosen.1; accepted = decided.chosen.2 } in
+        = record { ballot = decided.ballot; seats = decided.chosen.0; many = decided.chosen.1; accepted = decided.chosen.2 } in
         let shows : ShowsAnswer w call end.group (voices_of w brick call) (answer.Decided (record { 0 = end.view.number.0 + 1 }) decided.members)
-            = record {
-              next_is = ap (λ (z : ℕ). z + 1) (sym view);
-              accepted = decided.accepted;
-              chosen = subst (λ (z : GroupId). WasChosen w z.0 call.view.0 end.group decided.members) (sym end.own)
-                  (subst (λ (z : ℕ). WasChosen w number.0 z end.group decided.members) (sym view) chosen);
-            } in
+        = record {
+          next_is = ap (λ (z : ℕ). z + 1) (sym view);
+          accepted = decided.accepted;
+          chosen = subst (λ (z : GroupId). WasChosen w z.0 call.view.0 end.group decided.members) (sym end.own)
+              (subst (λ (z : ℕ). WasChosen w number.0 z end.group decided.members) (sym view) chosen);
+        } in
         subst (λ (z : ViewAnswer). ShowsAnswer w call end.group (voices_of w brick call) z) (sym decided.is) shows)
         end.cause
 
