@@ -1,6 +1,6 @@
 -- Each step of a brick keeps the calls and ballots of proposals in order, so they are so in every world that a run reaches.
-use Rattle.std.proofs.Common.{◌≡◌, ◌≢◌, ℕ, zero, suc, ◌+◌, ◌-◌, ◌<◌, ◌≤◌, Bool, true, false, cond, ◌&&◌, ◌⊎◌, inl, inr, ⊎_elim, List, [], ◌∷◌, ◌++◌, length, max, Option, Some, None, refl, sym, ap, ◌∙◌, subst, arith, nat_lt, nat_eq}
-use Rattle.std.specs.Prelude.{slice_get, if◌then◌else◌, not, is_some, ◌^◌}
+use Rattle.std.proofs.Common.{◌≡◌, ℕ, ◌+◌, ◌<◌, ◌≤◌, Bool, true, false, cond, ◌&&◌, inl, inr, ⊎_elim, List, [], ◌∷◌, ◌++◌, Option, Some, None, refl, sym, ap, ◌∙◌, subst, arith, nat_lt, nat_eq}
+use Rattle.std.specs.Prelude.{not}
 use Rattle.std.proofs.lemmas.Bool.{cond_both, and_parts, false≢true, eqb-true, not-true}
 use Rattle.std.proofs.lemmas.Bool.Decides.{nat_tests}
 use Rattle.std.proofs.lemmas.Option.{same_Some}
@@ -8,7 +8,6 @@ use Rattle.std.proofs.Math.Nat.{le-max_left}
 use Rattle.std.proofs.Math.Path.{fun_ext}
 use Rattle.fab_base.specs.declared.identities.BrickId.{BrickId}
 use Rattle.fab_base.specs.declared.identities.GroupId.{GroupId}
-use Rattle.fab_base.specs.declared.member_lists.View.{View}
 use Rattle.fab_base.specs.declared.stamps.Ballot.{Ballot}
 use Rattle.fab_base.specs.declared.asks.Ask.{Ask}
 use Rattle.fab_base.specs.Layouts.{Layout, Group, group_of}
@@ -25,17 +24,17 @@ use Rattle.protocol.specs.declared.tellings.ViewAnswer.TheVariants as answer
 use Rattle.protocol.specs.Settings.{Setting, Code}
 use Rattle.synod_laws.specs.Synods.{value_or}
 use Rattle.protocol.specs.Replicas.{handle}
-use Rattle.protocol.specs.Proposals.{Proposal, Voting, Ignored, Waited, Asks, Ended, ballot_request, ballot_packets, round_after, with_voice, asking, greatest_choice, voted}
+use Rattle.protocol.specs.Proposals.{Proposal, Voting, ballot_request, ballot_packets, round_after, with_voice, asking, greatest_choice, voted}
 use Rattle.protocol.specs.Coordinators.{Coordinator, Next, Ignores, Waits, Sends, Makes, Ends, request_of, on_reply}
-use Rattle.protocol.specs.Nodes.{Node, NodeStep, put, no_step, sending, with_known, with_round, known_after, phase_packets, collect_packets, invoked, began, group_at, new_coordinator, fresh_stamp, requested, full_at, replica_at, vote_at, carried_out, learn_packets, ended_packets, carried_ballot, replied_ballot, replied_at, view_counted, replied, lists_fit, heard, received, absorbed, ticked, resent_up_to, ballot_resent, proposed, proposed_in, new_proposal, proposing, stopped, restarted, may_open}
-use Rattle.protocol.specs.Worlds.{World, Event, Before, After, first_world, is_up, may_start, packet_during, left_after, world_told, world_answered, world_stepped, world_found, world_started, run}
+use Rattle.protocol.specs.Nodes.{Node, NodeStep, put, no_step, sending, with_known, with_round, known_after, phase_packets, invoked, began, group_at, new_coordinator, fresh_stamp, requested, full_at, replica_at, vote_at, carried_out, ended_packets, carried_ballot, replied_ballot, replied_at, view_counted, replied, lists_fit, heard, received, absorbed, ticked, resent_up_to, ballot_resent, proposed, proposed_in, new_proposal, proposing, stopped, restarted, may_open}
+use Rattle.protocol.specs.Worlds.{World, Event, first_world, is_up, packet_during, left_after, world_stepped, run}
 use Rattle.protocol.proofs.Events.{EventCases, step_on, world_counting, always, started_each, stepped_each}
 use Rattle.protocol.proofs.Packets.{OfEach, each_none, each_both, each_member, each_collect, each_reply, each_learn, each_ticked, each_ballot, each_ballot_resent}
 use Rattle.protocol.proofs.Served.{request_each}
-use Rattle.protocol.proofs.Tables.{put_each, put_same, put_twice}
+use Rattle.protocol.proofs.Tables.{put_each, put_twice}
 use Rattle.view_laws.proofs.Calling.{OfBallot, OfBallots, ballots_map, IsOldDraft, IsNewDraft, IsOfDraft, StepCalls, Called, own_calls, called_after}
-use Rattle.view_laws.proofs.Owning.{KeepsOwn, requested_own, taught_own, learnt_own, absorbed_own}
-use Rattle.view_laws.proofs.Votings.{EachVoting, voting_each}
+use Rattle.view_laws.proofs.Owning.{taught_own, learnt_own, absorbed_own}
+use Rattle.view_laws.proofs.Votings.{voting_each}
 
 -- what a phase of an operation asks for names no ballot
 pub phase_names_none : (Q : Call → Ballot → Type 0) (call : Call) (code : Code) (c : Coordinator) (seat : ℕ) → OfBallot Q call (request_of code c seat)

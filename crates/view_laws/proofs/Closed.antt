@@ -1,28 +1,25 @@
 -- A view that a quorum has closed stays closed, however a run goes on.
-use Rattle.std.proofs.Common.{◌≡◌, ℕ, zero, suc, ◌+◌, ◌<◌, ◌≤◌, Bool, true, false, ◌&&◌, ◌⊎◌, inl, inr, ⊎_elim, List, [], ◌∷◌, ◌++◌, length, Option, Some, None, refl, sym, ap, ◌∙◌, subst, arith}
+use Rattle.std.proofs.Common.{◌≡◌, ℕ, zero, suc, ◌≤◌, true, false, ◌&&◌, ⊎_elim, List, [], ◌∷◌, ◌++◌, length, Some, None, refl, sym, ap, ◌∙◌, subst, arith}
 use Rattle.std.specs.Prelude.{slice_get, not}
 use Rattle.std.proofs.lemmas.Bool.{and_parts, not-true}
 use Rattle.fab_base.specs.declared.identities.BrickId.{BrickId}
-use Rattle.fab_base.specs.Layouts.{Layout, Group, brick_at}
+use Rattle.fab_base.specs.Layouts.{Layout, brick_at}
 use Rattle.messages.specs.declared.calls.Call.{Call}
 use Rattle.messages.specs.declared.packets.Message.{Message}
 use Rattle.messages.specs.declared.packets.Packet.{Packet}
 use Rattle.messages.specs.declared.replies.Reply.{Reply}
 use Rattle.quorum.proofs.Counts.{count_monotone}
 use Rattle.protocol.specs.Settings.{Setting, IsSound}
-use Rattle.protocol.specs.Replicas.{Replica, fresh_replica}
+use Rattle.protocol.specs.Replicas.{fresh_replica}
 use Rattle.protocol.specs.Nodes.{Node, NodeStep, put, invoked, proposed, ticked, stopped, restarted, may_open}
 use Rattle.protocol.specs.Worlds.{World, Event, first_world, run, happens}
 use Rattle.protocol.proofs.Events.{EventCases, step_on, happens_each, started_each, run-append}
-use Rattle.protocol.proofs.Packets.{OfEach, each_none}
+use Rattle.protocol.proofs.Packets.{each_none}
 use Rattle.protocol.proofs.Tables.{put_each, put_same, put_twice, get_grown}
-use Rattle.view_laws.specs.Following.{AtQuorum}
-use Rattle.view_laws.specs.Successors.{WasChosen, has_closed, closes_in, TakesNothing, is_serving, WasSentSince, StaysClosed, ClosedStays}
+use Rattle.view_laws.specs.Successors.{has_closed, closes_in, is_serving, StaysClosed, ClosedStays}
 use Rattle.view_laws.proofs.Histories.{view_world}
-use Rattle.view_laws.proofs.Agreeing.{Turn}
 use Rattle.view_laws.proofs.CallSteps.{Calls, always_calls, append_none}
 use Rattle.view_laws.proofs.Deciding.{HasLimits}
-use Rattle.view_laws.proofs.Requesting.{no_turn}
 use Rattle.view_laws.proofs.Beginning.{invoked_says, proposed_says}
 use Rattle.view_laws.proofs.Agreements.{Agreement, packet_sent, received_says, always_agreed}
 use Rattle.view_laws.proofs.Followed.{voter_closed}

@@ -1,8 +1,8 @@
 -- A brick that has closed a view keeps it closed, takes nothing for a stripe of it, and serves it no more.
-use Rattle.std.proofs.Common.{◌≡◌, ◌≢◌, ℕ, zero, suc, ◌+◌, ◌-◌, ◌<◌, ◌≤◌, Bool, true, false, cond, ◌&&◌, ◌||◌, ◌⊎◌, inl, inr, ⊎_elim, List, [], ◌∷◌, ◌++◌, length, Option, Some, None, refl, sym, ap, ◌∙◌, subst, arith, nat_lt, nat_eq, is_some}
-use Rattle.std.specs.Prelude.{slice_get, not, filter, if◌then◌else◌, ◌^◌}
+use Rattle.std.proofs.Common.{◌≡◌, ℕ, zero, suc, ◌+◌, ◌-◌, ◌<◌, ◌≤◌, Bool, true, false, ◌&&◌, ◌||◌, ◌⊎◌, inl, inr, ⊎_elim, List, [], ◌∷◌, Option, Some, None, refl, sym, ap, ◌∙◌, subst, arith, nat_lt, nat_eq, is_some}
+use Rattle.std.specs.Prelude.{slice_get, filter, ◌^◌}
 use Rattle.std.specs.Option.{option_map}
-use Rattle.std.proofs.lemmas.Bool.{cond_both, and_parts, and_from, or_left, or_right, or_cases, false≢true, eqb-true, not-true}
+use Rattle.std.proofs.lemmas.Bool.{cond_both, and_parts, and_from, or_left, or_right, or_cases, false≢true, eqb-true}
 use Rattle.std.proofs.lemmas.Bool.Decides.{nat_tests}
 use Rattle.std.proofs.lemmas.Option.{same_Some}
 use Rattle.fab_base.specs.declared.identities.BrickId.{BrickId}
@@ -16,32 +16,27 @@ use Rattle.messages.specs.declared.calls.Call.{Call}
 use Rattle.messages.specs.declared.packets.Message.{Message}
 use Rattle.messages.specs.declared.packets.Packet.{Packet}
 use Rattle.messages.specs.declared.requests.Request.{Request}
-use Rattle.messages.specs.declared.requests.Version.{Version}
 use Rattle.messages.specs.declared.replies.Reply.{Reply}
 use Rattle.messages.specs.declared.replies.Reply.TheVariants as reply
 use Rattle.quorum.specs.Memberships.{is_membership}
 use Rattle.synod_laws.specs.Synods.{Kept, last_of}
 use Rattle.protocol.specs.declared.tellings.ViewAnswer.{ViewAnswer}
 use Rattle.protocol.specs.declared.tellings.ViewAnswer.TheVariants as answer
-use Rattle.protocol.specs.Settings.{Setting, IsSound, Code}
+use Rattle.protocol.specs.Settings.{Setting}
 use Rattle.protocol.specs.Views.{Learnt, first_kept, is_later, learns}
-use Rattle.protocol.specs.Replicas.{Replica, Reaction, fresh_replica, is_held, ignored, not_below, collected, handle}
-use Rattle.protocol.specs.Ballots.{moved_to, outbidding, ballot_refusal, granting, unless_barred, voting}
+use Rattle.protocol.specs.Replicas.{Replica, Reaction, fresh_replica, is_held, ignored, collected, handle}
+use Rattle.protocol.specs.Ballots.{moved_to, outbidding, granting, unless_barred, voting}
 use Rattle.protocol.specs.Proposals.{Proposal, Voting, Ignored, Waited, Asks, Ended, voted}
 use Rattle.protocol.specs.Coordinators.{Coordinator, Next, Ignores, Waits, Sends, Makes, Ends, request_of, on_reply}
-use Rattle.protocol.specs.Nodes.{Node, NodeStep, view_at, has_accepted, put, no_step, sending, with_known, with_round, known_after, fresh_stamp, group_at, began, invoked, phase_packets, replica_at, full_at, with_replica, reply_packets, moved_at, vote_at, voted_on, requested, with_learnt, node_taught, node_taught_by, may_teach, node_learnt, view_counted, carried_out, ended_packets, carried_ballot, replied_ballot, replied_at, replied, lists_fit, heard, received, absorbed, resent_up_to, ballot_resent, ticked, new_proposal, proposing, proposed_in, proposed, stopped, restarted, may_open}
-use Rattle.protocol.specs.Worlds.{World, Event, first_world, is_up, packet_during, left_after, world_stepped, run, happens}
-use Rattle.protocol.proofs.Events.{EventCases, step_on, world_counting, always, always_where, happens_each, started_each, run-append}
+use Rattle.protocol.specs.Nodes.{Node, NodeStep, view_at, has_accepted, put, no_step, sending, with_known, with_round, known_after, fresh_stamp, group_at, began, invoked, phase_packets, replica_at, full_at, moved_at, vote_at, voted_on, requested, with_learnt, node_taught, node_taught_by, may_teach, node_learnt, view_counted, carried_out, ended_packets, carried_ballot, replied_ballot, replied_at, replied, lists_fit, heard, received, absorbed, resent_up_to, ballot_resent, ticked, new_proposal, proposing, proposed_in, proposed, stopped, restarted}
+use Rattle.protocol.specs.Worlds.{World, Event, first_world, is_up, packet_during, left_after, world_stepped, run}
+use Rattle.protocol.proofs.Events.{EventCases, step_on, world_counting, always, started_each}
 use Rattle.protocol.proofs.Packets.{OfEach, each_none, each_both, each_member, each_collect, each_reply, each_learn, each_ticked, each_ballot, each_ballot_resent}
 use Rattle.protocol.proofs.Served.{IsCollect, IsServed, request_each, parts_each}
-use Rattle.protocol.proofs.Tables.{put_each, put_same, put_twice, get_grown}
+use Rattle.protocol.proofs.Tables.{put_each, put_twice}
 use Rattle.view_laws.specs.Successors.{has_closed, IsKeptIn, TakesNothing, is_serving}
-use Rattle.view_laws.proofs.Histories.{view_world}
 use Rattle.view_laws.proofs.Agreeing.{StaysAt, VotesAt, LearnsAt, Turn}
-use Rattle.view_laws.proofs.CallSteps.{Calls, always_calls, append_none, up_not_down, stepped_up, left_stays, left_more, left_fewer}
-use Rattle.view_laws.proofs.Agreements.{Agreement, brick_from, packet_sent, received_says, always_agreed}
-use Rattle.view_laws.proofs.Deciding.{HasLimits}
-use Rattle.view_laws.proofs.Beginning.{invoked_says, proposed_says}
+use Rattle.view_laws.proofs.CallSteps.{up_not_down, stepped_up, left_stays, left_more, left_fewer}
 
 -- ---- parts
 

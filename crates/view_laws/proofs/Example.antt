@@ -1,18 +1,14 @@
 -- A change of members as a run, and what the laws say of it: a group of one data block on bricks 0, 1 and 2 of four goes over to 1, 2 and 3.
-use Rattle.std.proofs.Common.{◌≡◌, ℕ, zero, suc, ◌<◌, ◌≤◌, Bool, true, false, List, [], ◌∷◌, ◌++◌, length, Option, Some, None, refl, arith, nat_eq, nat_lt}
-use Rattle.std.specs.Prelude.{slice_get}
+use Rattle.std.proofs.Common.{◌≡◌, ℕ, zero, suc, ◌<◌, Bool, true, false, List, [], ◌∷◌, ◌++◌, Some, refl, arith}
 use Rattle.fab_base.specs.declared.identities.BrickId.{BrickId}
-use Rattle.fab_base.specs.declared.stamps.Ballot.{Ballot}
 use Rattle.fab_base.specs.Layouts.{Layout, Group, brick_at}
 use Rattle.fab_base.specs.Stamps.{stamp_below, stamp_same, ballot_below}
-use Rattle.messages.specs.declared.calls.Call.{Call}
 use Rattle.messages.specs.declared.replies.Reply.{Reply}
 use Rattle.quorum.specs.Memberships.{is_membership}
 use Rattle.quorum.specs.Quorums.{count}
 use Rattle.synod_laws.specs.Synods.{ballot_same}
-use Rattle.protocol.specs.declared.phases.Counted.{Counted}
 use Rattle.protocol.specs.Settings.{Setting}
-use Rattle.protocol.specs.Views.{learns, views_in, group_in}
+use Rattle.protocol.specs.Views.{learns, views_in}
 use Rattle.protocol.specs.Ballots.{voting}
 use Rattle.protocol.specs.Proposals.{seat_voting, ballot_decided}
 use Rattle.protocol.specs.Coordinators.{call_same}

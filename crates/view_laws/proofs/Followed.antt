@@ -1,13 +1,12 @@
 -- Every run follows its views: the members of a view that is known are those that its name tells, and where a view is known, a quorum of each view before has closed it.
-use Rattle.std.proofs.Common.{◌≡◌, ◌≢◌, ℕ, zero, suc, ◌+◌, ◌-◌, ◌<◌, ◌≤◌, Bool, true, false, cond, ◌&&◌, ◌||◌, ◌⊎◌, inl, inr, ⊎_elim, List, [], ◌∷◌, ◌++◌, length, map, Option, Some, None, refl, sym, ap, ◌∙◌, subst, arith, nat_lt, nat_eq, is_some}
-use Rattle.std.specs.Prelude.{slice_get, not, ◌^◌, if◌then◌else◌}
+use Rattle.std.proofs.Common.{◌≡◌, ℕ, zero, suc, ◌+◌, ◌-◌, ◌<◌, ◌≤◌, Bool, true, false, cond, ◌&&◌, ⊎_elim, List, [], ◌∷◌, ◌++◌, length, map, Option, Some, None, refl, sym, ap, ◌∙◌, subst, arith, nat_lt, nat_eq, is_some}
+use Rattle.std.specs.Prelude.{not, ◌^◌}
 use Rattle.std.specs.Option.{option_map, unwrap_or}
 use Rattle.std.specs.List.{IsDistinct, AllByRecursion, list_all}
-use Rattle.std.proofs.lemmas.Bool.{cond_both, and_parts, and_from, or_left, or_right, or_parts, or_cases, not-true, not-false, eqb-true, eq-eqb, cases_Bool}
+use Rattle.std.proofs.lemmas.Bool.{cond_both, and_parts, and_from, or_left, or_right, or_parts, or_cases, not-true, eqb-true}
 use Rattle.std.proofs.lemmas.Bool.Decides.{nat_tests}
 use Rattle.std.proofs.lemmas.Option.{same_Some}
 use Rattle.fab_base.specs.declared.identities.BrickId.{BrickId}
-use Rattle.fab_base.specs.declared.identities.GroupId.{GroupId}
 use Rattle.fab_base.specs.declared.member_lists.View.{View}
 use Rattle.fab_base.specs.declared.stamps.Ballot.{Ballot}
 use Rattle.fab_base.specs.declared.stamps.Stamp.{Stamp}
@@ -16,23 +15,23 @@ use Rattle.fab_base.specs.Layouts.{Layout, Group, group_of, first_view, brick_at
 use Rattle.fab_base.proofs.StampOrder.{stamp_below_irrefl, stamp_below_asym, stamp_not_below_trans}
 use Rattle.messages.specs.declared.packets.Message.{Message}
 use Rattle.messages.specs.declared.packets.Packet.{Packet}
-use Rattle.quorum.specs.Quorums.{count, quorum_of, IsWithinLimits}
+use Rattle.quorum.specs.Quorums.{IsWithinLimits}
 use Rattle.quorum.specs.Memberships.{stands_in, are_distinct, is_membership}
 use Rattle.quorum.proofs.Counts.{count_monotone}
 use Rattle.synod_laws.specs.Synods.{Kept, IsAtMost, last_of}
 use Rattle.protocol.specs.Settings.{Setting, IsSound}
-use Rattle.protocol.specs.Views.{Views, members_of, layout_views, floor_of, kept_by, group_kept, group_in, learn_in, first_learn, views_in}
+use Rattle.protocol.specs.Views.{members_of, layout_views, floor_of, group_kept, group_in, learn_in, first_learn, views_in}
 use Rattle.protocol.specs.Replicas.{stamp_max, top_of}
 use Rattle.protocol.specs.Nodes.{Node, view_at, has_accepted, view_floor, top_at}
 use Rattle.protocol.specs.Worlds.{World, Event, first_world, run}
 use Rattle.protocol.proofs.Events.{run-append}
-use Rattle.view_laws.specs.Following.{AtQuorum, IsGuarded, Follows, RunFollows, EveryRunFollowsItsViews}
+use Rattle.view_laws.specs.Following.{IsGuarded, Follows, EveryRunFollowsItsViews}
 use Rattle.view_laws.specs.Successors.{has_closed}
 use Rattle.view_laws.proofs.FirstTold.{either, first_told}
-use Rattle.view_laws.proofs.Histories.{ViewWorld, view_world, IsNamed, named_in, history, seated, IsDecided, Extends, kept_at, kept_is, name_has_number, name_is, known_taught}
+use Rattle.view_laws.proofs.Histories.{ViewWorld, view_world, IsNamed, named_in, IsDecided, Extends, kept_is, name_has_number, name_is, known_taught}
 use Rattle.view_laws.proofs.Agreeing.{Agreed}
-use Rattle.view_laws.proofs.Deciding.{HasLimits, view_limits, first_is}
-use Rattle.view_laws.proofs.Agreements.{Agreement, always_agreed}
+use Rattle.view_laws.proofs.Deciding.{view_limits, first_is}
+use Rattle.view_laws.proofs.Agreements.{always_agreed}
 use Rattle.view_laws.proofs.Extending.{run_extends}
 
 -- ---- the members of views

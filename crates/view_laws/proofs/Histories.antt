@@ -1,6 +1,6 @@
 -- What the agreement on views rests on: the packets, what bricks accepted, and the bricks; and the history of the choice of each view's successor, by brick.
-use Rattle.std.proofs.Common.{◌≡◌, ◌≢◌, ℕ, ◌+◌, ◌-◌, ◌<◌, ◌≤◌, Bool, true, false, not, cond, ◌&&◌, ◌||◌, ◌⊎◌, inl, inr, ⊎_elim, List, [], ◌∷◌, ◌++◌, length, Option, Some, None, refl, sym, ap, ◌∙◌, subst, arith, nat_lt, nat_eq}
-use Rattle.std.specs.Prelude.{slice_get, if◌then◌else◌, ◌^◌}
+use Rattle.std.proofs.Common.{◌≡◌, ℕ, ◌+◌, ◌<◌, ◌≤◌, Bool, true, false, cond, ◌&&◌, ◌||◌, List, ◌++◌, length, Option, Some, None, refl, sym, ap, ◌∙◌, subst, arith, nat_lt, nat_eq}
+use Rattle.std.specs.Prelude.{slice_get, if◌then◌else◌}
 use Rattle.std.specs.Option.{option_map}
 use Rattle.std.proofs.lemmas.Bool.{cond_both, and_parts, eqb-true}
 use Rattle.std.proofs.lemmas.Bool.Decides.{nat_tests}
@@ -18,10 +18,10 @@ use Rattle.messages.specs.declared.requests.Request.{Request}
 use Rattle.messages.specs.declared.replies.Reply.{Reply}
 use Rattle.quorum.specs.Quorums.{quorum_of}
 use Rattle.quorum.specs.Memberships.{is_membership}
-use Rattle.synod_laws.specs.Synods.{Synod, Grows, IsChosen, IsSafe, Kept, SaysPromise, ballot_same, is_promised_above}
+use Rattle.synod_laws.specs.Synods.{Synod, Grows, IsChosen, Kept, SaysPromise, ballot_same, is_promised_above}
 use Rattle.synod_laws.proofs.Ballots.{ballot_same_true}
 use Rattle.synod_laws.proofs.Acceptors.{said_stays}
-use Rattle.synod_laws.proofs.Agreement.{chosen_stays, safe_stays}
+use Rattle.synod_laws.proofs.Agreement.{chosen_stays}
 use Rattle.protocol.specs.Views.{members_of, learn_in, kept_by, group_kept}
 use Rattle.protocol.specs.Proposals.{told_choice}
 use Rattle.protocol.specs.Nodes.{Node, view_at}

@@ -1,8 +1,7 @@
 -- A view has one successor, whatever names the members of a later view names the list that was chosen, and the end of a proposal shows its cause.
-use Rattle.std.proofs.Common.{◌≡◌, ℕ, zero, suc, ◌+◌, ◌-◌, ◌<◌, ◌≤◌, Bool, true, false, cond, ◌⊎◌, inl, inr, ⊎_elim, List, [], ◌∷◌, ◌++◌, length, map, Option, Some, None, refl, sym, ap, ◌∙◌, subst, arith, nat_lt, nat_eq}
+use Rattle.std.proofs.Common.{◌≡◌, ℕ, ◌+◌, false, ⊎_elim, List, [], ◌∷◌, length, map, Option, Some, None, refl, sym, ap, ◌∙◌, subst, arith, nat_eq}
 use Rattle.std.specs.Prelude.{slice_get}
 use Rattle.std.specs.List.{IsDistinct, AllByRecursion}
-use Rattle.std.specs.Option.{option_map}
 use Rattle.std.proofs.lemmas.Bool.{or_parts}
 use Rattle.std.proofs.lemmas.Option.{same_Some}
 use Rattle.fab_base.specs.declared.identities.BrickId.{BrickId}
@@ -10,34 +9,29 @@ use Rattle.fab_base.specs.declared.identities.GroupId.{GroupId}
 use Rattle.fab_base.specs.declared.identities.ViewNo.{ViewNo}
 use Rattle.fab_base.specs.declared.member_lists.View.{View}
 use Rattle.fab_base.specs.declared.stamps.Ballot.{Ballot}
-use Rattle.fab_base.specs.Layouts.{Layout, Group, brick_at}
+use Rattle.fab_base.specs.Layouts.{Group, brick_at}
 use Rattle.messages.specs.declared.calls.Call.{Call}
-use Rattle.messages.specs.declared.packets.Message.{Message}
-use Rattle.messages.specs.declared.packets.Packet.{Packet}
-use Rattle.messages.specs.declared.replies.Reply.{Reply}
 use Rattle.quorum.specs.Quorums.{quorum_of}
 use Rattle.quorum.proofs.Counts.{seat_in as is_in, AreDistinctBelow, count_some}
-use Rattle.synod_laws.specs.Synods.{IsMajority, IsChosen, seats_of}
+use Rattle.synod_laws.specs.Synods.{IsMajority, seats_of}
 use Rattle.synod_laws.proofs.Agreement.{quorums_are_majorities, two_chosen}
 use Rattle.protocol.specs.declared.phases.Counted.{Counted}
 use Rattle.protocol.specs.declared.tellings.Report.TheVariants as report
 use Rattle.protocol.specs.declared.tellings.ViewAnswer.{ViewAnswer}
 use Rattle.protocol.specs.declared.tellings.ViewAnswer.TheVariants as answer
 use Rattle.protocol.specs.Settings.{Setting, IsSound}
-use Rattle.protocol.specs.Views.{kept_by, group_kept, group_in, views_in}
-use Rattle.protocol.specs.Proposals.{promises, told_choice, lowest, moved_view, unsynced_brick, greatest_outbid, first_answer, refused_by}
-use Rattle.protocol.specs.Nodes.{view_at}
-use Rattle.protocol.specs.Worlds.{World, Event, first_world, run}
-use Rattle.view_laws.specs.Following.{WasSent}
+use Rattle.protocol.specs.Views.{group_in, views_in}
+use Rattle.protocol.specs.Proposals.{promises, lowest, moved_view, unsynced_brick, greatest_outbid, refused_by}
+use Rattle.protocol.specs.Worlds.{World, first_world, run}
 use Rattle.view_laws.specs.Successors.{WasChosen, WasReported, Succeeds, OneSuccessorIn, OneSuccessor, NamesAreChosenIn, NamesAreChosen}
-use Rattle.view_laws.specs.Ends.{voices_of, IsVoice, ShowsDecided, ShowsAnswer, ShowsEnd, ProposalsShowIn, ProposalsShow}
-use Rattle.view_laws.proofs.Histories.{view_world, IsNamed, named_in, group_named, history, seated, IsDecided, IsTaught, name_has_number, name_is, group_by_name, name_of_group, kept_is, known_taught}
+use Rattle.view_laws.specs.Ends.{voices_of, ShowsAnswer, ProposalsShowIn, ProposalsShow}
+use Rattle.view_laws.proofs.Histories.{view_world, group_named, history, seated, IsDecided, IsTaught, name_has_number, name_of_group, kept_is, known_taught}
 use Rattle.view_laws.proofs.Agreeing.{Agreed}
 use Rattle.view_laws.proofs.Deciding.{agrees_seated}
 use Rattle.view_laws.proofs.Agreements.{always_agreed}
 use Rattle.view_laws.proofs.Followed.{views_of_name, group_of_name, named_fits}
 use Rattle.view_laws.proofs.Voices.{answer_of}
-use Rattle.view_laws.proofs.Reporting.{EndSays, DecidedSays, Reporting}
+use Rattle.view_laws.proofs.Reporting.{EndSays, DecidedSays}
 use Rattle.view_laws.proofs.ReportSteps.{ReportsSay, always_reports}
 
 module _ (setting : Setting) (sound : IsSound setting) (w : World) (agreed : Agreed setting.layout (view_world w)) where

@@ -1,5 +1,5 @@
 -- Each step of a brick reports what is so, so all reports of a run do.
-use Rattle.std.proofs.Common.{◌≡◌, ◌≢◌, ℕ, zero, suc, ◌+◌, ◌-◌, ◌<◌, ◌≤◌, Bool, true, false, cond, ◌&&◌, ◌⊎◌, inl, inr, ⊎_elim, List, [], ◌∷◌, ◌++◌, length, map, Option, Some, None, refl, sym, ap, ◌∙◌, subst, arith, nat_lt, nat_eq}
+use Rattle.std.proofs.Common.{◌≡◌, ℕ, zero, suc, ◌+◌, ◌<◌, ◌≤◌, Bool, true, false, cond, ◌&&◌, ◌⊎◌, inl, inr, List, [], ◌∷◌, ◌++◌, length, Option, Some, None, refl, sym, ap, ◌∙◌, subst, arith, nat_lt}
 use Rattle.std.specs.Prelude.{slice_get, not}
 use Rattle.std.specs.Option.{option_map}
 use Rattle.std.proofs.lemmas.Bool.{cond_both, and_parts, not-true}
@@ -27,20 +27,20 @@ use Rattle.protocol.specs.declared.tellings.ViewAnswer.{ViewAnswer}
 use Rattle.protocol.specs.declared.tellings.ViewAnswer.TheVariants as answer
 use Rattle.protocol.specs.Settings.{Setting, IsSound}
 use Rattle.protocol.specs.Views.{kept_by}
-use Rattle.protocol.specs.Proposals.{Proposal, Voting, Ignored, Waited, Asks, Ended, ballot_quorum, seat_voting, with_voice, refused_by, greatest_choice, asking, answers_ballot, ballot_packets, voted}
+use Rattle.protocol.specs.Proposals.{Proposal, Voting, ballot_quorum, seat_voting, with_voice, refused_by, greatest_choice, asking, answers_ballot, ballot_packets, voted}
 use Rattle.protocol.specs.Coordinators.{Coordinator, Next, Ignores, Waits, Sends, Makes, Ends, on_reply}
-use Rattle.protocol.specs.Nodes.{Node, NodeStep, put, no_step, sending, with_known, with_round, known_after, fresh_stamp, learn_packets, group_at, began, invoked, requested, carried_out, carried_ballot, replied_ballot, replied_at, view_counted, node_taught_by, replied, lists_fit, heard, node_learnt, received, proposed, proposed_in, new_proposal, proposing, reporting, ticked, stopped, restarted, may_open}
-use Rattle.protocol.specs.Worlds.{World, Event, first_world, is_up, is_brick, run, reports_of, voiced_after, voices_at, voices_with, with_voiced}
+use Rattle.protocol.specs.Nodes.{Node, NodeStep, put, no_step, sending, with_known, with_round, known_after, fresh_stamp, learn_packets, group_at, began, invoked, requested, carried_out, carried_ballot, replied_ballot, replied_at, view_counted, node_taught_by, replied, lists_fit, heard, received, proposed, proposed_in, new_proposal, proposing, reporting, ticked, stopped, restarted, may_open}
+use Rattle.protocol.specs.Worlds.{World, Event, first_world, is_brick, run, reports_of, voiced_after, voices_at, voices_with, with_voiced}
 use Rattle.protocol.proofs.Events.{EventCases, step_on, always_where, started_each}
 use Rattle.protocol.proofs.Served.{request_each}
 use Rattle.protocol.proofs.Tables.{get_one}
 use Rattle.view_laws.proofs.Histories.{ViewWorld, view_world, IsSent, history, seated, seated_grows, Extends}
-use Rattle.view_laws.proofs.Agreeing.{Turn, turned, turn_extends, turn_agrees, placed, sending_more}
+use Rattle.view_laws.proofs.Agreeing.{Turn, turned, turn_extends, placed, sending_more}
 use Rattle.view_laws.proofs.Calling.{StepCalls, Called}
 use Rattle.view_laws.proofs.CallSteps.{Calls, always_calls, append_none, invoked_calls, proposed_calls, received_calls, stopped_calls, restarted_calls, found_calls, found_called}
-use Rattle.view_laws.proofs.Owning.{KeepsOwn, requested_own, taught_own, learnt_own}
-use Rattle.view_laws.proofs.Voices.{VoiceCounts, voice_counts, unrefused, acceptance_of}
-use Rattle.view_laws.proofs.Votings.{EachVoting, voting_each}
+use Rattle.view_laws.proofs.Owning.{requested_own, taught_own, learnt_own}
+use Rattle.view_laws.proofs.Voices.{voice_counts, unrefused, acceptance_of}
+use Rattle.view_laws.proofs.Votings.{voting_each}
 use Rattle.view_laws.proofs.Drafting.{DraftSays, step_extends}
 use Rattle.view_laws.proofs.Deciding.{HasLimits, voice_says, group_at_draft, asked_chosen}
 use Rattle.view_laws.proofs.Replying.{decided_named}

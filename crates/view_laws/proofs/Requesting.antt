@@ -1,6 +1,6 @@
 -- What a brick owes when it handles a request, or a message that teaches a view.
-use Rattle.std.proofs.Common.{◌≡◌, ◌≢◌, ℕ, zero, suc, ◌+◌, ◌-◌, ◌<◌, ◌≤◌, Bool, true, false, cond, ◌&&◌, ◌||◌, ◌⊎◌, inl, inr, ⊎_elim, List, [], ◌∷◌, ◌++◌, length, Option, Some, None, refl, sym, ap, ◌∙◌, subst, arith, nat_lt, nat_eq}
-use Rattle.std.specs.Prelude.{slice_get, not, is_some, if◌then◌else◌, ◌^◌}
+use Rattle.std.proofs.Common.{◌≡◌, ℕ, ◌+◌, ◌-◌, ◌<◌, ◌≤◌, Bool, true, false, cond, ◌&&◌, ◌||◌, ◌⊎◌, inl, inr, ⊎_elim, List, [], Option, Some, None, refl, sym, ap, ◌∙◌, subst, arith, nat_lt, nat_eq}
+use Rattle.std.specs.Prelude.{not, is_some, ◌^◌}
 use Rattle.std.specs.Option.{option_map}
 use Rattle.std.proofs.lemmas.Bool.{cond_both, and_parts, or_parts, eqb-true, eqb-false, ne_eqb, not-false}
 use Rattle.std.proofs.lemmas.Bool.Decides.{nat_tests}
@@ -11,34 +11,33 @@ use Rattle.fab_base.specs.declared.member_lists.View.{View}
 use Rattle.fab_base.specs.declared.stamps.Ballot.{Ballot}
 use Rattle.fab_base.specs.declared.stamps.Stamp.{Stamp}
 use Rattle.fab_base.specs.Stamps.{ballot_below, stamp_below, stamp_same}
-use Rattle.fab_base.specs.Layouts.{Layout, Group, group_of, seat_in}
+use Rattle.fab_base.specs.Layouts.{Layout, Group, group_of}
 use Rattle.messages.specs.declared.calls.Call.{Call}
 use Rattle.messages.specs.declared.packets.Message.{Message}
 use Rattle.messages.specs.declared.packets.Packet.{Packet}
 use Rattle.messages.specs.declared.requests.Request.{Request}
 use Rattle.messages.specs.declared.requests.Version.{Version}
-use Rattle.messages.specs.declared.replies.Choice.{Choice}
 use Rattle.messages.specs.declared.replies.Reply.{Reply}
 use Rattle.messages.specs.declared.replies.Reply.TheVariants as reply
 use Rattle.quorum.specs.Memberships.{is_membership}
 use Rattle.synod_laws.specs.Synods.{SaysPromise, Kept, is_promised_above, last_of}
 use Rattle.synod_laws.proofs.Acceptors.{said_stays}
 use Rattle.protocol.specs.Settings.{Setting, Code}
-use Rattle.protocol.specs.Views.{Learnt, kept_by, is_later, learns}
-use Rattle.protocol.specs.Replicas.{Replica, Reaction, is_held, top_of, stays, unless_full, promised, stored, modified_on, newest_of, collected, handle}
-use Rattle.protocol.specs.Ballots.{Voted, choice_of, moved_to, outbidding, ballot_refusal, granting, unless_barred, voting}
+use Rattle.protocol.specs.Views.{Learnt, is_later, learns}
+use Rattle.protocol.specs.Replicas.{Replica, Reaction, is_held, top_of, stays, unless_full, promised, stored, modified_on, newest_of, handle}
+use Rattle.protocol.specs.Ballots.{choice_of, moved_to, outbidding, ballot_refusal, granting, unless_barred, voting}
 use Rattle.protocol.specs.Proposals.{told_choice}
-use Rattle.protocol.specs.Nodes.{Node, NodeStep, view_at, has_accepted, group_at, put, no_step, sending, full_at, replica_at, reply_packets, reacted, requested_at, is_now, has_successor, fits, seat_now, is_void, moved_at, served_unless, vote_at, voted_on, requested_as, requested_in, requested, with_learnt, node_taught, may_teach, node_learnt}
-use Rattle.protocol.proofs.Packets.{OfEach, each_none, each_reply}
+use Rattle.protocol.specs.Nodes.{Node, NodeStep, view_at, has_accepted, group_at, put, no_step, full_at, replica_at, reply_packets, reacted, requested_at, is_now, has_successor, fits, seat_now, is_void, moved_at, served_unless, vote_at, voted_on, requested_as, requested_in, requested, with_learnt, node_taught, may_teach, node_learnt}
+use Rattle.protocol.proofs.Packets.{each_reply}
 use Rattle.protocol.proofs.Puts.{put_other}
 use Rattle.protocol.proofs.Tables.{put_same}
 use Rattle.view_laws.proofs.FirstTold.{first_stays}
 use Rattle.view_laws.proofs.Histories.{ViewWorld, IsSent, IsNamed, accept_in, ballot_called, history, PacketSays, ReplySays, IsTaught, Extends, taught_stays, known_taught, kept_is}
-use Rattle.view_laws.proofs.Agreeing.{Agreed, KeepsViews, StaysAt, VoteFits, vote_request, VotesAt, LearnsAt, Turn, turned, promise_says, accepted_says, sending_more, sent_grows}
-use Rattle.view_laws.proofs.Calling.{OfBallots, IsBallotOf, Called}
+use Rattle.view_laws.proofs.Agreeing.{Agreed, KeepsViews, StaysAt, vote_request, VotesAt, LearnsAt, Turn, turned, promise_says, accepted_says, sending_more, sent_grows}
+use Rattle.view_laws.proofs.Calling.{Called}
 use Rattle.view_laws.proofs.CallSteps.{put_back}
 use Rattle.view_laws.proofs.Owning.{learnt_own}
-use Rattle.view_laws.proofs.Drafting.{Drafting, AcceptsNone, StepSays, BodySays, body_own, step_extends, still_body}
+use Rattle.view_laws.proofs.Drafting.{Drafting, StepSays, BodySays, body_own, step_extends, still_body}
 
 -- ---- turns
 
