@@ -5,7 +5,7 @@ ghost use Rattle.fab_base.specs.Layouts.{most_groups};
 ghost use Rattle.fab_base.specs.Stamps.{stamp_same, first_stamp};
 ghost use Rattle.brick_state.specs.Folds.{slot_named};
 
-use crate::groups::Group;
+use crate::groups::{Group, MOST_GROUPS};
 use crate::records::Record;
 use crate::stripe_tables::StripeTable;
 use crate::stripes::{Place, Stripe, ZERO_SLOT};
@@ -22,7 +22,7 @@ pub struct Index {
     boot: u32,
     groups: Vec<Group>,
     stripes: StripeTable,
-    ghost all_groups: { length groups.items ≡ 64 },
+    ghost all_groups: { length groups.items ≡ most_groups },
     ghost few: { records ≤ 4294967295 },
 }
 
@@ -44,7 +44,7 @@ impl Index {
     {
         let stripes = StripeTable::new(alloc, slots);
         let mut groups = Vec::new(alloc);
-        for _ in 0..64u8 {
+        for _ in 0..MOST_GROUPS {
             groups.push(Group {
                 known: None,
                 ballots: None,
@@ -208,7 +208,7 @@ impl Index {
         ensures refused { result ≡ false → state_of self.new ≡ state_of self.old }
         ensures limits { limits_of self.new ≡ limits_of self.old }
     {
-        if group >= 64 || view.number.0 < 2 {
+        if group >= MOST_GROUPS || view.number.0 < 2 {
             return false;
         }
         let first = if synced {
@@ -233,7 +233,7 @@ impl Index {
         ensures refused { result ≡ false → state_of self.new ≡ state_of self.old }
         ensures limits { limits_of self.new ≡ limits_of self.old }
     {
-        if group >= 64 {
+        if group >= MOST_GROUPS {
             return false;
         }
         let entry = &mut self.groups[group as usize];
@@ -250,7 +250,7 @@ impl Index {
         ensures limits { limits_of self.new ≡ limits_of self.old }
         ensures enough { HasRoom self.old.stripes.views place → IsOk result }
     {
-        if place.0 >= 64 {
+        if place.0 >= MOST_GROUPS {
             return Ok(false);
         }
         self.stripes.make_room(self.alloc, place, ZERO_SLOT)?;
@@ -280,7 +280,7 @@ impl Index {
         ensures enough { HasRoom self.old.stripes.views (place logged.now.group logged.now.view logged.now.stripe)
             → HasSlotRoom self.old.stripes.slots self.old.stripes.counts (slot_named logged.now.change) → IsOk result }
     {
-        if logged.group.0 >= 64 {
+        if logged.group.0 >= MOST_GROUPS {
             return Ok(false);
         }
         let place = (logged.group.0, logged.view.0, logged.stripe.0);
