@@ -1,8 +1,7 @@
 //! The index: what a brick keeps, in memory.
 
-ghost use Rattle.std.specs.Prelude.{◌≡◌, ◌≤◌, ◌&&◌, not, length};
+ghost use Rattle.std.specs.Prelude.{◌≡◌, ◌≤◌, length};
 ghost use Rattle.fab_base.specs.Layouts.{most_groups};
-ghost use Rattle.fab_base.specs.Stamps.{stamp_same, first_stamp};
 ghost use Rattle.brick_state.specs.Folds.{slot_named};
 
 use crate::groups::{Group, MOST_GROUPS};
@@ -254,12 +253,8 @@ impl Index {
             return Ok(false);
         }
         self.stripes.make_room(self.alloc, place, ZERO_SLOT)?;
-        let adds = adds_record(stamp, self.order(place));
-        if adds && self.is_full() {
-            return Ok(false);
-        }
-        self.stripes.set_order(place, stamp);
-        Ok(true)
+        let full = self.is_full();
+        Ok(self.stripes.set_order(place, stamp, full))
     }
 
     /// The order stamp of a stripe.
@@ -300,11 +295,4 @@ fn slot_named(change: LogChange) -> u32
         LogChange::Collect => ZERO_SLOT,
         LogChange::Slot { slot, .. } => slot,
     }
-}
-
-// Whether an order stamp in the place of another is one live record more.
-fn adds_record(stamp: Stamp, order: Stamp) -> bool
-    ensures { result ≡ (stamp_same order first_stamp && not (stamp_same stamp first_stamp)) }
-{
-    order.is_same(Stamp::FIRST) && !stamp.is_same(Stamp::FIRST)
 }
