@@ -1,5 +1,5 @@
 -- How a range goes on, by what its fields say.
-use Rattle.std.proofs.Common.{◌≡◌, ℕ, ◌+◌, ◌-◌, ◌≤◌, List, [], ◌∷◌, ◌++◌, Option, Some, None, Result, Ok, option_map, refl, sym, ap, subst, ◌∙◌, arith}
+use Rattle.std.proofs.Common.{◌≡◌, ℕ, ◌+◌, ◌-◌, ◌≤◌, true, false, List, [], ◌++◌, Option, Some, None, is_some, Result, Ok, option_map, refl, sym, ap, subst, ◌∙◌, arith}
 use Rattle.std.specs.Option.{ForSome}
 use Rattle.fab_base.specs.declared.answers.Answer.{Answer}
 use Rattle.fab_base.specs.declared.answers.Answer.TheVariants as answer
@@ -62,19 +62,10 @@ pub asks_none : (wish : Wish) (total done : ℕ) (came : List ℕ) (before : Opt
     → first_piece wish.layout wish.volume wish.first total done ≡ None → None ≡ next_ask p
 asks_none wish total done came before p is going none = ap ask_in (shows_done wish total done came came before p is going none refl)
 
--- a range that wants nothing and was not halted is done
-pub answers_done : (wish : Wish) (total done : ℕ) (came bytes : List ℕ) (before : Option Halt) (p : Progress)
-    → progress_of wish total done came before ≡ p → before ≡ None → next_ask p ≡ None → bytes ≡ came → step.End (range.Done bytes) ≡ next_of p
-answers_done wish total done came bytes before p is going ended same =
-    let left = parts_from wish done (total - done) 0 in
-    let here : ask_in (next_by None left came) ≡ None =
-    ap (λ (h : Option Halt). ask_in (next_by (option_map (answer_of done) h) left came)) (sym going) ∙ ap next_ask is ∙ ended in
-    ap (λ (b : List ℕ). step.End (range.Done b)) same ∙ by_left left here
-    ∙ ap (λ (h : Option Halt). next_by (option_map (answer_of done) h) left came) (sym going) ∙ ap next_of is
-  where
-    by_left : (left : List Part) → ask_in (next_by None left came) ≡ None → step.End (range.Done came) ≡ next_by None left came
-    by_left [] none = refl
-    by_left (part ∷ parts) none = let never : Some part.ask ≡ None = none in cc
+-- a range has no halt where the test finds none
+pub not_halted : (halt : Option Halt) → is_some halt ≡ false → halt ≡ None
+not_halted None is = refl
+not_halted (Some halt) is = let never : true ≡ false = is in absurd cc
 
 -- a range that has an operation left has not halted
 going : (halt : Option Halt) (total done behind : ℕ) → ForSome halt (λ why. done ≡ total) → done + (behind + 1) ≤ total → halt ≡ None
