@@ -147,9 +147,7 @@ impl<B: Bricks, L: Link> HostedClient<B, L> {
             }
             self.turns -= 1;
             self.bricks.take_turns()?;
-            standing = self
-                .end
-                .hear_once(alloc, layout, port, &mut range, wanted)?;
+            standing = self.end.hear_once(alloc, layout, port, &mut range, wanted)?;
         }
     }
 

@@ -57,11 +57,7 @@ fn send<K: Sink>(sink: &mut K, bytes: &[u8]) -> Result<(), HostFault>
 }
 
 /// The range of bytes of a volume that a command reads or writes. It borrows what is written.
-fn range_of<'s>(
-    alloc: Global,
-    layout: &'s Layout,
-    command: Command<'s>,
-) -> Result<Range<'s>, NoMem>
+fn range_of<'s>(alloc: Global, layout: &'s Layout, command: Command<'s>) -> Result<Range<'s>, NoMem>
     ensures { IfOk result (λ range. range ≡ range_of layout.now (shown command.entry)) }
 {
     match command {
