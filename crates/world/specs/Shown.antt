@@ -1,5 +1,6 @@
 -- What a world keeps, and the machine's world that it shows.
-use Rattle.std.specs.Prelude.{◌≡◌, ◌⊎◌, ℕ, zero, suc, ◌+◌, ◌<◌, ◌≤◌, Bool, true, false, not, nat_eq, if◌then◌else◌, List, [], ◌∷◌, length, map, Option, Some, None, is_some, Result, Ok, Err, get_or, slice_get, vec_len, vec_capacity}
+use Rattle.std.specs.Prelude.{◌≡◌, ◌⊎◌, ℕ, zero, suc, ◌+◌, ◌<◌, ◌≤◌, ◌&&◌, Bool, true, false, not, nat_eq, if◌then◌else◌, List, [], ◌∷◌, length, map, Option, Some, None, is_some, Result, Ok, Err, option_and_then, unwrap_or, get_or, slice_get, vec_len, vec_capacity}
+use Rattle.std.specs.Bool.{Decides}
 use Rattle.std.specs.declared.cmp.Ordering.{Ordering}
 use Rattle.std.specs.Ordering.{nat_cmp, ordering_then}
 use Rattle.std.specs.List.{AllByRecursion}
@@ -36,7 +37,7 @@ use Rattle.messages.specs.declared.packets.Packet.{Packet}
 use Rattle.coord_phase.specs.Messages.{packets_from}
 use Rattle.node.specs.Outcomes.{Outcome as Sent}
 use Rattle.stripe_code.specs.Codes.{coding}
-use Rattle.protocol.specs.Calms.{IsEarly, RunsAlone, early, open_call}
+use Rattle.protocol.specs.Calms.{IsCalm, IsEarly, RunsAlone, early, open_call}
 use Rattle.world.specs.Calms.{BeginsCalm, BeginsAlone}
 use Rattle.world.specs.Texts.{outcome_of, outcome_text, new_marks, marks_text, line_text, text_of}
 use Rattle.world.specs.declared.simulations.Outcome.{Outcome}
@@ -380,19 +381,40 @@ pub record StaysAs (layout : Layout) (old new : Simulation) : Type 0 where
   pub shows : (w : World) → Shows layout old w → Shows layout new w
   pub contents : map content_of (disks_of new.bricks.items) ≡ map content_of (disks_of old.bricks.items)
 
--- the brick of a number was found running, or there is none that is up
-abbrev pub FindsRunning : List Brick → ℕ → Option (Running MemDisk) → Type 0
-FindsRunning bricks number None =
-    (layout : Layout) (w : World) → ShowsBricks layout bricks w.nodes w.after w.up w.clocks → is_up layout w (brick_of number) ≡ false
-FindsRunning bricks number (Some node) =
-    (layout : Layout) (w : World) → ShowsBricks layout bricks w.nodes w.after w.up w.clocks
-    → (is_up layout w (brick_of number) ≡ true) × IsRunning layout (brick_of number) (w.nodes number) node
+-- what runs as the brick of a number, where there is one and it is up
+abbrev pub node_in : Power → Option (Running MemDisk)
+node_in (Up node) = Some node
+node_in (Down disk) = None
 
--- what the clock of the brick of a number reads
-abbrev pub ClockIs : List Brick → ℕ → ℕ → Type 0
-ClockIs bricks number time =
-    (layout : Layout) (w : World) → ShowsBricks layout bricks w.nodes w.after w.up w.clocks → is_up layout w (brick_of number) ≡ true
-    → time ≡ w.clocks number
+abbrev pub running_at : List Brick → ℕ → Option (Running MemDisk)
+running_at bricks number = option_and_then (λ brick. node_in brick.power) (slice_get bricks number)
+
+-- what the clock of the brick of a number reads, 0 where there is none
+abbrev pub clock_at : List Brick → ℕ → ℕ
+clock_at bricks number = unwrap_or (option_map (λ brick. brick.clock) (slice_get bricks number)) 0
+
+-- a brick runs that has room for two records more, and its times are early
+abbrev pub NodeIsAble : Layout → Option (Running MemDisk) → Type 0
+NodeIsAble layout None = ⊥
+NodeIsAble layout (Some node) = ((state_of node).live + 2 ≤ layout.records) × IsEarly (state_of node)
+
+-- a brick runs whose clock reads this, and that and its times are early
+abbrev pub NodeIsInTime : ℕ → Option (Running MemDisk) → Type 0
+NodeIsInTime time None = ⊥
+NodeIsInTime time (Some node) = (time < early) × IsEarly (state_of node)
+
+-- a brick runs that was opened as often as where this was kept of an operation, and the operation is open there
+abbrev pub node_has_open : OperationRecord → Option (Running MemDisk) → Bool
+node_has_open kept None = false
+node_has_open kept (Some node) = nat_eq (state_of node).boot kept.boot && is_some ((state_of node).calls kept.seq)
+
+-- what is kept of an operation, if it is open
+abbrev pub if_open : List Brick → Option OperationRecord → Option OperationRecord
+if_open bricks None = None
+if_open bricks (Some kept) = if node_has_open kept (running_at bricks kept.brick.0) then Some kept else None
+
+abbrev pub open_record : Simulation → ℕ → Option OperationRecord
+open_record state n = if_open state.bricks.items (record_at state.history.operations.items n)
 
 -- the brick of a number is up, has room for two records more, and its times are early
 pub record IsAble (layout : Layout) (w : World) (number : ℕ) : Type 0 where
@@ -433,3 +455,17 @@ pub record HasBegun (layout : Layout) (w : World) (n : ℕ) (bricks : List Brick
   pub begins : BeginsAlone (coding layout) n bricks w events last
   pub shows : Shows layout state last
   pub kept : LeavesContents (coding layout) w events disks (disks_of state.bricks.items)
+
+-- it is said whether an operation may run alone among these bricks, in the world that the state shows
+abbrev pub DecidesCalm : Layout → Simulation → ℕ → List ℕ → Bool → Type 0
+DecidesCalm layout state n bricks may =
+    (w : World) → IsReachedBy layout w → Shows layout state w → Decides may (IsCalm (coding layout) w n (map brick_of bricks))
+
+-- one that may did, from one state to another; or it began to
+abbrev pub RunsAloneTo : Layout → Simulation → Simulation → ℕ → List ℕ → Bool → Type 0
+RunsAloneTo layout old new n bricks some = (w : World) → IsReachedBy layout w → Shows layout old w → IsCalm (coding layout) w n (map brick_of bricks)
+    → HasRun layout w n (map brick_of bricks) (disks_of old.bricks.items) new some
+
+abbrev pub BeginsAloneTo : Layout → Simulation → Simulation → ℕ → List ℕ → Type 0
+BeginsAloneTo layout old new n bricks = (w : World) → IsReachedBy layout w → Shows layout old w → IsCalm (coding layout) w n (map brick_of bricks)
+    → HasBegun layout w n (map brick_of bricks) (disks_of old.bricks.items) new
