@@ -4,7 +4,7 @@ use Rattle.std.specs.Prelude.{option_to_list, slice_get, if◌then◌else◌}
 use Rattle.std.specs.Option.{option_map}
 use Rattle.std.proofs.lemmas.Bool.{cond_both, eqb-true, eqb-false, ne_eqb}
 use Rattle.std.proofs.lemmas.List.{get_or_append_left}
-use Rattle.std.proofs.lemmas.Option.{slice_get_within, slice_get_past, slice_get-get_or}
+use Rattle.std.proofs.lemmas.Option.{same_Some, slice_get_within, slice_get_past, slice_get-get_or}
 use Rattle.fab_base.specs.declared.answers.Answer.{Answer}
 use Rattle.fab_base.specs.declared.asks.Ask.{Ask}
 use Rattle.fab_base.specs.declared.identities.BrickId.{BrickId}
@@ -26,7 +26,7 @@ use Rattle.world.specs.CallNumbers.{AreCalls, calls_in, call_at}
 use Rattle.world.specs.Shown.{TellsOperations, ChangesAt, TellsOperation, Tells, made_kept, seen_kept, ended_kept}
 use Rattle.world.specs.declared.call_numbers.CallNumbers.{CallNumbers}
 use Rattle.world.specs.declared.deliveries.Deliveries.{Deliveries}
-use Rattle.world.proofs.Places.{grown, each_value, value_here, value_elsewhere, get_or_end, set_here, set_elsewhere}
+use Rattle.world.proofs.Places.{grown, each_value, value_here, value_elsewhere, get_or_end, set_here, set_elsewhere, slice_get_not_none}
 
 -- room alone changes nothing that is told
 pub tells_same : (old new : History) (w : World) → new.sent.packets.items ≡ old.sent.packets.items
@@ -332,11 +332,21 @@ changes_to kept number default value change some within is =
 
 -- the number of a call is that of its operation
 pub number_is : (history : History) (w : World) (b seq number : ℕ) → Tells history w → w.up b ≡ true → 1 ≤ seq → seq ≤ (w.nodes b).seq
-    → number ≡ call_at (calls_in history.calls b) seq → number ≡ number_of w b seq
+    → Some number ≡ call_at (calls_in history.calls b) seq → number ≡ number_of w b seq
 number_is history w b zero number tells up low high is = absurd (omega arith)
 number_is history w b (suc k) number tells up low high is =
     let are = subst (λ (x : Bool). AreCalls x (calls_in history.calls b) (number_of w b) (w.nodes b).seq) up (tells.calls b) in
-    is ∙ are.1 k (omega (arith, high)) ∙ ap (number_of w b) (add-one k)
+    same_Some number (number_of w b (suc k))
+    (is ∙ slice_get-get_or (calls_in history.calls b) k 0 (omega (arith, are.0, high))
+    ∙ ap (λ n. Some n) (are.1 k (omega (arith, high)) ∙ ap (number_of w b) (add-one k)))
+
+-- and each call so far has one
+pub has_number : (history : History) (w : World) (b seq : ℕ) → Tells history w → w.up b ≡ true → 1 ≤ seq → seq ≤ (w.nodes b).seq
+    → None ≡ call_at (calls_in history.calls b) seq → ⊥
+has_number history w b zero tells up low high none = omega arith
+has_number history w b (suc k) tells up low high none =
+    let are = subst (λ (x : Bool). AreCalls x (calls_in history.calls b) (number_of w b) (w.nodes b).seq) up (tells.calls b) in
+    slice_get_not_none (calls_in history.calls b) k (omega (arith, are.0, high)) (sym none)
 
 -- an operation made a version
 pub tells_made : (old new : History) (w : World) (b seq number : ℕ) (stamp : Stamp) (base : Option Stamp) (kept after : List OperationRecord) → Tells old w

@@ -215,8 +215,8 @@ impl History {
         self.delivered.note(number);
     }
 
-    /// The number of the operation of a brick's call; 0 where there is none.
-    fn number(&self, brick: BrickId, seq: u64) -> u64
+    /// The number of the operation of a brick's call. None where there is no such call.
+    fn number(&self, brick: BrickId, seq: u64) -> Option<u64>
         ensures { result ≡ call_at (calls_in self.now.calls brick.0) seq }
     {
         self.calls.number(brick, seq)
@@ -297,8 +297,9 @@ impl History {
         ensures marks { self.new.marks ≡ self.old.marks }
         ensures sent { self.new.sent ≡ self.old.sent }
     {
-        let number = self.number(brick, seq);
-        note_made(&mut self.operations, number, stamp, base);
+        if let Some(number) = self.number(brick, seq) {
+            note_made(&mut self.operations, number, stamp, base);
+        }
     }
 
     /// The operation of a brick's call read a version at once.
@@ -309,8 +310,9 @@ impl History {
         ensures marks { self.new.marks ≡ self.old.marks }
         ensures sent { self.new.sent ≡ self.old.sent }
     {
-        let number = self.number(brick, seq);
-        note_seen(&mut self.operations, number, stamp);
+        if let Some(number) = self.number(brick, seq) {
+            note_seen(&mut self.operations, number, stamp);
+        }
     }
 
     /// Notes what a step told, if anything.
@@ -337,7 +339,9 @@ impl History {
         let Some(Answered { seq, answer }) = answer else {
             return;
         };
-        let operation = self.number(brick, seq);
+        let Some(operation) = self.number(brick, seq) else {
+            return;
+        };
         note_answer(&mut self.operations, operation, is_answer(&answer));
         let position = self.marks.len() as u64;
         self.marks.push_reserved(Mark::End {
