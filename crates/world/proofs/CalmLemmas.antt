@@ -32,65 +32,8 @@ use Rattle.world.specs.Shown.{ShowsPower, ShowsBricks, IsRunning, IsAble, IsInTi
 use Rattle.world.specs.declared.bricks.Brick.{Brick}
 use Rattle.world.specs.declared.bricks.Power.{Power}
 use Rattle.world.specs.declared.bricks.Power.TheVariants.{Up, Down}
-use Rattle.world.proofs.BrickListLemmas.{found_none}
+use Rattle.world.proofs.BrickListLemmas.{running_shown, running_not}
 use Rattle.world.proofs.CallNumbers.{AreOfBricks}
-
--- a brick that runs is up, in any layout that it shows
-up_within : (layout : Layout) (bricks : List Brick) (w : World) (b : ℕ) → b < length bricks
-    → ShowsBricks layout bricks w.nodes w.after w.up w.clocks → nat_lt b layout.bricks ≡ true
-up_within layout bricks w b within shows = (let less : b < layout.bricks = omega (arith, shows.count) in grind (arith, nat_tests))
-
--- what a brick runs
-pub running_up : (bricks : List Brick) (b : ℕ) (brick : Brick) (node : Running MemDisk) → b < length bricks → brick ≡ get_or bricks b brick
-    → brick.power ≡ Up node → running_at bricks b ≡ Some node
-running_up bricks b brick node within is on =
-    ap (option_and_then (λ (x : Brick). node_in x.power)) (slice_get_read bricks (length bricks) b brick refl within is) ∙ ap node_in on
-
-pub running_down : (bricks : List Brick) (b : ℕ) (brick : Brick) (disk : MemDisk) → b < length bricks → brick ≡ get_or bricks b brick
-    → brick.power ≡ Down disk → running_at bricks b ≡ None
-running_down bricks b brick disk within is off =
-    ap (option_and_then (λ (x : Brick). node_in x.power)) (slice_get_read bricks (length bricks) b brick refl within is) ∙ ap node_in off
-
--- what runs as a brick is the machine's
-pub running_shown : (layout : Layout) (bricks : List Brick) (w : World) (b : ℕ) (node : Running MemDisk)
-    → ShowsBricks layout bricks w.nodes w.after w.up w.clocks → running_at bricks b ≡ Some node
-    → (is_up layout w (brick_of b) ≡ true) × IsRunning layout (brick_of b) (w.nodes b) node × (clock_at bricks b ≡ w.clocks b)
-running_shown layout bricks w b node shows = by_brick (slice_get bricks b) refl
-  where
-    by_power : (power : Power) → ShowsPower layout (brick_of b) (w.nodes b) (w.after b) (w.up b) power → node_in power ≡ Some node
-        → (w.up b ≡ true) × IsRunning layout (brick_of b) (w.nodes b) node
-    by_power (Up one) shown is = (shown.0, subst (IsRunning layout (brick_of b) (w.nodes b)) (same_Some one node is) shown.1)
-    by_power (Down disk) shown is = absurd (let never : None ≡ Some node = is in cc)
-
-    by_brick : (found : Option Brick) → slice_get bricks b ≡ found → option_and_then (λ (x : Brick). node_in x.power) found ≡ Some node
-        → (is_up layout w (brick_of b) ≡ true) × IsRunning layout (brick_of b) (w.nodes b) node
-        × (unwrap_or (option_map (λ (x : Brick). x.clock) found) 0 ≡ w.clocks b)
-    by_brick None at is = absurd (let never : None ≡ Some node = is in cc)
-    by_brick (Some brick) at is =
-        let its = shows.each b brick at in
-        let runs = by_power brick.power its.power is in (
-          ap (λ (x : Bool). x && w.up b) (up_within layout bricks w b (slice_get_within bricks b brick at) shows) ∙ runs.0,
-          runs.1,
-          its.clock,
-        )
-
--- where nothing runs the machine's brick is not up
-pub running_not : (layout : Layout) (bricks : List Brick) (w : World) (b : ℕ) → ShowsBricks layout bricks w.nodes w.after w.up w.clocks
-    → running_at bricks b ≡ None → is_up layout w (brick_of b) ≡ false
-running_not layout bricks w b shows = by_brick (slice_get bricks b) refl
-  where
-    by_power : (power : Power) → ShowsPower layout (brick_of b) (w.nodes b) (w.after b) (w.up b) power → node_in power ≡ None → w.up b ≡ false
-    by_power (Up node) shown is = absurd (let never : Some node ≡ None = is in cc)
-    by_power (Down disk) shown is = shown.0
-
-    by_brick : (found : Option Brick) → slice_get bricks b ≡ found → option_and_then (λ (x : Brick). node_in x.power) found ≡ None
-        → is_up layout w (brick_of b) ≡ false
-    by_brick None past is = ⊎_elim
-        (λ (within : b < length bricks). absurd (slice_get_not_none bricks b within past))
-        (λ (over : length bricks ≤ b). found_none layout bricks b (omega (arith, over, shows.count)) w shows) (cases_lt b (length bricks))
-    by_brick (Some brick) at is =
-        ap (λ (x : Bool). x && w.up b) (up_within layout bricks w b (slice_get_within bricks b brick at) shows)
-        ∙ by_power brick.power (shows.each b brick at).power is
 
 -- how much a brick keeps that runs
 pub state_live : (node : Running MemDisk) → (state_of node).live ≡ live node.brick.state

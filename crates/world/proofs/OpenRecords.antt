@@ -14,7 +14,8 @@ use Rattle.world.specs.Runs.{brick_of}
 use Rattle.world.specs.Shown.{Shows, IsReachedBy, OpensAs, TellsOperation, if_open, node_has_open, open_record, record_at, running_at}
 use Rattle.world.specs.declared.histories.OperationRecord.{OperationRecord}
 use Rattle.world.specs.declared.simulations.Simulation.{Simulation}
-use Rattle.world.proofs.CalmLemmas.{running_shown, running_not, open_nowhere, kept_at, open_down, open_later, open_here_is, none_of, down_is, up_of}
+use Rattle.world.proofs.BrickListLemmas.{running_shown, running_not}
+use Rattle.world.proofs.CalmLemmas.{open_nowhere, kept_at, open_down, open_later, open_here_is, none_of, down_is, up_of}
 use Rattle.world.proofs.RunLaws.{reached_books, reached_bricks}
 
 -- an operation of which this is kept, in a world that the state shows

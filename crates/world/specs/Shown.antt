@@ -1,10 +1,11 @@
 -- What a world keeps, and the machine's world that it shows.
-use Rattle.std.specs.Prelude.{◌≡◌, ◌⊎◌, ℕ, zero, suc, ◌+◌, ◌<◌, ◌≤◌, ◌&&◌, Bool, true, false, not, nat_eq, if◌then◌else◌, List, [], ◌∷◌, length, map, Option, Some, None, is_some, Result, Ok, Err, option_and_then, unwrap_or, get_or, slice_get, vec_len, vec_capacity}
+use Rattle.std.specs.Prelude.{◌≡◌, ◌⊎◌, ℕ, zero, suc, ◌+◌, ◌<◌, ◌≤◌, ◌&&◌, Bool, true, false, not, nat_eq, if◌then◌else◌, List, [], ◌∷◌, length, map, set, Option, Some, None, is_some, Result, Ok, Err, option_and_then, unwrap_or, get_or, slice_get, vec_len, vec_capacity}
 use Rattle.std.specs.Bool.{Decides}
 use Rattle.std.specs.declared.cmp.Ordering.{Ordering}
 use Rattle.std.specs.Ordering.{nat_cmp, ordering_then}
 use Rattle.std.specs.List.{AllByRecursion}
 use Rattle.std.specs.Option.{option_map}
+use Rattle.fab_base.specs.declared.asks.Ask.{Ask}
 use Rattle.fab_base.specs.declared.faults.NoMem.{NoMem}
 use Rattle.fab_base.specs.declared.identities.BrickId.{BrickId}
 use Rattle.fab_base.specs.declared.stamps.Stamp.{Stamp}
@@ -13,7 +14,10 @@ use Rattle.fab_disk.specs.declared.mem_disk.MemDisk.{MemDisk}
 use Rattle.brick_store.specs.Calls.{opening_calls}
 use Rattle.brick_store.specs.Images.{IsListed}
 use Rattle.brick_store.specs.Openings.{opens_appendable}
+use Rattle.node.specs.declared.faults.NodeFault.{NodeFault}
+use Rattle.node.specs.declared.outs.Begun.{Begun}
 use Rattle.node.specs.Calls.{packet_calls}
+use Rattle.node.specs.Faults.{RefusesAs}
 use Rattle.node.specs.Running.{Running, state_of, shape_at}
 use Rattle.fab_base.specs.Layouts.{Layout}
 use Rattle.protocol.specs.Coordinators.{Coordinator}
@@ -161,17 +165,31 @@ abbrev pub IsOn : Power → Type 0
 IsOn (Up node) = (node.brick.halted ≡ false) × IsSound node.brick.disk
 IsOn (Down disk) = ⊥
 
--- a brick of the layout that is up
-pub record IsUp (layout : Layout) (bricks : List Brick) (brick : BrickId) : Type 0 where
+-- a brick that is up
+pub record IsUp (bricks : List Brick) (brick : BrickId) : Type 0 where
   pub within : brick.0 < length bricks
   pub on : (x : Brick) → slice_get bricks brick.0 ≡ Some x → IsOn x.power
-  pub up : (w : World) → ShowsBricks layout bricks w.nodes w.after w.up w.clocks → is_up layout w brick ≡ true
+
+-- what runs as the brick of a number, where there is one and it is up
+abbrev pub node_in : Power → Option (Running MemDisk)
+node_in (Up node) = Some node
+node_in (Down disk) = None
+
+abbrev pub running_at : List Brick → ℕ → Option (Running MemDisk)
+running_at bricks number = option_and_then (λ brick. node_in brick.power) (slice_get bricks number)
 
 -- the brick of a number was found up, or there is none that is
-abbrev pub FindsUp : Layout → List Brick → ℕ → Option BrickId → Type 0
-FindsUp layout bricks number None =
-    (w : World) → ShowsBricks layout bricks w.nodes w.after w.up w.clocks → is_up layout w (brick_of number) ≡ false
-FindsUp layout bricks number (Some brick) = (brick ≡ brick_of number) × IsUp layout bricks brick
+abbrev pub FindsUp : List Brick → ℕ → Option BrickId → Type 0
+FindsUp bricks number None = running_at bricks number ≡ None
+FindsUp bricks number (Some brick) = (brick ≡ brick_of number) × IsUp bricks brick
+
+-- a brick once it stopped: its disk is all that is left of it
+abbrev pub stopped_brick : Brick → Brick
+stopped_brick brick = record brick { power = Down (disk_in brick.power) }
+
+-- the brick of a number stopped, and no other
+abbrev pub StopsBrick : List Brick → List Brick → BrickId → Type 0
+StopsBrick old new number = (brick : Brick) → slice_get old number.0 ≡ Some brick → new ≡ set old number.0 (stopped_brick brick)
 
 -- A brick that runs took a message whole: what it answered is the machine's, and it runs on.
 pub record TookWhole (layout : Layout) (me : BrickId) (state : machine.Node) (time : ℕ) (packet : Packet) (disk : MemDisk) (fault : Option Fault)
@@ -258,6 +276,28 @@ HandledAs layout w number packet fault old new (Ok (Some outs)) = HandledWhole l
 HandledAs layout w number packet fault old new (Ok None) = HandledPart layout w number packet fault old new
 HandledAs layout w number packet fault old new (Err refused) = ShowsBricks layout new w.nodes w.after w.up w.clocks
 
+-- so it did in each world that the bricks show
+abbrev pub HandsOver : List Brick → List Brick → BrickId → Packet → Option Fault → Result (Option Sent) NoMem → Type 0
+HandsOver old new number packet fault result = (layout : Layout) (w : World) → ShowsBricks layout old w.nodes w.after w.up w.clocks
+    → HandledAs layout w number packet fault old new result
+
+-- a brick was asked, and refused it or not as the machine's does
+abbrev pub RefusesBrick : List Brick → BrickId → Ask → Result Begun NodeFault → Type 0
+RefusesBrick old number ask result = (layout : Layout) (w : World) → ShowsBricks layout old w.nodes w.after w.up w.clocks
+    → RefusesAs result (machine.refusal_of layout (w.nodes number.0) ask)
+
+-- it began the operation as the machine's does
+abbrev pub BeginsBrick : List Brick → List Brick → BrickId → Ask → Begun → Type 0
+BeginsBrick old new number ask begun = (layout : Layout) (w : World) → ShowsBricks layout old w.nodes w.after w.up w.clocks
+    → (let step = machine.invoked (coding layout) number (w.clocks number.0) (w.nodes number.0) ask in
+    (packets_from number begun.messages.items ≡ step.packets) × (begun.seq ≡ step.node.seq)
+    × ShowsBricks layout new (machine.put w.nodes number.0 step.node) w.after w.up w.clocks)
+
+-- the bricks show what they showed
+abbrev pub BricksStay : Layout → List Brick → List Brick → Type 0
+BricksStay layout old new = (w : World) → ShowsBricks layout old w.nodes w.after w.up w.clocks
+    → ShowsBricks layout new w.nodes w.after w.up w.clocks
+
 -- The history tells the machine's world: every message, and which were delivered, every mark, each operation, whose marks have its number, and
 -- the operations of the calls so far of each brick that is up.
 pub record Tells (history : History) (w : World) : Type 0 where
@@ -320,6 +360,11 @@ pub record StartsAs (layout : Layout) (w : World) (brick : BrickId) (fault : Opt
   pub tells : (history : History) → Tells history w → Tells history (run (coding layout) events w)
   pub kept : KeepsDisks (coding layout) w events (disks_of old) (disks_of new)
 
+-- so it started, or not, in each world that the bricks show
+abbrev pub StartsBrick : Layout → List Brick → List Brick → BrickId → Option Fault → Bool → Type 0
+StartsBrick layout old new number fault started = (w : World) → ShowsBricks layout old w.nodes w.after w.up w.clocks
+    → (events : List Event) × StartsAs layout w number fault old new started events
+
 -- A line came to this outcome, and is these events: the state shows the world after them, and no disk has changed but theirs.
 pub record ComesTo (layout : Layout) (w : World) (disks : List MemDisk) (state : Simulation) (line : Line) (outcome : Outcome)
     (events : List Event) : Type 0 where
@@ -380,14 +425,6 @@ pub record TakesEvent (layout : Layout) (old new : Simulation) (event : Event) (
 pub record StaysAs (layout : Layout) (old new : Simulation) : Type 0 where
   pub shows : (w : World) → Shows layout old w → Shows layout new w
   pub contents : map content_of (disks_of new.bricks.items) ≡ map content_of (disks_of old.bricks.items)
-
--- what runs as the brick of a number, where there is one and it is up
-abbrev pub node_in : Power → Option (Running MemDisk)
-node_in (Up node) = Some node
-node_in (Down disk) = None
-
-abbrev pub running_at : List Brick → ℕ → Option (Running MemDisk)
-running_at bricks number = option_and_then (λ brick. node_in brick.power) (slice_get bricks number)
 
 -- what the clock of the brick of a number reads, 0 where there is none
 abbrev pub clock_at : List Brick → ℕ → ℕ

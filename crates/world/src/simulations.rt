@@ -155,7 +155,7 @@ impl Simulation {
         brick: BrickId,
         ask: Ask,
     ) -> Result<Outcome, NoMem>
-        requires { IsUp layout.now self.old.bricks.items brick }
+        requires { IsUp self.old.bricks.items brick }
         ensures ok { IfOk result (TakesEvent layout.now self.old self.new (Invokes brick ask)) }
         ensures err { OnErr result (StaysAs layout.now self.old self.new) }
     {

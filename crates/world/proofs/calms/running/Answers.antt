@@ -1,7 +1,7 @@
 -- The brick of the number runs, or it is down.
 use Rattle.std.proofs.Common.{sym, ap, ◌∙◌, arith}
 use Rattle.world.specs.declared.bricks.Brick.{Brick}
-use Rattle.world.proofs.CalmLemmas.{running_up, running_down}
+use Rattle.world.proofs.BrickListLemmas.{running_up, running_down}
 use Rattle.world.proofs.calms.running.Goals as goal
 
 pub returns-in-Up : goal.returns-in-Up
