@@ -344,6 +344,30 @@ AreTold node told = AllByRecursion (λ one. IsOfCall node (told_call one)) told
 abbrev pub AreAnswered : machine.Node → List Answered → Type 0
 AreAnswered node answers = AllByRecursion (λ one. IsOfCall node one.seq) answers
 
+-- the step of a brick opens no call, and tells and answers of the calls so far
+pub record OpensNone (node : machine.Node) (step : machine.NodeStep) : Type 0 where
+  pub boot : step.node.boot ≡ node.boot
+  pub seq : step.node.seq ≡ node.seq
+  pub told : AreTold node step.told
+  pub answers : AreAnswered node step.answers
+
+-- the step opens the next call
+pub record OpensNext (node : machine.Node) (step : machine.NodeStep) : Type 0 where
+  pub boot : step.node.boot ≡ node.boot
+  pub seq : step.node.seq ≡ node.seq + 1
+
+-- a history tells what it told
+abbrev pub HistoryStays : History → History → Type 0
+HistoryStays old new = (w : World) → Tells old w → Tells new w
+
+-- it tells what this makes of the world that it told
+abbrev pub HistoryBecomes : (World → World) → History → History → Type 0
+HistoryBecomes next old new = (w : World) → Tells old w → Tells new (next w)
+
+-- so it does where the brick is up in that world, and this holds of its state
+abbrev pub HistoryNotes : BrickId → (machine.Node → Type 0) → (World → World) → History → History → Type 0
+HistoryNotes brick Holds next old new = (w : World) → Tells old w → w.up brick.0 ≡ true → Holds (w.nodes brick.0) → Tells new (next w)
+
 -- what events that are none or one come to
 abbrev pub came_to : Setting → World → List Event → Outcome
 came_to setting w [] = Marks

@@ -46,8 +46,9 @@ returns-in-Ok-clause-ok c = record {
       (subst (λ (bricks : List Brick). IfSome (running_at bricks c.args.brick.0) (λ one. c.boot_of-boot.result ≡ (state_of one).boot))
       c.deref.ensures.value c.boot_of-boot.ensures) shows.bricks in
       shows_begun c.args.layout.now _ w c.args.brick c.args.ask up none begun.2
-      (c.begin.ensures w step (c.expect_call.ensures.same w shows.history) (and_parts (is_brick c.args.layout.now c.args.brick) (w.up c.args.brick.0) up).1
-      begun.0 (was ∙ sym boot) begun.1 boot (invoked_next setting c.args.brick (w.clocks c.args.brick.0) node c.args.ask none)));
+      (c.begin.ensures step begun.0 (was ∙ sym boot) begun.1 w (c.expect_call.ensures.same w shows.history)
+      (and_parts (is_brick c.args.layout.now c.args.brick) (w.up c.args.brick.0) up).1
+      (record { boot = boot; seq = invoked_next setting c.args.brick (w.clocks c.args.brick.0) node c.args.ask none })));
   outcome_is = λ w shows.
       sym (ap refused_or_begun (refusal_here (coding c.args.layout.now) w c.args.brick c.args.ask (up_there c.args.layout.now _ w _ c.requires shows.bricks)
       ∙ c.in-Ok.ensures.refused c.args.layout.now w shows.bricks));

@@ -115,11 +115,10 @@ returns-in-Some-2-clause-ok c w reached shows =
     (subst (λ (b : BrickId). HandledWhole c.args.layout.now w b packet c.args.fault c.args.self.now.bricks.items c.hand_over.new.bricks.items c.in-Some-2.outs) found.0 did)
     (subst (λ (b : BrickId). Tells c.step.new.self (world_stepped (coding c.args.layout.now) v b
     (received (coding c.args.layout.now) b (w.clocks b.0) (w.nodes b.0) packet))) found.0
-    (c.step.ensures (coding c.args.layout.now) v step
+    (c.step.ensures (coding c.args.layout.now) step did.packets did.told did.answers v
     (tells_replies c.args.layout.now _ w c.args.message packet
     (c.deliver.ensures.delivered w (still c.args.self.now.history c.make_room.new.self w c.make_room.ensures.same _ c.expect.ensures.same shows.history)))
-    (and_parts (is_brick c.args.layout.now to) (w.up to.0) up).1
-    did.packets did.told did.answers opens.boot opens.seq opens.told opens.answers))
+    (and_parts (is_brick c.args.layout.now to) (w.up to.0) up).1 opens))
 
 pub returns-in-None-2-clause-ok : goal.returns-in-None-2-clause-ok
 returns-in-None-2-clause-ok c w reached shows =
