@@ -152,10 +152,6 @@ stopped_boot : (node : Node) → (stopped node).boot ≡ node.boot
 unfolding stopped
 stopped_boot node = refl
 
-stopped_seq : (node : Node) → (stopped node).seq ≡ node.seq
-unfolding stopped
-stopped_seq node = refl
-
 restarted_seq : (openings : ℕ) (node : Node) → (restarted openings node).seq ≡ 0
 unfolding restarted
 restarted_seq openings node = refl
@@ -324,12 +320,6 @@ changes_at kept number default change some within n =
     let other : n ≢ number - 1 = (λ e. apart (omega arith)) in
     set_elsewhere kept (number - 1) (change (get_or kept (number - 1) default)) n other)
 
--- the operation of a number became this
-pub changes_to : (kept : List OperationRecord) (number : ℕ) (default value : OperationRecord) (change : OperationRecord → OperationRecord) → number ≢ 0 → number - 1 < length kept
-    → change (get_or kept (number - 1) default) ≡ value → ChangesAt kept (set kept (number - 1) value) number change
-changes_to kept number default value change some within is =
-    subst (λ (x : OperationRecord). ChangesAt kept (set kept (number - 1) x) number change) is (changes_at kept number default change some within)
-
 -- the number of a call is that of its operation
 pub number_is : (history : History) (w : World) (b seq number : ℕ) → Tells history w → w.up b ≡ true → 1 ≤ seq → seq ≤ (w.nodes b).seq
     → Some number ≡ call_at (calls_in history.calls b) seq → number ≡ number_of w b seq
@@ -390,13 +380,6 @@ pub tells_one : (new : History) (w : World) (brick : BrickId) (answer : Option A
     → Tells new (world_answered w brick one) → Tells new (world_answers w brick (option_to_list answer))
 tells_one new w brick answer one is tells =
     subst (λ (a : Option Answered). Tells new (world_answers w brick (option_to_list a))) (sym is) tells
-
--- what contents versions have is told by no history
-pub tells_contents : (history : History) (w : World) (contents : ℕ → ℕ → Stamp → List ℕ) → Tells history w
-    → Tells history (record w { contents = contents })
-tells_contents history w contents tells =
-    let v : World = record w { contents = contents } in
-    tells_other history w v refl refl refl refl refl refl (λ i calls are. are) tells
 
 -- What is told and answered changes operations, contents and marks alone.
 pub record KeepsRest (w v : World) : Type 0 where
