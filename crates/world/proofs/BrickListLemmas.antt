@@ -304,7 +304,7 @@ disks_fresh layout bricks n fresh i disk at =
     by None here is = absurd (let e : None ≡ Some disk = is in cc)
     by (Some brick) here is =
         subst (λ (d : MemDisk). IsListed (shape_at layout (brick_of i)) first_listed (content_of d))
-        (let e : Some (disk_in brick.power) ≡ Some disk = is in cc) (fresh.each i brick here).listed
+        (same_Some (disk_in brick.power) disk is) (fresh.each i brick here).listed
 
 -- each brick that is shown is one of the layout
 pub nodes_of : (layout : Layout) (bricks : List Brick) (nodes after : ℕ → machine.Node) (up : ℕ → Bool) (clocks : ℕ → ℕ)

@@ -12,5 +12,5 @@ returns-in-Some-clause-seen c w tells up of =
     (with_items_is c.args.self.now.operations c.note_seen.new.operations (c.note_seen.auto.operations ∙ c.deref_mut.ensures.len))
     refl refl c.note_seen.ensures c.note_seen.auto.operations refl refl
 
-pub returns-in-None-clause-seen : goal.returns-in-None-clause-seen
-returns-in-None-clause-seen c w tells up of = absurd (has_number c.args.self.now w c.args.brick.0 c.args.seq tells up of.0 of.1 c.in-None.ensures)
+pub returns-in_default-clause-seen : goal.returns-in_default-clause-seen
+returns-in_default-clause-seen c w tells up of = absurd (has_number c.args.self.now w c.args.brick.0 c.args.seq tells up of.0 of.1 c.in_default.ensures)
