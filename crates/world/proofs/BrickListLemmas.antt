@@ -25,7 +25,7 @@ use Rattle.node.specs.Calls.{packet_calls}
 use Rattle.node.specs.Faults.{RefusesAs}
 use Rattle.node.specs.Running.{Running, state_of, shape_at, IsSameBrick}
 use Rattle.node.specs.States.{BeginsAs}
-use Rattle.protocol.specs.Worlds.{World, first_world, is_brick, is_up}
+use Rattle.protocol.specs.Worlds.{World, first_world, is_up}
 use Rattle.fab_base.specs.Layouts.{Layout}
 use Rattle.protocol.specs.Nodes as machine
 use Rattle.world.specs.Runs.{brick_of}

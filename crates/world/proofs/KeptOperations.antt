@@ -15,7 +15,7 @@ use Rattle.reg_model.specs.declared.marks.Mark.{Mark}
 use Rattle.reg_model.specs.Marks.{life_of, is_of_stripe, stripe_marks}
 use Rattle.reg_model.specs.Walk.{begin_of, positioned}
 use Rattle.protocol.specs.Settings.{Setting}
-use Rattle.protocol.specs.Worlds.{World, Operation, Event, first_world, run}
+use Rattle.protocol.specs.Worlds.{World, Operation}
 use Rattle.protocol.specs.Happenings.{is_marked, Effect, is_of, entry_with, entry_at, entries_to, was_answered, writes, is_told, base_of, is_among, with_entry, effect_of, ascending, walk_of, happenings_of}
 use Rattle.protocol_laws.proofs.MarkNumbers.{own_marked, own_walk}
 use Rattle.protocol_laws.proofs.Books.{Books, OperationBooks}

@@ -1,5 +1,5 @@
 -- When an operation begins in the machine, and what a message does there.
-use Rattle.std.proofs.Common.{◌≡◌, ◌≢◌, ℕ, ◌+◌, ◌<◌, ◌≤◌, Bool, true, false, not, cond, nat_lt, ◌&&◌, List, Option, Some, None, refl, ap, ◌∙◌, arith}
+use Rattle.std.proofs.Common.{◌≡◌, ℕ, ◌+◌, ◌<◌, ◌≤◌, Bool, true, false, not, cond, nat_lt, ◌&&◌, List, Option, Some, None, refl, ap, ◌∙◌, arith}
 use Rattle.std.specs.Prelude.{if◌then◌else◌}
 use Rattle.std.specs.Option.{is_some, option_map}
 use Rattle.std.proofs.lemmas.Bool.Decides.{nat_tests}
@@ -14,7 +14,6 @@ use Rattle.protocol.specs.Views.{kept_by}
 use Rattle.protocol.specs.Nodes.{Node, group_at, put, has_block, has_length, is_spent, most_open, refusal_in, refusal_of, began, invoked}
 use Rattle.protocol.specs.Worlds.{World, Invokes, Delivers, Sets, Ticks, Stops, Starts, Found, is_up, may_start, world_began, world_ticked, world_stopped, world_found, world_started, delivered, packet_of, happens}
 use Rattle.world.specs.Runs.{ask_of, refusal_at}
-use Rattle.world.proofs.Places.{value_here, value_elsewhere}
 use Rattle.protocol.proofs.Events.{world_handled}
 
 -- where there is no such group there is no such stripe

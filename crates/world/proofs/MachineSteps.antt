@@ -10,7 +10,7 @@ use Rattle.messages.specs.declared.replies.Reply.{Reply}
 use Rattle.fab_base.specs.Layouts.{Group}
 use Rattle.protocol.specs.Settings.{Setting}
 use Rattle.protocol.specs.Coordinators.{Coordinator, Next, Ignores, Waits, Sends, Makes, Ends, on_reply}
-use Rattle.protocol.specs.Nodes.{Node, NodeStep, group_at, known_after, fresh_stamp, seat_served, requested_at, requested_in, requested, seen_told, carried_out, replied_at, replied, received, absorbed}
+use Rattle.protocol.specs.Nodes.{Node, group_at, known_after, fresh_stamp, seat_served, requested_at, requested_in, requested, seen_told, carried_out, replied_at, replied, received, absorbed}
 use Rattle.world.specs.Shown.{AreTold, OpensNone}
 
 -- each open call knows its number, and is one of the brick's calls so far

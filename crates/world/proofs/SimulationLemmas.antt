@@ -1,25 +1,20 @@
 -- What a state shows, line by line.
-use Rattle.std.proofs.Common.{◌≡◌, ℕ, ◌<◌, ◌≤◌, Bool, true, false, ◌&&◌, cond, nat_lt, ◌++◌, Option, Some, None, refl, sym, ap, ◌∙◌, subst, arith}
-use Rattle.std.specs.Prelude.{Result, Ok, Err, IfNone, OnErr, slice_get}
+use Rattle.std.proofs.Common.{◌≡◌, ℕ, ◌<◌, ◌≤◌, Bool, true, false, cond, nat_lt, ◌++◌, Option, Some, None, refl, sym, ap, ◌∙◌, subst, arith}
+use Rattle.std.specs.Prelude.{Result, Ok, Err, IfNone, OnErr}
 use Rattle.std.proofs.lemmas.Bool.Decides.{nat_tests}
 use Rattle.fab_base.specs.declared.asks.Ask.{Ask}
 use Rattle.fab_base.specs.declared.asks.Op.{Op}
 use Rattle.fab_base.specs.declared.identities.BrickId.{BrickId}
 use Rattle.messages.specs.declared.packets.Packet.{Packet}
 use Rattle.stripe_code.specs.Codes.{coding}
-use Rattle.node.specs.Running.{Running, state_of}
 use Rattle.fab_base.specs.Layouts.{Layout}
 use Rattle.protocol.specs.Nodes.{Node, NodeStep, put, refusal_of, invoked, received, ticked, stopped}
 use Rattle.protocol.specs.Worlds.{World, Invokes, Delivers, Sets, Ticks, Stops, is_brick, is_up, packet_of, replies_with, world_began, world_stopped, happens}
-use Rattle.world.specs.Runs.{ask_of, brick_of}
-use Rattle.world.specs.Shown.{Shows, ShowsPower, ShowsBricks, Tells}
+use Rattle.world.specs.Runs.{ask_of}
+use Rattle.world.specs.Shown.{Shows, ShowsBricks, Tells}
 use Rattle.world.specs.Texts.{marks_if, is_deliverable}
 use Rattle.world.specs.declared.simulations.Outcome.TheVariants.{Marks, Idle}
 use Rattle.world.specs.declared.histories.History.{History}
-use Rattle.world.specs.declared.bricks.Brick.{Brick}
-use Rattle.world.specs.declared.bricks.Power.{Power}
-use Rattle.world.specs.declared.bricks.Power.TheVariants.{Up, Down}
-use Rattle.fab_disk.specs.declared.mem_disk.MemDisk.{MemDisk}
 use Rattle.world.specs.declared.simulations.Simulation.{Simulation}
 use Rattle.world.proofs.MachineBegins.{happens_begun, happens_handled, happens_set, happens_ticked, happens_stopped}
 use Rattle.world.proofs.HistoryLemmas.{tells_other, heard_keeps}

@@ -5,7 +5,7 @@ use Rattle.std.proofs.lemmas.List.{with_items_is}
 use Rattle.reg_model.specs.declared.marks.Mark.TheVariants.{End}
 use Rattle.protocol.specs.declared.tellings.Answered.{Answered}
 use Rattle.world.specs.Shown.{AreAnswered}
-use Rattle.world.proofs.HistoryLemmas.{number_is, has_number, tells_one, tells_ended}
+use Rattle.world.proofs.HistoryLemmas.{number_is, tells_one, tells_ended}
 use Rattle.world.proofs.histories.History.answer.Goals as goal
 
 pub returns-clause-answered : goal.returns-clause-answered
