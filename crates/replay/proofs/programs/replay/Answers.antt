@@ -30,7 +30,7 @@ returns-then-is_word-clause-run g c = λ _.
       read = c.run.ensures.read;
       linearizable = λ whole. linearizable run.input run.steps c.run.result whole run.steps_are
           (subst (λ (r : Result RunResult Halt). Prints (g.K.Sink.told c.args.sink.now) (g.K.Sink.told c.run.new.sink)
-          (output_of run.steps run.input) r) whole run.printed).0;
+          (output_of run.steps run.input) r) whole run.printed).0 (run.told whole);
       stays_strict = stays_strict run.input;
     }
 

@@ -29,7 +29,7 @@ returns-else-is_memory-clause-output g c =
 pub returns-then-is_alone-clause-output : goal.returns-then-is_alone-clause-output
 returns-then-is_alone-clause-output g c =
     PrintsHeaded-lines _ _ _ _ _ _ _ c.in-Ok.ensures.read c.in_ok-world-in-Ok.ensures.first c.in_ok-world-in-Ok.ensures.disks
-    (PrintsRest-ended _ _ _ _ _ _ (omega arith) (c.requires c.if-is_alone.true) c.finish.ensures.content)
+    (PrintsRest-ended _ _ _ _ _ _ (omega arith) (c.requires c.if-is_alone.true) c.finish.ensures.told c.finish.ensures.content)
 
 pub returns-in_err-world-in-Ok-clause-reads : goal.returns-in_err-world-in-Ok-clause-reads
 returns-in_err-world-in-Ok-clause-reads g c =
