@@ -1,35 +1,36 @@
 -- What the bricks show, after a step of one of them.
 use Rattle.std.proofs.Common.{◌≡◌, ◌≢◌, ℕ, ◌+◌, ◌^◌, ◌<◌, ◌≤◌, ◌&&◌, Bool, true, false, ⊎_elim, List, [], ◌∷◌, ◌++◌, length, set, get_or, Option, Some, None, refl, sym, ap, ◌∙◌, subst, arith, length-append}
 use Rattle.std.specs.Prelude.{slice_get, Result, Ok, Err, IfOk, OnErr}
-use Rattle.std.specs.Option.{ForSome, SomeIff}
+use Rattle.std.specs.Option.{ForSome, SomeIff, option_map}
 use Rattle.std.proofs.lemmas.Bool.Decides.{nat_tests}
 use Rattle.std.proofs.lemmas.List.{length-set}
-use Rattle.std.proofs.lemmas.Option.{slice_get_read}
+use Rattle.std.proofs.lemmas.Option.{slice_get_read, slice_get-map}
 use Rattle.std.proofs.lemmas.Result.{IfOk-weaker, on_err_weaker}
 use Rattle.fab_base.specs.declared.asks.Ask.{Ask}
 use Rattle.fab_base.specs.declared.faults.NoMem.{NoMem}
 use Rattle.fab_base.specs.declared.identities.BrickId.{BrickId}
-use Rattle.fab_disk.specs.MemDisk.{IsSound}
+use Rattle.fab_disk.specs.MemDisk.{IsSound, content_of}
 use Rattle.fab_disk.specs.declared.mem_disk.MemDisk.{MemDisk}
 use Rattle.messages.specs.declared.packets.Packet.{Packet}
 use Rattle.messages.specs.declared.packets.Message.{Message}
 use Rattle.coord_phase.specs.Messages.{packets_from}
 use Rattle.brick_store.specs.Bricks.{Brick as Store}
+use Rattle.brick_store.specs.Images.{IsListed}
 use Rattle.node.specs.declared.outs.Begun.{Begun}
 use Rattle.node.specs.Outcomes.{Outcome}
 use Rattle.node.specs.declared.faults.NodeFault.{NodeFault}
 use Rattle.stripe_code.specs.Codes.{coding}
 use Rattle.node.specs.Calls.{packet_calls}
 use Rattle.node.specs.Faults.{RefusesAs}
-use Rattle.node.specs.Running.{Running, state_of, IsSameBrick}
+use Rattle.node.specs.Running.{Running, state_of, shape_at, IsSameBrick}
 use Rattle.node.specs.States.{BeginsAs}
 use Rattle.protocol.specs.Worlds.{World, first_world, is_brick, is_up}
 use Rattle.fab_base.specs.Layouts.{Layout}
 use Rattle.protocol.specs.Nodes as machine
 use Rattle.world.specs.Runs.{brick_of}
-use Rattle.world.specs.Disks.{IsUnwritten, ListsPacket}
+use Rattle.world.specs.Disks.{AreFreshDisks, IsUnwritten, ListsPacket, first_listed}
 use Rattle.world.specs.Faults.{IsReached, IsLeft, plan_of}
-use Rattle.world.specs.Shown.{IsRunning, Rests, ShowsPower, ShowsBrick, ShowsBricks, Takes, HandledAs, IsNodeOf, IsOn, IsUp, FindsUp, AreNodesOf, disk_in, disks_of}
+use Rattle.world.specs.Shown.{IsRunning, Rests, ShowsPower, ShowsBrick, ShowsBricks, IsFreshBrick, Takes, HandledAs, IsNodeOf, IsOn, IsUp, FindsUp, AreNodesOf, disk_in, disks_of}
 use Rattle.lines.specs.declared.forms.Fault.{Fault}
 use Rattle.world.proofs.DiskLemmas.{disk_at, disk_set, unwritten_but}
 use Rattle.world.specs.declared.bricks.Brick.{Brick}
@@ -316,7 +317,7 @@ next_is seq (Some next) gives left = ap (λ n. Some n) gives.1
 -- bricks of the first world
 pub record AreFresh (layout : Layout) (bricks : List Brick) (n : ℕ) : Type 0 where
   pub count : length bricks ≡ n
-  pub each : (i : ℕ) (brick : Brick) → slice_get bricks i ≡ Some brick → ShowsBrick layout i brick (machine.first_node layout) (machine.first_node layout) true 0
+  pub each : (i : ℕ) (brick : Brick) → slice_get bricks i ≡ Some brick → IsFreshBrick layout i brick
 
 -- no brick yet
 pub fresh_none : (layout : Layout) → AreFresh layout [] 0
@@ -324,22 +325,33 @@ fresh_none layout = record { count = refl; each = λ i brick is. let e : None �
 
 -- one more
 pub fresh_more : (layout : Layout) (bricks : List Brick) (n : ℕ) (brick : Brick) → AreFresh layout bricks n
-    → ShowsBrick layout n brick (machine.first_node layout) (machine.first_node layout) true 0 → AreFresh layout (bricks ++ brick ∷ []) (n + 1)
+    → IsFreshBrick layout n brick → AreFresh layout (bricks ++ brick ∷ []) (n + 1)
 fresh_more layout bricks n brick fresh one = record {
   count = length-append bricks _ ∙ ap (λ k. k + 1) fresh.count;
   each = λ i x is.
       ⊎_elim
       (λ (old : slice_get bricks i ≡ Some x). fresh.each i x old)
       (λ (new : (i ≡ length bricks) × (brick ≡ x)).
-      subst (λ (y : Brick). ShowsBrick layout i y (machine.first_node layout) (machine.first_node layout) true 0) new.1
-      (subst (λ (k : ℕ). ShowsBrick layout k brick (machine.first_node layout) (machine.first_node layout) true 0) (sym (new.0 ∙ fresh.count)) one))
+      subst (IsFreshBrick layout i) new.1 (subst (λ (k : ℕ). IsFreshBrick layout k brick) (sym (new.0 ∙ fresh.count)) one))
       (grown bricks brick i x is);
 }
 
 -- fresh bricks are those of the first world
 pub shows_fresh : (layout : Layout) (bricks : List Brick) (n : ℕ) → n ≡ layout.bricks → AreFresh layout bricks n
     → ShowsBricks layout bricks (first_world layout).nodes (first_world layout).after (first_world layout).up (first_world layout).clocks
-shows_fresh layout bricks n all fresh = record { count = fresh.count ∙ all; each = fresh.each }
+shows_fresh layout bricks n all fresh = record { count = fresh.count ∙ all; each = λ i brick at. (fresh.each i brick at).shows }
+
+-- and the lists of their disks are as long as a first opening leaves them
+pub disks_fresh : (layout : Layout) (bricks : List Brick) (n : ℕ) → AreFresh layout bricks n → AreFreshDisks layout (disks_of bricks)
+disks_fresh layout bricks n fresh i disk at =
+    by (slice_get bricks i) refl (sym (slice_get-map (λ (brick : Brick). disk_in brick.power) bricks i) ∙ at)
+  where
+    by : (found : Option Brick) → slice_get bricks i ≡ found → option_map (λ (brick : Brick). disk_in brick.power) found ≡ Some disk
+        → IsListed (shape_at layout (brick_of i)) first_listed (content_of disk)
+    by None here is = absurd (let e : None ≡ Some disk = is in cc)
+    by (Some brick) here is =
+        subst (λ (d : MemDisk). IsListed (shape_at layout (brick_of i)) first_listed (content_of d))
+        (let e : Some (disk_in brick.power) ≡ Some disk = is in cc) (fresh.each i brick here).listed
 
 -- each brick that is shown is one of the layout
 pub nodes_of : (layout : Layout) (bricks : List Brick) (nodes after : ℕ → machine.Node) (up : ℕ → Bool) (clocks : ℕ → ℕ)

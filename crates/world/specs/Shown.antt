@@ -10,6 +10,7 @@ use Rattle.fab_base.specs.declared.stamps.Stamp.{Stamp}
 use Rattle.fab_disk.specs.MemDisk.{IsSound, content_of}
 use Rattle.fab_disk.specs.declared.mem_disk.MemDisk.{MemDisk}
 use Rattle.brick_store.specs.Calls.{opening_calls}
+use Rattle.brick_store.specs.Images.{IsListed}
 use Rattle.brick_store.specs.Openings.{opens_appendable}
 use Rattle.node.specs.Calls.{packet_calls}
 use Rattle.node.specs.Running.{Running, state_of, shape_at}
@@ -27,7 +28,7 @@ use Rattle.protocol_laws.specs.Marked.{OwnMarks}
 use Rattle.world.specs.Runs.{Step, brick_of}
 use Rattle.world.specs.CallNumbers.{AreCalls, calls_in}
 use Rattle.world.specs.Faults.{HoldsOne, IsEventsOf, IsStartOf, IsLeft, IsLeftOpening, IsReached, IsReachedOpening, Finds, plan_of, found_of}
-use Rattle.world.specs.Disks.{ShowsDisk, IsUnwritten, AreUnwritten, KeepsDisks, LeavesContents, ListsPacket, ListsOpening, OfDisk}
+use Rattle.world.specs.Disks.{ShowsDisk, first_listed, IsUnwritten, AreUnwritten, KeepsDisks, LeavesContents, ListsPacket, ListsOpening, OfDisk}
 use Rattle.lines.specs.declared.forms.Fault.{Fault}
 use Rattle.lines.specs.declared.forms.Line.{Line}
 use Rattle.lines.specs.declared.forms.Line.TheVariants.{Calm}
@@ -137,6 +138,11 @@ pub record ShowsBrick (layout : Layout) (i : ℕ) (brick : Brick) (node after : 
 pub record ShowsBricks (layout : Layout) (bricks : List Brick) (nodes after : ℕ → machine.Node) (up : ℕ → Bool) (clocks : ℕ → ℕ) : Type 0 where
   pub count : length bricks ≡ layout.bricks
   pub each : (i : ℕ) (brick : Brick) → slice_get bricks i ≡ Some brick → ShowsBrick layout i brick (nodes i) (after i) (up i) (clocks i)
+
+-- A brick as the first world has it: up, its clock at 0, and the list of its disk as long as the first opening left it.
+pub record IsFreshBrick (layout : Layout) (i : ℕ) (brick : Brick) : Type 0 where
+  pub shows : ShowsBrick layout i brick (machine.first_node layout) (machine.first_node layout) true 0
+  pub listed : IsListed (shape_at layout (brick_of i)) first_listed (content_of (disk_in brick.power))
 
 -- the power of a brick shows one of the machine's
 pub record IsNodeOf (layout : Layout) (i : ℕ) (power : Power) : Type 0 where

@@ -2,7 +2,7 @@
 
 ghost use Rattle.std.specs.Prelude.{◌≡◌, ◌≢◌, ◌+◌, ◌^◌, ◌<◌, ◌≤◌, true, false, List, Some, Err, IfOk, IfSome, OnErr, vec_len, length, map};
 ghost use Rattle.protocol.specs.Nodes as machine;
-ghost use Rattle.protocol.specs.Nodes.{first_node, refusal_of, invoked, ticked, stopped};
+ghost use Rattle.protocol.specs.Nodes.{refusal_of, invoked, ticked, stopped};
 ghost use Rattle.protocol.specs.Nodes.{put as changed};
 ghost use Rattle.protocol.specs.Worlds.{World, Event, first_world};
 ghost use Rattle.stripe_code.specs.Codes.{coding};
@@ -12,8 +12,8 @@ ghost use Rattle.brick_store.specs.Images.{IsListed};
 ghost use Rattle.node.specs.Faults.{RefusesAs};
 ghost use Rattle.node.specs.Running.{shape_at};
 ghost use Rattle.world.specs.Faults.{LeftBy, plan_of};
-ghost use Rattle.world.specs.Disks.{ShowsDisk, KeepsOthers};
-ghost use Rattle.world.specs.Shown.{Rests, IsRunning, ShowsBrick, ShowsBricks, StartsAs, Takes, HandledAs, TurnsOn, FindsUp, IsUp, AreNodesOf, disk_in, disks_of, unopened};
+ghost use Rattle.world.specs.Disks.{ShowsDisk, AreFreshDisks, KeepsOthers};
+ghost use Rattle.world.specs.Shown.{Rests, IsRunning, IsFreshBrick, ShowsBricks, StartsAs, Takes, HandledAs, TurnsOn, FindsUp, IsUp, AreNodesOf, disk_in, disks_of, unopened};
 
 use brick_store::OpenFault;
 use fab_base::{Ask, BrickId, IoFault, NoMem};
@@ -180,7 +180,8 @@ fn open_over(
 
 /// A disk with a store that was made for a brick, and not opened yet.
 fn fresh_disk(alloc: Global, layout: &Layout, me: BrickId) -> Result<MemDisk, NoMem>
-    ensures { IfOk result (λ disk. ShowsDisk layout.now me (unopened layout.now) disk × IsSound disk) }
+    ensures kept { IfOk result (λ disk. ShowsDisk layout.now me (unopened layout.now) disk × IsSound disk) }
+    ensures listed { IfOk result (λ disk. IsListed (shape_at layout.now me) 0 (content_of disk)) }
 {
     let mut disk = MemDisk::new(alloc, Vec::new(alloc));
     match brick_store::format(alloc, &mut disk, me, layout.block(), layout.records()) {
@@ -192,7 +193,7 @@ fn fresh_disk(alloc: Global, layout: &Layout, me: BrickId) -> Result<MemDisk, No
 
 /// A brick that is up, its store fresh and its clock at 0.
 fn fresh_brick(alloc: Global, layout: &Layout, me: BrickId) -> Result<Brick, NoMem>
-    ensures { IfOk result (λ brick. ShowsBrick layout.now me.0 brick (first_node layout.now) (first_node layout.now) true 0) }
+    ensures { IfOk result (IsFreshBrick layout.now me.0) }
 {
     let disk = fresh_disk(alloc, layout, me)?;
     let (power, started) = start_over(alloc, layout, me, disk, None);
@@ -211,8 +212,9 @@ fn with_clock(power: Power, started: Result<bool, NoMem>) -> Result<Brick, NoMem
 
 /// All bricks of a layout, their stores fresh, their clocks at 0.
 pub fn fresh_bricks(alloc: Global, layout: &Layout) -> Result<Vec<Brick>, NoMem>
-    ensures { IfOk result (λ bricks. ShowsBricks layout.now bricks.items (first_world layout.now).nodes (first_world layout.now).after (first_world layout.now).up
-        (first_world layout.now).clocks) }
+    ensures shows { IfOk result (λ bricks. ShowsBricks layout.now bricks.items (first_world layout.now).nodes (first_world layout.now).after
+        (first_world layout.now).up (first_world layout.now).clocks) }
+    ensures listed { IfOk result (λ bricks. AreFreshDisks layout.now (disks_of bricks.items)) }
 {
     let mut bricks = Vec::new(alloc);
     for number in 0..layout.bricks() {

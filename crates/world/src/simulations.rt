@@ -80,11 +80,13 @@ impl Simulation {
     ghost use Rattle.lines.specs.declared.forms.Line.TheVariants.{Deliver, Start, Calm};
     ghost use Rattle.stripe_code.specs.Codes.{coding};
     ghost use Rattle.world.specs.Runs.{brick_of, ask_of, op_of};
+    ghost use Rattle.world.specs.Disks.{AreFreshDisks};
     ghost use Rattle.world.specs.Shown.{AreNodesOf, Shows, HasRun, HasBegun, IsUp, IsReachedBy, IsReachable, RunsLine, RefusesLine, TakesEvent, StaysAs, disks_of};
 
     /// All bricks up, their stores fresh, their clocks at 0, and nothing sent.
     pub fn new(alloc: Global, layout: &Layout) -> Result<Simulation, NoMem>
         ensures shows { IfOk result (λ state. Shows layout.now state (first_world layout.now)) }
+        ensures listed { IfOk result (λ state. AreFreshDisks layout.now (disks_of state.bricks.items)) }
     {
         Ok(Simulation {
             bricks: fresh_bricks(alloc, layout)?,
