@@ -9,13 +9,13 @@ use Rattle.fab_base.specs.Layouts.{Layout}
 use Rattle.stripe_code.specs.Codes.{coding}
 use Rattle.protocol.specs.Worlds.{World, first_world}
 use Rattle.world.specs.Runs.{Run, world_of}
-use Rattle.world.specs.Disks.{ShowsDisks}
 use Rattle.replay.specs.declared.endings.RunResult.{RunResult}
 use Rattle.replay.specs.declared.endings.RunResult.TheVariants as verdict
 use Rattle.replay.specs.declared.endings.Halt.{Halt}
 use Rattle.replay.specs.Inputs.{Input, Parted, TooLong, Endless, most_layout_bytes, input_of, IsInput}
 use Rattle.printed.specs.Outputs.{left_by, steps_text}
 use Rattle.printed.specs.Spellings.{AllToldRead}
+use Rattle.printed.specs.LineSteps.{StartsFresh}
 use Rattle.replay.specs.Outputs.{onto, output_behind, output_of, bad_layout}
 use Rattle.replay.specs.Turns.{Prints, AreLinesOf, PrintsRest, PrintsHeaded, PrintsInput}
 use Rattle.replay.proofs.LayoutTexts.{within}
@@ -68,7 +68,7 @@ PrintsHeaded-refused head left old new r why is p =
 -- the layout was read, and the lines behind it were run
 pub PrintsHeaded-lines : (head : List ℕ) (layout : Layout) (run : Run) (left old new : Option (List ℕ)) (r : Result RunResult Halt)
     → layout_of head ≡ Ok layout
-    → run ≡ record { layout = layout; steps = []; disks = run.disks } → ShowsDisks run → PrintsRest run 0 left old new r
+    → run ≡ record { layout = layout; steps = []; disks = run.disks } → StartsFresh run → PrintsRest run 0 left old new r
     → PrintsHeaded head left old new r
 PrintsHeaded-lines head layout run left old new r is first fresh p =
     let text = steps_text (coding layout) (first_world layout) p.steps in
