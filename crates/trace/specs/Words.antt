@@ -1,6 +1,5 @@
 -- What the program `trace` promises of its words.
-use Rattle.std.specs.Prelude.{◌≡◌, ◌≢◌, ℕ, ◌⊎◌, Bool, List, ◌++◌, codes, Option, Result, Ok, IfOk}
-use Rattle.std.specs.Io.KnownBytes.{Keeps}
+use Rattle.std.specs.Prelude.{◌≡◌, ◌≢◌, ℕ, ◌⊎◌, Bool, List, ◌++◌, codes, Option, Result, IfOk}
 use Rattle.fab_base.specs.Texts.{newline}
 use Rattle.fab_io.specs.Ends.{Rose, Kept}
 use Rattle.replay.specs.declared.endings.RunResult.{RunResult}
@@ -35,8 +34,8 @@ pub record PictureEnds (source old new : Option (List ℕ)) (status : ℕ) : Typ
   pub ending : Result RunResult Halt
   pub status_is : status ≡ status_of ending
   pub called : EndsAsCalled source ending
-  pub undrawn : IfOk ending (λ verdict. verdict ≢ Whole → Keeps old new)
-  pub ran : ending ≢ Ok Refuted
+  pub undrawn : IfOk ending (λ verdict. verdict ≢ Whole → new ≡ old)
+  pub ran : IfOk ending (λ verdict. verdict ≢ Refuted)
 
 -- What calls do to two sinks: one of them fails only if the count of one rose, and of two sound ones none fails.
 pub record AreKept (first first_after second second_after : ℕ) (sound sound_after fine fine_after failed : Type 0) : Type 0 where

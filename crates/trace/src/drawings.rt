@@ -1,7 +1,6 @@
 //! A run as a picture.
 
-ghost use Rattle.std.specs.Prelude.{◌≡◌, ◌≢◌, List, ℕ, Option, Ok, IfOk};
-ghost use Rattle.std.specs.Io.KnownBytes.{Keeps};
+ghost use Rattle.std.specs.Prelude.{◌≡◌, ◌≢◌, List, ℕ, Option, IfOk};
 ghost use Rattle.std.specs.Io.KnownBytes.{prepend_known};
 ghost use Rattle.fab_io.specs.Ends.{Kept};
 ghost use Rattle.trace.specs.Calls.{CallsFor, EndsAsCalled, IsLeftTo};
@@ -121,7 +120,7 @@ fn say<K: Sink>(sink: &mut K, text: &Text) -> Result<(), Halt>
 
 /// Writes the picture of a run of all lines. Of another one there is none.
 fn show<K: Sink>(sink: &mut K, outcome: &Outcome) -> Result<(), Halt>
-    ensures undrawn { outcome.now.verdict ≢ RunResult.Whole → Keeps (K.told sink.old) (K.told sink.new) }
+    ensures undrawn { outcome.now.verdict ≢ RunResult.Whole → K.told sink.new ≡ K.told sink.old }
     ensures kept { Kept (K.faults sink.old) (K.faults sink.new) (K.sound sink.old) (K.sound sink.new)
         (result ≡ Err Halt.Sink) }
     ensures cause { result ≢ Err Halt.Source }
@@ -140,8 +139,8 @@ pub(crate) fn draw<S: Source, K: Sink, E: Sink>(
     errors: &mut E,
 ) -> Result<RunResult, Halt>
     ensures called { EndsAsCalled (S.told source.old) result }
-    ensures undrawn { IfOk result (λ verdict. verdict ≢ RunResult.Whole → Keeps (K.told sink.old) (K.told sink.new)) }
-    ensures ran { result ≢ Ok RunResult.Refuted }
+    ensures undrawn { IfOk result (λ verdict. verdict ≢ RunResult.Whole → K.told sink.new ≡ K.told sink.old) }
+    ensures ran { IfOk result (λ verdict. verdict ≢ RunResult.Refuted) }
     ensures source { Kept (S.faults source.old) (S.faults source.new) (S.sound source.old) (S.sound source.new)
         (result ≡ Err Halt.Source) }
     ensures sinks { AreKept (K.faults sink.old) (K.faults sink.new) (E.faults errors.old) (E.faults errors.new)
