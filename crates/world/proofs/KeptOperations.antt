@@ -263,7 +263,3 @@ begins_from_books setting w books = record {
       let found = life_filtered g s w.marks n (ap (is_of_stripe g s) mine.life_is ∙ own) w.marks mine.life mine.life_is own in
       ap (λ (m : ℕ). begin_of (life_of (stripe_marks g s w.marks) m)) (books.own.each n o is) ∙ ap begin_of found.1 ∙ found.2.begin ∙ mine.begin);
 }
-
--- so in each world that a run reaches
-pub begins_in_run : (setting : Setting) (events : List Event) → BeginsAgree (run setting events (first_world setting.layout))
-begins_in_run setting events = begins_from_books setting (run setting events (first_world setting.layout)) (books setting events)

@@ -106,25 +106,6 @@ invoked_next setting brick now node ask none =
     began_next setting brick now node ask (group_at setting.layout node ask.group.0)
     (refused_alike setting.layout node ask (node.learnt ask.group.0).view.members (group_of setting.layout ask.group.0) ∙ none)
 
--- it is open, and the other calls are as they were
-abbrev pub OpensOne : Node → Node → Type 0
-OpensOne node after = ((k : ℕ) → k ≢ after.seq → after.calls k ≡ node.calls k) × (is_some (after.calls after.seq) ≡ true)
-
-began_opens : (setting : Setting) (brick : BrickId) (now : ℕ) (node : Node) (ask : Ask) (found : Option Group)
-    → refusal_in setting.layout.block node ask found ≡ None → OpensOne node (began setting brick now node ask found).node
-began_opens setting brick now node ask None none = absurd (let never : Some Refusal.NoStripe ≡ None = none in cc)
-began_opens setting brick now node ask (Some group) none = (
-  λ k other. value_elsewhere node.calls (node.seq + 1) k _ other,
-  ap is_some (value_here node.calls (node.seq + 1) (node.seq + 1) _ refl),
-)
-
-pub invoked_opens : (setting : Setting) (brick : BrickId) (now : ℕ) (node : Node) (ask : Ask) → refusal_of setting.layout node ask ≡ None
-    → OpensOne node (invoked setting brick now node ask).node
-unfolding invoked refusal_of
-invoked_opens setting brick now node ask none =
-    began_opens setting brick now node ask (group_at setting.layout node ask.group.0)
-    (refused_alike setting.layout node ask (node.learnt ask.group.0).view.members (group_of setting.layout ask.group.0) ∙ none)
-
 -- it is a call of the same boot
 invoked_boot_in : (setting : Setting) (brick : BrickId) (now : ℕ) (node : Node) (ask : Ask) (found : Option Group)
     → (began setting brick now node ask found).node.boot ≡ node.boot

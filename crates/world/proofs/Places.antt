@@ -78,12 +78,6 @@ set_elsewhere (z ∷ xs) zero x (suc n) other = refl
 set_elsewhere (z ∷ xs) (suc k) x zero other = refl
 set_elsewhere (z ∷ xs) (suc k) x (suc n) other = set_elsewhere xs k x n (λ e. other (ap suc e))
 
--- what was put at the end of a list, where there was room for it
-pub with_room : {A E : Type 0} (old new more : List A) (r : Result (Unit {0}) E) → new ≡ cond (is_ok r) (old ++ more) old → IsOk r
-    → new ≡ old ++ more
-with_room old new more (Ok done) is room = is
-with_room old new more (Err refused) is room = absurd (let never : false ≡ true = room in cc)
-
 -- what stands before a list that is added stays
 pub append_get : {A : Type 0} (xs ys : List A) (k : ℕ) (x : A) → k < length xs → slice_get (xs ++ ys) k ≡ Some x → slice_get xs k ≡ Some x
 append_get xs ys k x within at =

@@ -40,23 +40,6 @@ pub ask_is : (ask : Ask) (g s : ℕ) (op : Op) → ask.group.0 ≡ g → ask.str
 ask_is ask g s op group stripe same =
     ap (λ x. ask_of x ask.stripe.0 ask.op) group ∙ ap (λ x. ask_of g x ask.op) stripe ∙ ap (λ x. ask_of g s x) same
 
--- a brick of the layout that runs, and what it keeps of stripes
-pub up_shown : (layout : Layout) (state : Simulation) (w : World) (b : ℕ) (brick : Brick) (node : Running MemDisk) → Shows layout state w
-    → slice_get state.bricks.items b ≡ Some brick → brick.power ≡ Up node → b < layout.bricks
-    → (is_up layout w (brick_of b) ≡ true) × (state_of node ≡ w.nodes b)
-up_shown layout state w b brick node shows at on within =
-    let is = subst (λ (power : Power). ShowsPower layout (brick_of b) (w.nodes b) (w.after b) (w.up b) power) on (shows.bricks.each b brick at).power in (
-      ap (λ (x : Bool). x && w.up b) (let e : nat_lt b layout.bricks ≡ true = grind (arith, nat_tests) in e) ∙ is.0,
-      is.1.state_is,
-    )
-
--- one that is down
-pub down_shown : (layout : Layout) (state : Simulation) (w : World) (b : ℕ) (brick : Brick) (disk : MemDisk) → Shows layout state w
-    → slice_get state.bricks.items b ≡ Some brick → brick.power ≡ Down disk → b < layout.bricks → is_up layout w (brick_of b) ≡ false
-down_shown layout state w b brick disk shows at off within =
-    let is = subst (λ (power : Power). ShowsPower layout (brick_of b) (w.nodes b) (w.after b) (w.up b) power) off (shows.bricks.each b brick at).power in
-    ap (λ (x : Bool). x && w.up b) (let e : nat_lt b layout.bricks ≡ true = grind (arith, nat_tests) in e) ∙ is.0
-
 -- an operation that began
 pub shows_begun : (layout : Layout) (state : Simulation) (w : World) (brick : BrickId) (ask : Ask) → is_up layout w brick ≡ true
     → refusal_of layout (w.nodes brick.0) ask ≡ None
