@@ -6,6 +6,7 @@ mod Starting
 mod Turning
 mod Completing
 mod Knowing
+mod Returning
 mod Refusing
 mod SameBricks
 mod FromBrick
