@@ -11,5 +11,6 @@ mod Refusing
 mod SameBricks
 mod FromBrick
 mod MayHosting
+mod Nesting
 mod InOrder
 mod Printing

@@ -118,7 +118,7 @@ where_top None = tt
 where_top (Some h) = tt
 
 -- a call that opened nothing left what is held
-refused_told : {S D L N C : Type 0} (before after : HostSeen S D L N C) (call : Asked) (ending : Ending) → IsRefused before after call ending
+pub refused_told : {S D L N C : Type 0} (before after : HostSeen S D L N C) (call : Asked) (ending : Ending) → IsRefused before after call ending
     → Told before.holds after.holds (λ h now. now ≡ h)
 refused_told before after call (Formatted me) r = absurd r
 refused_told before after call (Ended turns malformed) r = absurd r
