@@ -52,9 +52,13 @@ module _ {S D L N C : Type 0} (v : Views D L C) (layout : Layout) (me : BrickId)
   refused_hosts opened.Nothing ending r back =
       inl (subst (λ (h : HostSeen S D L N C). IsRefused before h (calls.Disk name false) ending) (sym back) r, refl, refl)
   refused_hosts (opened.Disk disk) ending r back =
-      inr (r.disk, disk, borrowed before r.between now after (calls.Disk name false) (λ h. h.disks name) (λ h. with_disk h name) r.disk disk
-      (λ began ended. HostsOver v layout me next r.disk disk began ended bricks bricks out out ending) r.lends
-      (over_refused r.disk disk r.between ending r.refused) back)
+      inr (
+        r.disk,
+        disk,
+        borrowed before r.between now after (calls.Disk name false) (λ h. h.disks name) (λ h. with_disk h name) r.disk disk
+            (λ began ended. HostsOver v layout me next r.disk disk began ended bricks bricks out out ending) r.lends
+            (over_refused r.disk disk r.between ending r.refused) back,
+      )
   refused_hosts (opened.Linked disk link) ending r back = absurd r
   refused_hosts (opened.Timed disk link clock) ending r back = absurd r
 
@@ -66,17 +70,25 @@ module _ {S D L N C : Type 0} (v : Views D L C) (layout : Layout) (me : BrickId)
       → GivesBack name port (opened.Linked back brick_after.link) ended after
       → HostsByDisk v layout me name next before after bricks bricks_after out said ending
   next_hosts node link brick brick_after bricks_after ended back said ending opens begins does left given =
-      inr (opens.disk, back, borrowed before opens.between given.0 after (calls.Disk name false) (λ h. h.disks name) (λ h. with_disk h name) opens.disk back
-      (λ began ended. HostsOver v layout me next opens.disk back began ended bricks bricks_after out said ending) opens.lends (inr (record {
-        node = node;
-        node_after = brick_after.node;
-        started = opens.started;
-        hosts = inr (link, brick_after.link, borrowed opens.between now ended given.0 (calls.Link port) (λ h. h.links port) (λ h. with_link h port) link
-            brick_after.link (λ began ended. (one one_after : Hosted D L) × Begins one node link × (one_after.node ≡ brick_after.node)
-            × (one_after.link ≡ brick_after.link) × next (bricks ++ (one ∷ [])) (bricks_after ++ (one_after ∷ [])) began ended)
-            opens.links (brick, brick_after, begins, refl, refl, does) given.1);
-        left = left;
-      })) given.2)
+      inr (
+        opens.disk,
+        back,
+        borrowed before opens.between given.0 after (calls.Disk name false) (λ h. h.disks name) (λ h. with_disk h name) opens.disk back
+            (λ began ended. HostsOver v layout me next opens.disk back began ended bricks bricks_after out said ending) opens.lends (inr (record {
+              node = node;
+              node_after = brick_after.node;
+              started = opens.started;
+              hosts = inr (
+                link,
+                brick_after.link,
+                borrowed opens.between now ended given.0 (calls.Link port) (λ h. h.links port) (λ h. with_link h port) link
+                    brick_after.link (λ began ended. (one one_after : Hosted D L) × Begins one node link × (one_after.node ≡ brick_after.node)
+                    × (one_after.link ≡ brick_after.link) × next (bricks ++ (one ∷ [])) (bricks_after ++ (one_after ∷ [])) began ended)
+                    opens.links (brick, brick_after, begins, refl, refl, does) given.1,
+              );
+              left = left;
+            })) given.2,
+      )
 
 -- ---- what the host knows still
 

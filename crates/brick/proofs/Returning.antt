@@ -73,8 +73,12 @@ module _ {S D L N C : Type 0} (v : Views D L C) (layout : Layout) (me : BrickId)
   refused_serves opened.Nothing ending r back =
       inl (subst (λ (h : HostSeen S D L N C). IsRefused before h (calls.Disk name false) ending) (sym back) r, refl)
   refused_serves (opened.Disk disk) ending r back =
-      inr (r.disk, disk, borrowed before r.between now after (calls.Disk name false) (λ h. h.disks name) (λ h. with_disk h name) r.disk disk
-      (Over r.disk disk out ending) r.lends (over_refused r.disk disk r.between ending r.refused) back)
+      inr (
+        r.disk,
+        disk,
+        borrowed before r.between now after (calls.Disk name false) (λ h. h.disks name) (λ h. with_disk h name) r.disk disk
+            (Over r.disk disk out ending) r.lends (over_refused r.disk disk r.between ending r.refused) back,
+      )
   refused_serves (opened.Linked disk link) ending r back = absurd r
   refused_serves (opened.Timed disk link clock) ending r back = absurd r
 
@@ -84,23 +88,35 @@ module _ {S D L N C : Type 0} (v : Views D L C) (layout : Layout) (me : BrickId)
     linked : (ended : HostSeen S D L N C) → ServesByClock v turns mid ended node node_after link link_after out said ending
         → GivesBack name port (opened.Linked back link_after) ended after → ServesByDisk v layout me turns before after name out said ending
     linked ended serves given =
-        inr (opens.disk, back, borrowed before opens.between given.0 after (calls.Disk name false) (λ h. h.disks name) (λ h. with_disk h name) opens.disk back
-        (Over opens.disk back said ending) opens.lends (inr (record {
-          node = node;
-          node_after = node_after;
-          started = opens.started;
-          serves = inr (link, link_after, borrowed opens.between mid ended given.0 (calls.Link port) (λ h. h.links port) (λ h. with_link h port) link link_after
-              (λ began ended. ServesByClock v turns began ended node node_after link link_after out said ending) opens.links serves given.1);
-          left = left;
-        })) given.2)
+        inr (
+          opens.disk,
+          back,
+          borrowed before opens.between given.0 after (calls.Disk name false) (λ h. h.disks name) (λ h. with_disk h name) opens.disk back
+              (Over opens.disk back said ending) opens.lends (inr (record {
+                node = node;
+                node_after = node_after;
+                started = opens.started;
+                serves = inr (
+                  link,
+                  link_after,
+                  borrowed opens.between mid ended given.0 (calls.Link port) (λ h. h.links port) (λ h. with_link h port) link link_after
+                      (λ began ended. ServesByClock v turns began ended node node_after link link_after out said ending) opens.links serves given.1,
+                );
+                left = left;
+              })) given.2,
+        )
 
     -- turns were served by the clock, and then it was given back too
     pub turns_serve : (clock clock_after : C) → IsLent mid now calls.Clock (λ h. h.clock) with_clock clock
         → ServesTurns v turns node node_after link link_after clock clock_after out said ending
         → GivesBack name port (opened.Timed back link_after clock_after) now after → ServesByDisk v layout me turns before after name out said ending
     turns_serve clock clock_after lends serves given =
-        linked given.0 (inr (clock, clock_after, borrowed mid now now given.0 calls.Clock (λ h. h.clock) with_clock clock clock_after
-        (λ began ended. (ended ≡ began) × ServesTurns v turns node node_after link link_after clock clock_after out said ending) lends (refl, serves) given.1))
+        linked given.0 (inr (
+          clock,
+          clock_after,
+          borrowed mid now now given.0 calls.Clock (λ h. h.clock) with_clock clock clock_after
+              (λ began ended. (ended ≡ began) × ServesTurns v turns node node_after link link_after clock clock_after out said ending) lends (refl, serves) given.1,
+        ))
         given.2
 
   -- the clock was refused

@@ -95,15 +95,16 @@ fn host_bricks<H: Host, K: Sink>(
     };
     let (node, link) = match open_brick(alloc, host, name.as_str(), layout, me) {
         Ok(opened) => opened,
-        Err((equipment, ending)) => {
-            give_back(host, name.as_str(), port, equipment);
+        Err((opened, ending)) => {
+            give_back(host, name.as_str(), port, opened);
             return (bricks, ending);
         }
     };
     let bricks = with_brick(bricks, node, link);
     let (bricks, ending) = host_bricks(alloc, host, out, prefix, layout, task, id + 1, bricks);
     let (bricks, node, link) = without_last(bricks);
-    give_back(host, name.as_str(), port, Equipment::Linked(node.into_disk(), link));
+    let equipment = Equipment::Linked(node.into_disk(), link);
+    give_back(host, name.as_str(), port, equipment);
     (bricks, ending)
 }
 
@@ -127,9 +128,7 @@ fn with_brick<D: Disk, L: Link>(
 }
 
 /// Takes the last of these bricks away. There is one.
-fn without_last<D: Disk, L: Link>(
-    bricks: HostedBricks<D, L>,
-) -> (HostedBricks<D, L>, Node<D>, L)
+fn without_last<D: Disk, L: Link>(bricks: HostedBricks<D, L>) -> (HostedBricks<D, L>, Node<D>, L)
     requires { 0 < length bricks.bricks }
     ensures { TakesLast bricks.bricks result.0.bricks (Some (result.1, result.2)) }
 {

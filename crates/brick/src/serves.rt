@@ -78,7 +78,8 @@ fn open_and_serve<H: Host, K: Sink>(
     let mut clock = match host.clock() {
         Ok(clock) => clock,
         Err(fault) => {
-            return (Equipment::Linked(node.into_disk(), link), Ending::refusal(fault));
+            let equipment = Equipment::Linked(node.into_disk(), link);
+            return (equipment, Ending::refusal(fault));
         }
     };
     let mut node = node;
