@@ -4,7 +4,7 @@ use Rattle.fab_base.specs.declared.identities.BrickId.{BrickId}
 use Rattle.fab_base.specs.Layouts.{Layout}
 use Rattle.fab_host.specs.declared.hosts.Asked.{Asked}
 use Rattle.fab_host.specs.declared.hosts.Asked.TheVariants as calls
-use Rattle.fab_host.specs.Held.{Held, lent, here, IsKnown}
+use Rattle.fab_host.specs.Held.{Held, lent, here, IsKnown, IsMissing}
 use Rattle.fab_host.specs.Holdings.{Holdings, with_disk, with_link, with_clock}
 use Rattle.fab_host.specs.Opening.{WhereTold}
 use Rattle.fab_host.proofs.Known.{at_name-own, at_port-own}
@@ -16,9 +16,9 @@ use Rattle.brick.specs.declared.openings.Equipment.{Equipment}
 use Rattle.brick.specs.declared.openings.Equipment.TheVariants as opened
 use Rattle.brick.specs.Hosts.{HostSeen, Told, Has, Borrows, IsLent, IsReturned, IsRefused}
 use Rattle.brick.specs.Openings.{KnowsEquipment, GivesBack, OpensBrick, RefusesLink, RefusesBrick, HoldsBrick}
-use Rattle.brick.specs.Serves.{IsLeft, RefusesStore, ServesTurns, ServesByClock, ServesOver, ServesByDisk, HasClock, HasDisk}
+use Rattle.brick.specs.Serves.{IsLeft, RefusesStore, ServesTurns, ServesByClock, ServesOver, ServesByDisk, MayStart, HasClock, HasDisk}
 use Rattle.brick.specs.Views.{Views}
-use Rattle.brick.proofs.Completing.{lent_starts, link_clock}
+use Rattle.brick.proofs.Completing.{here_same, lent_starts, link_clock}
 use Rattle.brick.proofs.Lending.{where_lent, where_after, has_as}
 
 -- a thing that was lent and given back was borrowed meanwhile
@@ -208,6 +208,18 @@ module _ {S D L N C : Type 0} (v : Views D L C) (layout : Layout) (me : BrickId)
   refused_known (opened.Timed disk link clock) ending r = absurd r
 
 -- ---- what is held
+
+-- the disk that was lent may be started, and the link is there
+pub lent_starts_brick : {S D L N C : Type 0} (tells : Type 0) (seen : D → List ℕ) (layout : Layout) (me : BrickId) (before after : Option (Holdings S D L N C))
+    (name : List ℕ) (thing : D) → Told before after (λ h now. (h.disks name ≡ here thing) × (now ≡ with_disk h name lent))
+    → Has before (HoldsBrick tells seen layout me name)
+    → MayStart tells seen layout me thing × Has after (λ h. IsMissing (h.links (port_of (ports_of layout) me)) → ⊥)
+lent_starts_brick tells seen layout me None after name thing lends has = absurd has
+lent_starts_brick tells seen layout me (Some h) None name thing lends has = absurd lends
+lent_starts_brick tells seen layout me (Some h) (Some n) name thing (is, now) has = (
+  subst (λ d. MayStart tells seen layout me d) (here_same (h.disks name) has.disk thing has.held is) has.starts,
+  λ gone. has.link (subst (λ z. IsMissing (z.links (port_of (ports_of layout) me))) now gone),
+)
 
 -- what `serve` wants is there to be opened
 pub disk_holds : {S D L N C : Type 0} (tells : Type 0) (seen : D → List ℕ) (layout : Layout) (me : BrickId) (name : List ℕ) (held : Option (Holdings S D L N C))

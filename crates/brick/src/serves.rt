@@ -97,7 +97,7 @@ fn serve_turns<D: Disk, L: Link, C: Clock, K: Sink>(
     clock: &mut C,
     turns: u64,
 ) -> Ending
-    requires runs { node.old.brick.halted ≡ false }
+    requires { node.old.brick.halted ≡ false }
     ensures serves { ServesTurns (views D.Disk L.Link C.Clock)
         turns node.old node.new link.old link.new clock.old clock.new (K.told out.old) (K.told out.new) result }
     ensures same { IsSameBrick node.old node.new }
