@@ -63,28 +63,29 @@ module _ {S D L N C : Type 0} (v : Views D L C) (layout : Layout) (me : BrickId)
   refused_hosts (opened.Timed disk link clock) ending r back = absurd r
 
   -- the brick stood behind the others for what was done next, and was given back as it was then
-  pub next_hosts : (node : Running D) (link : L) (brick brick_after : Hosted D L) (bricks_after : List (Hosted D L)) (ended : HostSeen S D L N C) (back : D)
-      (said : Option (List ℕ)) (ending : Ending) → OpensBrick v layout me name before now node link → Begins brick node link
+  pub next_hosts : (node node_after : Running D) (link link_after : L) (brick brick_after : Hosted D L) (bricks_after : List (Hosted D L))
+      (ended : HostSeen S D L N C) (back : D) (said : Option (List ℕ)) (ending : Ending) → OpensBrick v layout me name before now node link
+      → Begins brick node link → brick_after.node ≡ node_after → brick_after.link ≡ link_after
       → next (bricks ++ (brick ∷ [])) (bricks_after ++ (brick_after ∷ [])) now ended
-      → IsLeft v layout me brick_after.node back (ending ≡ ends.Disk → brick_after.node.brick.halted ≡ false)
-      → GivesBack name port (opened.Linked back brick_after.link) ended after
+      → IsLeft v layout me node_after back (ending ≡ ends.Disk → node_after.brick.halted ≡ false)
+      → GivesBack name port (opened.Linked back link_after) ended after
       → HostsByDisk v layout me name next before after bricks bricks_after out said ending
-  next_hosts node link brick brick_after bricks_after ended back said ending opens begins does left given =
+  next_hosts node node_after link link_after brick brick_after bricks_after ended back said ending opens begins nodes links does left given =
       inr (
         opens.disk,
         back,
         borrowed before opens.between given.0 after (calls.Disk name false) (λ h. h.disks name) (λ h. with_disk h name) opens.disk back
             (λ began ended. HostsOver v layout me next opens.disk back began ended bricks bricks_after out said ending) opens.lends (inr (record {
               node = node;
-              node_after = brick_after.node;
+              node_after = node_after;
               started = opens.started;
               hosts = inr (
                 link,
-                brick_after.link,
-                borrowed opens.between now ended given.0 (calls.Link port) (λ h. h.links port) (λ h. with_link h port) link
-                    brick_after.link (λ began ended. (one one_after : Hosted D L) × Begins one node link × (one_after.node ≡ brick_after.node)
-                    × (one_after.link ≡ brick_after.link) × next (bricks ++ (one ∷ [])) (bricks_after ++ (one_after ∷ [])) began ended)
-                    opens.links (brick, brick_after, begins, refl, refl, does) given.1,
+                link_after,
+                borrowed opens.between now ended given.0 (calls.Link port) (λ h. h.links port) (λ h. with_link h port) link link_after
+                    (λ began ended. (one one_after : Hosted D L) × Begins one node link × (one_after.node ≡ node_after)
+                    × (one_after.link ≡ link_after) × next (bricks ++ (one ∷ [])) (bricks_after ++ (one_after ∷ [])) began ended)
+                    opens.links (brick, brick_after, begins, nodes, links, does) given.1,
               );
               left = left;
             })) given.2,

@@ -186,6 +186,29 @@ module _ {S D L N C : Type 0} (name : List ℕ) (port : ℕ) (before after : Hos
       before.holds after.holds lends.told known
       (λ h now p k. subst (λ (z : Holdings S D L N C). IsKnown (z.disks name) × IsKnown (z.links port) × IsKnown z.clock) (sym p.1) (k.0, k.1, tt))
 
+-- what is known is known in weaker words
+pub where_as : {H : Type 0} {P Q : H → Type 0} (held : Option H) → WhereTold held P → ((h : H) → P h → Q h) → WhereTold held Q
+where_as None known weaker = tt
+where_as (Some h) known weaker = weaker h known
+
+module _ {S D L N C : Type 0} (name : List ℕ) (port : ℕ) (before after : Option (Holdings S D L N C)) where
+  -- the disk and the link are known once the clock was given back
+  pub unclocked_known : (clock : C) → WhereTold before (λ h. IsKnown (h.disks name) × IsKnown (h.links port) × IsKnown h.clock)
+      → Told before after (λ h now. now ≡ with_clock h (here clock)) → WhereTold after (λ h. IsKnown (h.disks name) × IsKnown (h.links port))
+  unclocked_known clock known given =
+      where_after {P = λ (h now : Holdings S D L N C). now ≡ with_clock h (here clock)}
+      {Q = λ h. IsKnown (h.disks name) × IsKnown (h.links port) × IsKnown h.clock} {R = λ h. IsKnown (h.disks name) × IsKnown (h.links port)}
+      before after given known
+      (λ h now is k. subst (λ (z : Holdings S D L N C). IsKnown (z.disks name) × IsKnown (z.links port)) (sym is) (k.0, k.1))
+
+  -- and the disk once the link was
+  pub unlinked_known : (link : L) → WhereTold before (λ h. IsKnown (h.disks name) × IsKnown (h.links port))
+      → Told before after (λ h now. now ≡ with_link h port (here link)) → WhereTold after (λ h. IsKnown (h.disks name))
+  unlinked_known link known given =
+      where_after {P = λ (h now : Holdings S D L N C). now ≡ with_link h port (here link)} {Q = λ h. IsKnown (h.disks name) × IsKnown (h.links port)}
+      {R = λ h. IsKnown (h.disks name)} before after given known
+      (λ h now is k. subst (λ (z : Holdings S D L N C). IsKnown (z.disks name)) (sym is) k.0)
+
 module _ {S D L N C : Type 0} (v : Views D L C) (layout : Layout) (me : BrickId) (name : List ℕ) (before after : HostSeen S D L N C) where
   -- a brick that was opened
   pub brick_known : (node : Running D) (link : L) → OpensBrick v layout me name before after node link

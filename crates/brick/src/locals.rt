@@ -93,10 +93,11 @@ fn host_bricks<H: Host, K: Sink>(
         // A name without memory is told as a disk that was refused for that.
         Err(_) => return (bricks, Ending::Memory),
     };
-    let (node, link) = match open_brick(alloc, host, name.as_str(), layout, me) {
+    let name = name.as_str();
+    let (node, link) = match open_brick(alloc, host, name, layout, me) {
         Ok(opened) => opened,
         Err((opened, ending)) => {
-            give_back(host, name.as_str(), port, opened);
+            give_back(host, name, port, opened);
             return (bricks, ending);
         }
     };
@@ -104,7 +105,7 @@ fn host_bricks<H: Host, K: Sink>(
     let (bricks, ending) = host_bricks(alloc, host, out, prefix, layout, task, id + 1, bricks);
     let (bricks, node, link) = without_last(bricks);
     let equipment = Equipment::Linked(node.into_disk(), link);
-    give_back(host, name.as_str(), port, equipment);
+    give_back(host, name, port, equipment);
     (bricks, ending)
 }
 

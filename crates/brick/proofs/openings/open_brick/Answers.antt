@@ -1,9 +1,8 @@
 -- A brick was opened, or the first call or store that was refused ends it.
-use Rattle.std.proofs.Common.{Err, inl, inr, refl, sym, ap, ◌∙◌, subst}
+use Rattle.std.proofs.Common.{Err, ⊤, inl, inr, refl, sym, ap, ◌∙◌, subst}
 use Rattle.fab_host.specs.declared.hosts.Asked.TheVariants as calls
 use Rattle.fab_host.specs.Held.{IsMissing}
 use Rattle.fab_host.specs.Holdings.{with_link}
-use Rattle.node.proofs.Shown.{leaves_shown}
 use Rattle.serving.specs.Ports.{ports_of, port_of}
 use Rattle.brick.specs.Endings.{status_of, IsDone}
 use Rattle.brick.specs.Hosts.{host_seen, IsLent, IsRefused}
@@ -12,7 +11,7 @@ use Rattle.brick.proofs.Completing.{here_missing}
 use Rattle.brick.proofs.Lending.{lends_told}
 use Rattle.brick.proofs.Refusing.{refused_by, refused_done, refused_not_sink}
 use Rattle.brick.proofs.Returning.{lent_starts_brick}
-use Rattle.brick.proofs.Starting.{shown_as}
+use Rattle.brick.proofs.Starting.{left_by}
 use Rattle.brick.proofs.openings.open_brick.Goals as goal
 
 pub returns-in-Err : goal.returns-in-Err
@@ -77,12 +76,8 @@ returns-in-Err-link g c =
               (subst (IsRefused between after (calls.Link c.port_of.result)) (sym c.refusal.ensures)
               (refused_by between after (calls.Link c.port_of.result) _ _ fault said.asked said.lends said.kept.later
               (λ e. said.kept.rose (ap (λ z. Err z) e))));
-          left = record {
-            disk = kept.disk;
-            shows = λ tells whole. shown_as _ _ _ _ _ _ started.layout_is started.me_is (kept.stands tells started.runs).has;
-            durable = λ tells whole image may. shown_as _ _ _ _ _ _ started.layout_is started.me_is
-                (leaves_shown d _ _ _ _ (kept.stands tells started.runs) image may);
-          };
+          left = left_by (views d g.H.Link.Link g.H.Clock.Clock) c.args.layout.now c.args.me c.in-Ok-start.node c.into_disk.result ⊤ kept.disk
+              started.layout_is started.me_is (λ tells whole. kept.stands tells started.runs);
         });
       };
       stays = λ s. (said.kept.stays (lends.kept.stays s), subst d.sound (sym kept.disk) (began.sound (lends.gives s)));
