@@ -1,5 +1,5 @@
 -- A brick of `brick local` or `brick nbd` that was opened and given back, with what was done between.
-use Rattle.std.proofs.Common.{◌≡◌, ℕ, ◌+◌, ◌<◌, ◌≤◌, arith, false, List, [], ◌∷◌, ◌++◌, Option, ⊤, ◌⊎◌, inl, inr, refl, sym, subst}
+use Rattle.std.proofs.Common.{◌≡◌, ℕ, ◌+◌, ◌<◌, ◌≤◌, arith, false, List, [], ◌∷◌, ◌++◌, Option, ◌⊎◌, inl, inr, refl, sym, subst}
 use Rattle.fab_base.specs.declared.identities.BrickId.{BrickId}
 use Rattle.fab_base.specs.Layouts.{Layout}
 use Rattle.fab_host.specs.declared.hosts.Asked.TheVariants as calls
@@ -16,7 +16,7 @@ use Rattle.brick.specs.declared.openings.Equipment.TheVariants as opened
 use Rattle.brick.specs.declared.words.Task.{Task}
 use Rattle.brick.specs.Hosts.{HostSeen, Told, Has, KnowsStill, IsReturned, IsRefused}
 use Rattle.brick.specs.Locals.{disk_name, Deed, HostsByLink, HostsOver, HostsByDisk, HasBricks}
-use Rattle.brick.specs.Openings.{GivesBack, OpensBrick, RefusesLink, RefusesBrick, HoldsBrick}
+use Rattle.brick.specs.Openings.{GivesLinkBack, GivesBack, OpensBrick, RefusesLink, RefusesBrick, HoldsBrick}
 use Rattle.brick.specs.Serves.{IsLeft, RefusesStore}
 use Rattle.brick.specs.Views.{Views}
 use Rattle.brick.proofs.Knowing.{knows_disk, knows_link, knows_clock, knows_equal, knows_same}
@@ -28,7 +28,7 @@ use Rattle.brick.proofs.Returning.{borrowed, left_as, brick_known, refused_told}
 
 module _ {S D L N C : Type 0} (v : Views D L C) (layout : Layout) (me : BrickId) (name : List ℕ) (next : Deed S D L N C) (before now after : HostSeen S D L N C)
     (bricks : List (Hosted D L)) (out : Option (List ℕ)) where
-  port : ℕ
+  abbrev port : ℕ
   port = port_of (ports_of layout) me
 
   over_refused : (disk back : D) (began : HostSeen S D L N C) (ending : Ending)
@@ -118,18 +118,23 @@ module _ {S D L N C T : Type 0} (with : Holdings S D L N C → Held T → Holdin
       told_more {P = λ (h now : Holdings S D L N C). now ≡ with h (here back)} {Q = KnowsStill} before.holds after.holds given.regains
       (λ h now is. subst (λ (z : Holdings S D L N C). KnowsStill h z) (sym is) (knows h (here back) tt))
 
+-- after the link and the disk were given back
+link_given_knows : {S D L N C : Type 0} (name : List ℕ) (port : ℕ) (disk : D) (link : L) (before after : HostSeen S D L N C)
+    → GivesLinkBack name port disk link before after → Told before.holds after.holds KnowsStill
+link_given_knows name port disk link before after given =
+    knows_next before.holds given.0.holds after.holds (returned_knows (λ h. with_link h port) (knows_link port) before given.0 link given.1)
+    (returned_knows (λ h. with_disk h name) (knows_disk name) given.0 after disk given.2)
+
 -- after all was given back
-pub given_knows : {S D L N C : Type 0} (name : List ℕ) (port : ℕ) (equipment : Equipment D L C) (before after : HostSeen S D L N C)
+given_knows : {S D L N C : Type 0} (name : List ℕ) (port : ℕ) (equipment : Equipment D L C) (before after : HostSeen S D L N C)
     → GivesBack name port equipment before after → Told before.holds after.holds KnowsStill
 given_knows {S} {D} {L} {N} {C} name port opened.Nothing before after given =
     subst (λ (h : HostSeen S D L N C). Told before.holds h.holds KnowsStill) (sym given) (knows_same before.holds)
 given_knows name port (opened.Disk disk) before after given = returned_knows (λ h. with_disk h name) (knows_disk name) before after disk given
-given_knows name port (opened.Linked disk link) before after given =
-    knows_next before.holds given.0.holds after.holds (returned_knows (λ h. with_link h port) (knows_link port) before given.0 link given.1)
-    (returned_knows (λ h. with_disk h name) (knows_disk name) given.0 after disk given.2)
+given_knows name port (opened.Linked disk link) before after given = link_given_knows name port disk link before after given
 given_knows name port (opened.Timed disk link clock) before after given =
     knows_next before.holds given.0.holds after.holds (returned_knows with_clock knows_clock before given.0 clock given.1)
-    (given_knows name port (opened.Linked disk link) given.0 after given.2)
+    (link_given_knows name port disk link given.0 after given.2)
 
 module _ {S D L N C : Type 0} (v : Views D L C) (layout : Layout) (me : BrickId) (name : List ℕ) (before now : HostSeen S D L N C) where
   -- after a brick was opened

@@ -1,5 +1,6 @@
 -- What was opened for a brick and given back is a loan in a loan, and is known to the host until then.
-use Rattle.std.proofs.Common.{◌≡◌, ◌≢◌, ℕ, false, List, Option, Some, None, ⊤, ◌⊎◌, inl, inr, refl, sym, subst}
+use Rattle.std.proofs.Common.{◌≡◌, ◌≢◌, ℕ, false, List, Option, Some, None, ◌⊎◌, inl, inr, refl, sym, subst}
+use Rattle.std.specs.Prelude.{⊤}
 use Rattle.fab_base.specs.declared.identities.BrickId.{BrickId}
 use Rattle.fab_base.specs.Layouts.{Layout}
 use Rattle.fab_host.specs.declared.hosts.Asked.{Asked}
@@ -46,11 +47,11 @@ left_as v layout me node back whole left =
 
 module _ {S D L N C : Type 0} (v : Views D L C) (layout : Layout) (me : BrickId) (name : List ℕ) (turns : ℕ) (before now after : HostSeen S D L N C)
     (out : Option (List ℕ)) where
-  port : ℕ
+  abbrev port : ℕ
   port = port_of (ports_of layout) me
 
   -- what is done over a disk
-  Over : D → D → Option (List ℕ) → Ending → HostSeen S D L N C → HostSeen S D L N C → Type 0
+  abbrev Over : D → D → Option (List ℕ) → Ending → HostSeen S D L N C → HostSeen S D L N C → Type 0
   Over disk back said ending began ended = ServesOver v layout me turns disk back began ended out said ending
 
   over_refused : (disk back : D) (began : HostSeen S D L N C) (ending : Ending)
@@ -185,29 +186,6 @@ module _ {S D L N C : Type 0} (name : List ℕ) (port : ℕ) (before after : Hos
       {Q = λ h. IsKnown (h.disks name) × IsKnown (h.links port)} {R = λ h. IsKnown (h.disks name) × IsKnown (h.links port) × IsKnown h.clock}
       before.holds after.holds lends.told known
       (λ h now p k. subst (λ (z : Holdings S D L N C). IsKnown (z.disks name) × IsKnown (z.links port) × IsKnown z.clock) (sym p.1) (k.0, k.1, tt))
-
--- what is known is known in weaker words
-pub where_as : {H : Type 0} {P Q : H → Type 0} (held : Option H) → WhereTold held P → ((h : H) → P h → Q h) → WhereTold held Q
-where_as None known weaker = tt
-where_as (Some h) known weaker = weaker h known
-
-module _ {S D L N C : Type 0} (name : List ℕ) (port : ℕ) (before after : Option (Holdings S D L N C)) where
-  -- the disk and the link are known once the clock was given back
-  pub unclocked_known : (clock : C) → WhereTold before (λ h. IsKnown (h.disks name) × IsKnown (h.links port) × IsKnown h.clock)
-      → Told before after (λ h now. now ≡ with_clock h (here clock)) → WhereTold after (λ h. IsKnown (h.disks name) × IsKnown (h.links port))
-  unclocked_known clock known given =
-      where_after {P = λ (h now : Holdings S D L N C). now ≡ with_clock h (here clock)}
-      {Q = λ h. IsKnown (h.disks name) × IsKnown (h.links port) × IsKnown h.clock} {R = λ h. IsKnown (h.disks name) × IsKnown (h.links port)}
-      before after given known
-      (λ h now is k. subst (λ (z : Holdings S D L N C). IsKnown (z.disks name) × IsKnown (z.links port)) (sym is) (k.0, k.1))
-
-  -- and the disk once the link was
-  pub unlinked_known : (link : L) → WhereTold before (λ h. IsKnown (h.disks name) × IsKnown (h.links port))
-      → Told before after (λ h now. now ≡ with_link h port (here link)) → WhereTold after (λ h. IsKnown (h.disks name))
-  unlinked_known link known given =
-      where_after {P = λ (h now : Holdings S D L N C). now ≡ with_link h port (here link)} {Q = λ h. IsKnown (h.disks name) × IsKnown (h.links port)}
-      {R = λ h. IsKnown (h.disks name)} before after given known
-      (λ h now is k. subst (λ (z : Holdings S D L N C). IsKnown (z.disks name)) (sym is) k.0)
 
 module _ {S D L N C : Type 0} (v : Views D L C) (layout : Layout) (me : BrickId) (name : List ℕ) (before after : HostSeen S D L N C) where
   -- a brick that was opened

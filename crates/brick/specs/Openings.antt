@@ -28,14 +28,18 @@ IsSoundEquipment on_disk on_link on_clock (opened.Disk disk) = on_disk disk
 IsSoundEquipment on_disk on_link on_clock (opened.Linked disk link) = on_disk disk × on_link link
 IsSoundEquipment on_disk on_link on_clock (opened.Timed disk link clock) = on_disk disk × on_link link × on_clock clock
 
--- it is given back as it is now, from the last to the first
+-- the link and then the disk are given back, as they are now
+abbrev pub GivesLinkBack : {S D L N C : Type 0} → List ℕ → ℕ → D → L → HostSeen S D L N C → HostSeen S D L N C → Type 0
+GivesLinkBack {S} {D} {L} {N} {C} name port disk link before after =
+    (between : HostSeen S D L N C) × IsReturned before between (λ h. with_link h port) link × IsReturned between after (λ h. with_disk h name) disk
+
+-- all of it is, from the last to the first
 abbrev pub GivesBack : {S D L N C : Type 0} → List ℕ → ℕ → Equipment D L C → HostSeen S D L N C → HostSeen S D L N C → Type 0
 GivesBack name port opened.Nothing before after = after ≡ before
 GivesBack name port (opened.Disk disk) before after = IsReturned before after (λ h. with_disk h name) disk
-GivesBack {S} {D} {L} {N} {C} name port (opened.Linked disk link) before after =
-    (between : HostSeen S D L N C) × IsReturned before between (λ h. with_link h port) link × IsReturned between after (λ h. with_disk h name) disk
+GivesBack name port (opened.Linked disk link) before after = GivesLinkBack name port disk link before after
 GivesBack {S} {D} {L} {N} {C} name port (opened.Timed disk link clock) before after =
-    (between : HostSeen S D L N C) × IsReturned before between with_clock clock × GivesBack name port (opened.Linked disk link) between after
+    (between : HostSeen S D L N C) × IsReturned before between with_clock clock × GivesLinkBack name port disk link between after
 
 -- this is so of the host once all of it was given back
 abbrev pub OnceGivenBack : {S D L N C : Type 0} → List ℕ → ℕ → Equipment D L C → HostSeen S D L N C → (HostSeen S D L N C → Type 0) → Type 0

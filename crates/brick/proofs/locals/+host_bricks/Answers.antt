@@ -204,7 +204,7 @@ returns g t c =
       knows = next_known_still v layout me name before now node link back link_after ended after opens inner.knows given;
       stays = λ s sound.
           let held = opened_by.stays s in
-          let done = inner.stays held.0 (standing held.2 sound held.1) in
+          let done = inner.stays held.0 (standing held.1.1 sound held.1.0) in
           let each = all_last (IsSound d l k) first_after brick_after (subst (AllByRecursion (IsSound d l k)) more_after done.1) in (
             c.give_back.ensures.stays (
               subst d.sound (sym kept.disk) (subst (λ n. d.sound n.brick.disk) (sym (ap (λ p. p.0) taken)) each.1.disk),
@@ -215,7 +215,7 @@ returns g t c =
       sink = inner.sink;
       done = λ s sound sink has.
           let held = opened_by.stays s in
-          inner.done held.0 (standing held.2 sound held.1) sink
+          inner.done held.0 (standing held.1.1 sound held.1.0) sink
           (next_there d.tells d.seen layout prefix task id v before now node link (omega arith) c.bricks.ensures.limits.few_bricks
           (subst (λ p. 0 < p) c.port_of-port.ensures.value c.port_of-port.ensures.some) there has);
     }

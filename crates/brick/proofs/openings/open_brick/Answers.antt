@@ -1,5 +1,6 @@
 -- A brick was opened, or the first call or store that was refused ends it.
-use Rattle.std.proofs.Common.{Err, ⊤, inl, inr, refl, sym, ap, ◌∙◌, subst}
+use Rattle.std.proofs.Common.{false, Err, inl, inr, refl, sym, ap, ◌∙◌, subst}
+use Rattle.std.specs.Prelude.{⊤}
 use Rattle.fab_host.specs.declared.hosts.Asked.TheVariants as calls
 use Rattle.fab_host.specs.Held.{IsMissing}
 use Rattle.fab_host.specs.Holdings.{with_link}
@@ -23,6 +24,7 @@ returns-in-Err g c =
     let said = c.in-Err.ensures in
     let name = c.args.name.now in
     record {
+      opens = tt;
       refuses = subst (IsRefused before after (calls.Disk name false)) (sym c.refusal.ensures)
           (refused_by before after (calls.Disk name false) _ _ fault said.asked (said.lends refl) said.kept.later (λ e. said.kept.rose (ap (λ z. Err z) e)));
       stays = λ s. (said.kept.stays s, tt);
@@ -39,6 +41,7 @@ returns-in-Err-start g c =
     let lends = c.in-Ok.ensures in
     let said = c.in-Err-start.ensures in
     record {
+      opens = tt;
       refuses = record {
         disk = c.in-Ok.disk;
         between = host_seen (host.faults c.disk.new.self) (host.asked c.disk.new.self) (host.holds c.disk.new.self);
@@ -65,6 +68,7 @@ returns-in-Err-link g c =
     let after = host_seen (host.faults c.link.new.self) (host.asked c.link.new.self) (host.holds c.link.new.self) in
     let port = c.port_of.ensures.value in
     record {
+      opens = tt;
       refuses = record {
         disk = c.in-Ok.disk;
         between = between;
@@ -72,8 +76,8 @@ returns-in-Err-link g c =
         refused = inr (record {
           node = c.in-Ok-start.node;
           started = started;
-          refused = subst (λ p. IsRefused between after (calls.Link p) c.refusal.result) port
-              (subst (IsRefused between after (calls.Link c.port_of.result)) (sym c.refusal.ensures)
+          refused = subst (λ p. IsRefused between after (calls.Link p) c.refusal-in-Err-link.result) port
+              (subst (IsRefused between after (calls.Link c.port_of.result)) (sym c.refusal-in-Err-link.ensures)
               (refused_by between after (calls.Link c.port_of.result) _ _ fault said.asked said.lends said.kept.later
               (λ e. said.kept.rose (ap (λ z. Err z) e))));
           left = left_by (views d g.H.Link.Link g.H.Clock.Clock) c.args.layout.now c.args.me c.in-Ok-start.node c.into_disk.result ⊤ kept.disk
@@ -81,11 +85,11 @@ returns-in-Err-link g c =
         });
       };
       stays = λ s. (said.kept.stays (lends.kept.stays s), subst d.sound (sym kept.disk) (began.sound (lends.gives s)));
-      sink = λ six. refused_not_sink fault (ap status_of (sym c.refusal.ensures) ∙ six);
+      sink = λ six. refused_not_sink fault (ap status_of (sym c.refusal-in-Err-link.ensures) ∙ six);
       done = λ s has.
           let there = lent_starts_brick d.tells d.seen c.args.layout.now c.args.me _ _ c.args.name.now c.in-Ok.disk
           (lends_told _ _ _ _ _ _ (lends.lends refl)) has in
-          subst IsDone (sym c.refusal.ensures)
+          subst IsDone (sym c.refusal-in-Err-link.ensures)
           (refused_done (host.holds c.disk.new.self) fault there.1 (λ e. said.kept.only (lends.kept.stays s) (ap (λ z. Err z) e))
           (λ h p q. p (subst (λ n. IsMissing (h.links n)) port q)));
     }
@@ -107,5 +111,8 @@ returns-in-Ok-link g c =
         links = subst (λ p. IsLent between after (calls.Link p) (λ h. h.links p) (λ h. with_link h p) c.in-Ok-link.link) c.port_of.ensures.value
             (record { asked = said.asked; later = said.kept.later; told = lends_told _ _ _ _ _ _ said.lends });
       };
-      stays = λ s. (said.kept.stays (lends.kept.stays s), began.sound (lends.gives s), said.gives (lends.kept.stays s));
+      stays = λ s. (said.kept.stays (lends.kept.stays s), (began.sound (lends.gives s), said.gives (lends.kept.stays s)));
+      refuses = tt;
+      sink = tt;
+      done = λ s has. tt;
     }

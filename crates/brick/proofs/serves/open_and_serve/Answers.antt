@@ -1,5 +1,6 @@
 -- A brick was opened, and it serves by the clock; or one of them was refused.
-use Rattle.std.proofs.Common.{◌≢◌, Err, ⊤, refl, sym, ap, ◌∙◌, subst}
+use Rattle.std.proofs.Common.{◌≢◌, Err, refl, sym, ap, ◌∙◌, subst}
+use Rattle.std.specs.Prelude.{⊤}
 use Rattle.fab_base.proofs.Keeping.{Kept-refl, Kept-narrower}
 use Rattle.fab_host.specs.declared.hosts.Asked.TheVariants as calls
 use Rattle.fab_host.specs.Held.{IsKnown}
@@ -14,8 +15,8 @@ use Rattle.brick.proofs.Returning.{refused_serves, unclocked_serves, turns_serve
 use Rattle.brick.proofs.Starting.{left_by}
 use Rattle.brick.proofs.serves.open_and_serve.Goals as goal
 
-pub serve_turns-requires : goal.serve_turns-requires
-serve_turns-requires g c = c.in-Ok.ensures.opens.started.runs
+pub serve_turns-ending-requires : goal.serve_turns-ending-requires
+serve_turns-ending-requires g c = c.in-Ok.ensures.opens.started.runs
 
 pub returns-in-Err : goal.returns-in-Err
 returns-in-Err g c =
@@ -65,7 +66,7 @@ returns-in-Err-clock g c =
           (brick_known v layout me name before mid node link opens);
       stays = λ s.
           let opened = c.in-Ok.ensures.stays s in
-          (said.kept.stays opened.0, subst d.sound (sym kept.disk) opened.1, opened.2);
+          (said.kept.stays opened.0, (subst d.sound (sym kept.disk) opened.1.0, opened.1.1));
       sink = Kept-narrower (λ e. absurd (refused_not_sink fault (ap status_of (sym c.refusal.ensures) ∙ e))) (Kept-refl _ _);
       done = λ s sink has. subst IsDone (sym c.refusal.ensures)
           (refused_done (host.holds c.open_brick.new.host) fault (clock_there v layout me name before mid node link d.tells d.seen opens has)
@@ -88,24 +89,20 @@ returns g c =
     let link = c.in-Ok.opened.1 in
     let said = c.in-Ok-clock.ensures in
     let served = c.serve_turns-ending in
-    let kept = c.into_disk.ensures in
+    let kept = c.into_disk-2.ensures in
     let lends = record { asked = said.asked; later = said.kept.later; told = lends_told _ _ _ _ _ _ said.lends } in
     record {
       serves = λ after given. turns_serve v layout me name c.args.turns before now after (g.K.Sink.told c.args.out.now) mid node served.new.node link served.new.link
-          (g.K.Sink.told served.new.out) served.result c.into_disk.result opens
-          (left_by v layout me served.new.node c.into_disk.result (served.result ≢ Disk) kept.disk (served.ensures.same.layout ∙ opens.started.layout_is)
+          (g.K.Sink.told served.new.out) served.result c.into_disk-2.result opens
+          (left_by v layout me served.new.node c.into_disk-2.result (served.result ≢ Disk) kept.disk (served.ensures.same.layout ∙ opens.started.layout_is)
           (served.ensures.same.me ∙ opens.started.me_is) (λ tells not. kept.stands tells (served.ensures.runs not)))
           c.in-Ok-clock.clock served.new.clock lends served.ensures.serves given;
       knows = clock_known name (port_of (ports_of layout) me) mid now c.in-Ok-clock.clock (brick_known v layout me name before mid node link opens) lends;
       stays = λ s.
-          let opened = c.in-Ok.ensures.stays s in (
-            said.kept.stays opened.0,
-            subst d.sound (sym kept.disk) (served.ensures.disk opened.1),
-            served.ensures.link opened.2,
-            served.ensures.clock (said.gives opened.0),
-          );
+          let opened = c.in-Ok.ensures.stays s in
+          (said.kept.stays opened.0, (subst d.sound (sym kept.disk) (served.ensures.disk opened.1.0), served.ensures.link opened.1.1, served.ensures.clock (said.gives opened.0)));
       sink = served.ensures.sink;
       done = λ s sink has.
           let opened = c.in-Ok.ensures.stays s in
-          served.ensures.done opened.1 opened.2 (said.gives opened.0) sink;
+          served.ensures.done opened.1.0 opened.1.1 (said.gives opened.0) sink;
     }
