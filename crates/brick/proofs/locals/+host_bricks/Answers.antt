@@ -106,8 +106,8 @@ returns-in-Err-open_brick g t c =
 
 -- ---- it was opened
 
-pub with_brick-bricks-requires-runs : goal.with_brick-bricks-requires-runs
-with_brick-bricks-requires-runs g t c = c.in-Ok-open_brick.ensures.opens.started.runs
+pub with_brick-bricks-requires-clause-runs : goal.with_brick-bricks-requires-clause-runs
+with_brick-bricks-requires-clause-runs g t c = c.in-Ok-open_brick.ensures.opens.started.runs
 
 -- there is a last brick
 pub without_last-bricks-requires : goal.without_last-bricks-requires
@@ -157,7 +157,7 @@ returns g t c =
     let before = host_seen (host.faults c.args.host.now) (host.asked c.args.host.now) (host.holds c.args.host.now) in
     let now = host_seen (host.faults c.open_brick.new.host) (host.asked c.open_brick.new.host) (host.holds c.open_brick.new.host) in
     let ended = host_seen (host.faults hosted.new.host) (host.asked hosted.new.host) (host.holds hosted.new.host) in
-    let after = host_seen (host.faults c.give_back.new.host) (host.asked c.give_back.new.host) (host.holds c.give_back.new.host) in
+    let after = host_seen (host.faults c.give_back-2.new.host) (host.asked c.give_back-2.new.host) (host.holds c.give_back-2.new.host) in
     let brick = c.with_brick-bricks.ensures.more.0 in
     let more = c.with_brick-bricks.ensures.more.1 in
     let begins = c.with_brick-bricks.ensures.more.2 in
@@ -171,7 +171,7 @@ returns g t c =
     let kept = c.into_disk.ensures in
     let back = c.into_disk.result in
     let name_is : name ≡ disk_name prefix me = c.as_str-name.ensures.value ∙ c.in-Ok.ensures in
-    let given = subst (λ p. GivesBack name p (opened.Linked back link_after) ended after) c.port_of-port.ensures.value c.give_back.ensures.gives in
+    let given = subst (λ p. GivesBack name p (opened.Linked back link_after) ended after) c.port_of-port.ensures.value c.give_back-2.ensures.gives in
     let from = HostsFrom (streams g.H.Source.Source g.H.Input.Source g.H.Output.Sink) v layout prefix task out said ending (id + 1) in
     let same : AreSame (first ++ (brick ∷ [])) (first_after ++ (brick_after ∷ [])) =
     subst (λ bs. AreSame (first ++ (brick ∷ [])) bs) more_after (subst (λ bs. AreSame bs hosted.result.0.bricks) more inner.same) in
@@ -206,7 +206,7 @@ returns g t c =
           let held = opened_by.stays s in
           let done = inner.stays held.0 (standing held.1.1 sound held.1.0) in
           let each = all_last (IsSound d l k) first_after brick_after (subst (AllByRecursion (IsSound d l k)) more_after done.1) in (
-            c.give_back.ensures.stays (
+            c.give_back-2.ensures.stays (
               subst d.sound (sym kept.disk) (subst (λ n. d.sound n.brick.disk) (sym (ap (λ p. p.0) taken)) each.1.disk),
               subst l.sound (sym (ap (λ p. p.1) taken)) each.1.link,
             ) done.0,

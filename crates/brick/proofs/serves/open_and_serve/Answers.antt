@@ -4,10 +4,11 @@ use Rattle.std.specs.Prelude.{⊤}
 use Rattle.fab_base.proofs.Keeping.{Kept-refl, Kept-narrower}
 use Rattle.fab_host.specs.declared.hosts.Asked.TheVariants as calls
 use Rattle.fab_host.specs.Held.{IsKnown}
+use Rattle.fab_host.specs.Holdings.{with_clock}
 use Rattle.serving.specs.Ports.{ports_of, port_of}
 use Rattle.brick.specs.declared.endings.Ending.TheVariants.{Disk}
 use Rattle.brick.specs.Endings.{status_of, IsDone}
-use Rattle.brick.specs.Hosts.{host_seen, IsRefused}
+use Rattle.brick.specs.Hosts.{host_seen, IsLent, IsRefused}
 use Rattle.brick.specs.Views.{views}
 use Rattle.brick.proofs.Lending.{lends_told}
 use Rattle.brick.proofs.Refusing.{refused_by, refused_done, refused_not_sink}
@@ -90,7 +91,7 @@ returns g c =
     let said = c.in-Ok-clock.ensures in
     let served = c.serve_turns-ending in
     let kept = c.into_disk-2.ensures in
-    let lends = record { asked = said.asked; later = said.kept.later; told = lends_told _ _ _ _ _ _ said.lends } in
+    let lends : IsLent mid now calls.Clock (λ h. h.clock) with_clock c.in-Ok-clock.clock = record { asked = said.asked; later = said.kept.later; told = lends_told _ _ _ _ _ _ said.lends } in
     record {
       serves = λ after given. turns_serve v layout me name c.args.turns before now after (g.K.Sink.told c.args.out.now) mid node served.new.node link served.new.link
           (g.K.Sink.told served.new.out) served.result c.into_disk-2.result opens
