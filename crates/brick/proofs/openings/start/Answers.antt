@@ -2,13 +2,12 @@
 use Rattle.std.proofs.Common.{⊎_elim, sym, ap, ◌∙◌, subst}
 use Rattle.fab_base.specs.Layouts.{Layout}
 use Rattle.node.specs.Openings.{stopped_by}
-use Rattle.node.proofs.Shown.{leaves_shown}
 use Rattle.brick.specs.Endings.{status_of, IsDone}
 use Rattle.brick.specs.Serves.{IsStarted, RefusesStore, MayStart}
 use Rattle.brick.specs.Views.{views}
-use Rattle.brick.proofs.Starting.{shown_as, is_a_store, is_not_worn}
+use Rattle.brick.proofs.Starting.{is_a_store, is_not_worn}
 use Rattle.brick.proofs.Turning.{refuses, refusal_not_sink, refusal_done}
-use Rattle.brick.proofs.serves.start.Goals as goal
+use Rattle.brick.proofs.openings.start.Goals as goal
 
 pub returns-in-Ok-start-clause-starts : goal.returns-in-Ok-start-clause-starts
 returns-in-Ok-start-clause-starts g c =
@@ -22,11 +21,6 @@ returns-in-Ok-start-clause-starts g c =
       shows = λ tells. (said.stands tells).has;
       later = said.opens.cause.later;
     })
-
-pub returns-in-Ok-start-clause-durable : goal.returns-in-Ok-start-clause-durable
-returns-in-Ok-start-clause-durable g c = λ tells image may.
-    shown_as _ _ _ _ _ _ (sym c.in-Ok-start.ensures.layout) (sym c.in-Ok-start.ensures.me)
-    (leaves_shown g.H.Disk.Disk _ _ _ _ (c.in-Ok-start.ensures.stands tells) image may)
 
 pub returns-in-Err-start-clause-refuses : goal.returns-in-Err-start-clause-refuses
 returns-in-Err-start-clause-refuses g c =
