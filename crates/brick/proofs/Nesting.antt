@@ -15,7 +15,7 @@ use Rattle.brick.specs.declared.openings.Equipment.{Equipment}
 use Rattle.brick.specs.declared.openings.Equipment.TheVariants as opened
 use Rattle.brick.specs.declared.words.Task.{Task}
 use Rattle.brick.specs.Hosts.{HostSeen, Told, Has, KnowsStill, IsReturned, IsRefused}
-use Rattle.brick.specs.Locals.{disk_name, Deed, HostsByLink, HostsOver, HostsByDisk, HasBricks}
+use Rattle.brick.specs.Locals.{disk_name, Deed, HostsOver, HostsByDisk, HasBricks}
 use Rattle.brick.specs.Openings.{GivesLinkBack, GivesBack, OpensBrick, RefusesLink, RefusesBrick, HoldsBrick}
 use Rattle.brick.specs.Serves.{IsLeft, RefusesStore}
 use Rattle.brick.specs.Views.{Views}
@@ -128,7 +128,7 @@ link_given_knows name port disk link before after given =
 -- after all was given back
 given_knows : {S D L N C : Type 0} (name : List ℕ) (port : ℕ) (equipment : Equipment D L C) (before after : HostSeen S D L N C)
     → GivesBack name port equipment before after → Told before.holds after.holds KnowsStill
-given_knows {S} {D} {L} {N} {C} name port opened.Nothing before after given =
+given_knows {S} {D} {L} {N} {C} name _ opened.Nothing before after given =
     subst (λ (h : HostSeen S D L N C). Told before.holds h.holds KnowsStill) (sym given) (knows_same before.holds)
 given_knows name port (opened.Disk disk) before after given = returned_knows (λ h. with_disk h name) (knows_disk name) before after disk given
 given_knows name port (opened.Linked disk link) before after given = link_given_knows name port disk link before after given

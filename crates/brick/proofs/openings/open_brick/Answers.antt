@@ -4,7 +4,6 @@ use Rattle.std.specs.Prelude.{⊤}
 use Rattle.fab_host.specs.declared.hosts.Asked.TheVariants as calls
 use Rattle.fab_host.specs.Held.{IsMissing}
 use Rattle.fab_host.specs.Holdings.{with_link}
-use Rattle.serving.specs.Ports.{ports_of, port_of}
 use Rattle.brick.specs.Endings.{status_of, IsDone}
 use Rattle.brick.specs.Hosts.{host_seen, IsLent, IsRefused}
 use Rattle.brick.specs.Views.{views}

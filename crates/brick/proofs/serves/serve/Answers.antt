@@ -2,7 +2,6 @@
 use Rattle.std.proofs.Common.{◌<◌, sym, ◌∙◌, subst}
 use Rattle.fab_base.specs.declared.identities.BrickId.{BrickId}
 use Rattle.fab_host.specs.Opening.{WhereTold}
-use Rattle.serving.specs.Ports.{ports_of, port_of}
 use Rattle.brick.specs.Hosts.{Has, host_seen}
 use Rattle.brick.specs.Openings.{KnowsEquipment, GivesBack}
 use Rattle.brick.specs.Serves.{ServesBrick, HasDisk}
