@@ -24,15 +24,15 @@ knows_source : {S D L N C : Type 0} (name : List ℕ) (h : Holdings S D L N C) (
 knows_source name h now known =
     record { sources = λ other k. known_after bytes_eq h.sources name other now known k; disks = λ n k. k; links = λ port k. k; sessions = λ port k. k; clock = λ k. k }
 
-knows_disk : {S D L N C : Type 0} (name : List ℕ) (h : Holdings S D L N C) (now : Held D) → IsKnown now → KnowsStill h (with_disk h name now)
+pub knows_disk : {S D L N C : Type 0} (name : List ℕ) (h : Holdings S D L N C) (now : Held D) → IsKnown now → KnowsStill h (with_disk h name now)
 knows_disk name h now known =
     record { sources = λ n k. k; disks = λ other k. known_after bytes_eq h.disks name other now known k; links = λ port k. k; sessions = λ port k. k; clock = λ k. k }
 
-knows_link : {S D L N C : Type 0} (port : ℕ) (h : Holdings S D L N C) (now : Held L) → IsKnown now → KnowsStill h (with_link h port now)
+pub knows_link : {S D L N C : Type 0} (port : ℕ) (h : Holdings S D L N C) (now : Held L) → IsKnown now → KnowsStill h (with_link h port now)
 knows_link port h now known =
     record { sources = λ n k. k; disks = λ n k. k; links = λ other k. known_after nat_eq h.links port other now known k; sessions = λ other k. k; clock = λ k. k }
 
-knows_clock : {S D L N C : Type 0} (h : Holdings S D L N C) (now : Held C) → IsKnown now → KnowsStill h (with_clock h now)
+pub knows_clock : {S D L N C : Type 0} (h : Holdings S D L N C) (now : Held C) → IsKnown now → KnowsStill h (with_clock h now)
 knows_clock h now known = record { sources = λ n k. k; disks = λ n k. k; links = λ port k. k; sessions = λ port k. k; clock = λ k. known }
 
 knows_session : {S D L N C : Type 0} (port : ℕ) (h : Holdings S D L N C) (now : Held N) → IsKnown now → KnowsStill h (with_session h port now)
@@ -43,7 +43,7 @@ knows_session port h now known =
 module _ {S D L N C T : Type 0} (P : Holdings S D L N C → Type 0) (with : Holdings S D L N C → Held T → Holdings S D L N C) (back : T)
     (knows : (h : Holdings S D L N C) (now : Held T) → IsKnown now → KnowsStill h (with h now)) (before began ended after : Option (Holdings S D L N C))
     (lends : Told before began (λ h now. P h × (now ≡ with h lent))) (meanwhile : Told began ended KnowsStill) where
-  knows_then : (a b c : Holdings S D L N C) → KnowsStill a b → KnowsStill b c → KnowsStill a c
+  pub knows_then : (a b c : Holdings S D L N C) → KnowsStill a b → KnowsStill b c → KnowsStill a c
   knows_then a b c first then = record {
     sources = λ name k. then.sources name (first.sources name k);
     disks = λ name k. then.disks name (first.disks name k);

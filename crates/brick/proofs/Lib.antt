@@ -6,9 +6,11 @@ mod Starting
 mod Turning
 mod Completing
 mod Knowing
+mod Returning
 mod Refusing
 mod SameBricks
 mod FromBrick
 mod MayHosting
+mod Nesting
 mod InOrder
 mod Printing

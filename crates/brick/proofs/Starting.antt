@@ -13,8 +13,11 @@ use Rattle.replica.specs.Parts.{IsFirstView}
 use Rattle.fab_base.specs.declared.identities.BrickId.{BrickId}
 use Rattle.fab_base.specs.Layouts.{Layout}
 use Rattle.protocol.specs.Nodes as machine
-use Rattle.node.specs.Running.{shape_at, ImageShows}
-use Rattle.brick.specs.Serves.{MayStart}
+use Rattle.fab_disk.specs.Changing.{Stands}
+use Rattle.node.specs.Running.{Running, shape_at, state_of, ImageShows}
+use Rattle.node.proofs.Shown.{leaves_shown}
+use Rattle.brick.specs.Serves.{IsLeft, MayStart}
+use Rattle.brick.specs.Views.{Views}
 
 -- an image is found as one state
 found_once : (shape : Shape) (st other : StateOf Version) (image : List ℕ) → IsFound shape st image → IsFound shape other image → st ≡ other
@@ -51,3 +54,14 @@ pub shown_as : (layout other : Layout) (me you : BrickId) (state : machine.Node)
     → ImageShows layout me state image → ImageShows other you state image
 shown_as layout other me you state image layouts bricks shows =
     subst (λ (l : Layout). ImageShows l you state image) layouts (subst (λ (b : BrickId). ImageShows layout b state image) bricks shows)
+
+-- a disk that a brick of this layout and number left, where it stands for the brick
+pub left_by : {D L C : Type 0} (v : Views D L C) (layout : Layout) (me : BrickId) (node : Running D) (back : D) (whole : Type 0) → back ≡ node.brick.disk
+    → node.layout ≡ layout → node.me ≡ me → (v.disk.tells → whole → Stands v.disk (ImageShows node.layout node.me (state_of node)) back)
+    → IsLeft v layout me node back whole
+left_by v layout me node back whole disk layouts bricks stands = record {
+  disk = disk;
+  shows = λ tells is. shown_as node.layout layout node.me me (state_of node) (v.disk.seen back) layouts bricks (stands tells is).has;
+  durable = λ tells is image may. shown_as node.layout layout node.me me (state_of node) image layouts bricks
+      (leaves_shown v.disk node.layout node.me (state_of node) back (stands tells is) image may);
+}

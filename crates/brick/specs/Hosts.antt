@@ -95,3 +95,14 @@ pub record Borrows {S D L N C T : Type 0} (before after : HostSeen S D L N C) (c
   pub asked : after.asked ≡ ended.asked
   pub faults : after.faults ≡ ended.faults
   pub regains : Told ended.holds after.holds (λ h now. now ≡ with h (here back))
+
+-- A thing was lent by this call, from where it stands among what is held.
+abbrev pub IsLent : {S D L N C T : Type 0} → HostSeen S D L N C → HostSeen S D L N C → Asked → (Holdings S D L N C → Held T)
+    → (Holdings S D L N C → Held T → Holdings S D L N C) → T → Type 0
+IsLent before after call at with thing = AsksOnly before after call (λ h now. (at h ≡ here thing) × (now ≡ with h lent))
+
+-- A thing was given back as it is now. No call was asked.
+pub record IsReturned {S D L N C T : Type 0} (before after : HostSeen S D L N C) (with : Holdings S D L N C → Held T → Holdings S D L N C) (back : T) : Type 0 where
+  pub asked : after.asked ≡ before.asked
+  pub faults : after.faults ≡ before.faults
+  pub regains : Told before.holds after.holds (λ h now. now ≡ with h (here back))

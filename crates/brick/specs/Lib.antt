@@ -6,4 +6,5 @@ pub mod Layouts
 pub mod Formats
 pub mod Serves
 pub mod Locals
+pub mod Openings
 pub mod Bricks

@@ -6,7 +6,7 @@ ghost use Rattle.fab_io.specs.Ends.{Kept};
 ghost use Rattle.hosting.specs.Hosted.{IsSound, AreSound};
 ghost use Rattle.brick.specs.Endings.{status_of, IsDone};
 ghost use Rattle.brick.specs.Hosts.{host_seen, Told, Has, KnowsStill};
-ghost use Rattle.brick.specs.Locals.{ending_by, AreSame, AreRunning, FailsOut, RunsCommands, RunsSession, HostsBySource, HostsBySession, DoesTask, HostsByClient, HostsByClock, HasCommands, HasSession, HasTask, HasClient, HasEnds};
+ghost use Rattle.brick.specs.Locals.{ending_by, AreSame, AreRunning, FailsOut, RunsCommands, RunsSession, HostsBySource, HostsBySession, DoesTask, HostsByClock, HasCommands, HasSession, HasTask, HasEnds};
 ghost use Rattle.brick.specs.Views.{views, session_of, session_view, streams};
 
 use crate::endings::Ending;
@@ -19,10 +19,13 @@ use layout::Layout;
 use nbd_hosting::serve_session;
 use std::alloc::Global;
 
+/// The port of the client's link: any free one.
+const CLIENT_PORT: u16 = 0;
+
 /// The name of the source of the commands.
 const STANDARD_INPUT: &str = "-";
 
-/// Does a task with the bricks by the clock, gives the clock back, and hands the bricks back.
+/// Does a task with the bricks by the clock, for a client with a link of its own, gives back the link and the clock, and hands the bricks back.
 pub(crate) fn run_by_clock<H: Host, K: Sink>(
     alloc: Global,
     host: &mut H,
@@ -48,40 +51,18 @@ pub(crate) fn run_by_clock<H: Host, K: Sink>(
         Ok(clock) => clock,
         Err(fault) => return (bricks, Ending::refusal(fault)),
     };
+    let link = match host.link(CLIENT_PORT) {
+        Ok(link) => link,
+        Err(fault) => {
+            host.keep_clock(clock);
+            return (bricks, Ending::refusal(fault));
+        }
+    };
     let timed = TimedBricks { bricks, clock };
-    let (timed, ending) = run_by_client(alloc, host, out, layout, task, timed);
+    let (timed, link, ending) = run_task(alloc, host, out, layout, task, timed, link);
+    host.keep_link(CLIENT_PORT, link);
     let TimedBricks { bricks, clock } = timed;
     host.keep_clock(clock);
-    (bricks, ending)
-}
-
-/// Does a task with the bricks for a client with a link of its own, gives the link back, and hands the bricks back.
-fn run_by_client<H: Host, K: Sink>(
-    alloc: Global,
-    host: &mut H,
-    out: &mut K,
-    layout: &Layout,
-    task: Task,
-    bricks: TimedBricks<H::Disk, H::Link, H::Clock>,
-) -> (TimedBricks<H::Disk, H::Link, H::Clock>, Ending)
-    ensures hosts { HostsByClient (streams H.Source.Source H.Input.Source H.Output.Sink) (views H.Disk.Disk H.Link.Link H.Clock.Clock) layout.now task
-        (host_seen (H.faults host.old) (H.asked host.old) (H.holds host.old)) (host_seen (H.faults host.new) (H.asked host.new) (H.holds host.new))
-        bricks result.0 (K.told out.old) (K.told out.new) result.1 }
-    ensures same { AreSame bricks.bricks.bricks result.0.bricks.bricks }
-    ensures runs_still { AreRunning bricks.bricks.bricks → result.1 ≢ Ending.Disk → AreRunning result.0.bricks.bricks }
-    ensures knows { Told (H.holds host.old) (H.holds host.new) KnowsStill }
-    ensures stays { H.sound host.old → AreSound H.Disk.Disk H.Link.Link H.Clock.Clock bricks.bricks.bricks bricks.clock
-        → H.sound host.new × AreSound H.Disk.Disk H.Link.Link H.Clock.Clock result.0.bricks.bricks result.0.clock }
-    ensures sink { Kept (K.faults out.old) (K.faults out.new) (K.sound out.old) (K.sound out.new) (FailsOut task result.1) }
-    ensures done { H.sound host.old → AreSound H.Disk.Disk H.Link.Link H.Clock.Clock bricks.bricks.bricks bricks.clock → K.sound out.old
-        → Has (H.holds host.old) (HasClient task) → IsDone result.1 }
-{
-    let link = match host.link(0) {
-        Ok(link) => link,
-        Err(fault) => return (bricks, Ending::refusal(fault)),
-    };
-    let (bricks, link, ending) = run_task(alloc, host, out, layout, task, bricks, link);
-    host.keep_link(0, link);
     (bricks, ending)
 }
 

@@ -7,6 +7,7 @@ mod endings;
 mod formats;
 mod layout_texts;
 mod locals;
+mod openings;
 mod programs;
 mod serves;
 mod words;

@@ -1,20 +1,17 @@
 //! `brick local` and `brick nbd`.
 
-ghost use Rattle.std.specs.Prelude.{◌≡◌, ◌≢◌, ◌<◌, ◌≤◌, ◌+◌, [], ◌∷◌, ◌++◌, Some, false, length, IfOk, string_bytes};
+ghost use Rattle.std.specs.Prelude.{◌≡◌, ◌≢◌, ◌<◌, ◌+◌, [], ◌∷◌, ◌++◌, Some, false, length, IfOk, string_bytes};
 ghost use Rattle.std.specs.List.{AllByRecursion};
 ghost use Rattle.fab_io.specs.Ends.{Kept};
 ghost use Rattle.hosting.specs.Hosted.{Hosted, Begins, TakesLast, IsSound};
-ghost use Rattle.node.specs.Running.{IsSameBrick};
-ghost use Rattle.serving.specs.Ports.{ports_of, port_of};
 ghost use Rattle.brick.specs.Endings.{IsDone};
 ghost use Rattle.brick.specs.Hosts.{host_seen, Told, Has, KnowsStill};
-ghost use Rattle.brick.specs.Locals.{disk_name, AreSame, AreRunning, FailsOut, HostsByLink, HostsOver, HostsFrom, HostsLayout, HasRest, HasBricks};
-ghost use Rattle.brick.specs.Serves.{MayStart};
+ghost use Rattle.brick.specs.Locals.{disk_name, AreSame, AreRunning, FailsOut, HostsFrom, HostsLayout, HasBricks};
 ghost use Rattle.brick.specs.Views.{views, streams};
 
 use crate::commands::run_by_clock;
 use crate::endings::Ending;
-use crate::serves::{port_of, start};
+use crate::openings::{Equipment, give_back, open_brick, port_of};
 use crate::words::Task;
 use fab_base::BrickId;
 use fab_disk::Disk;
@@ -59,7 +56,8 @@ fn disk_name(alloc: Global, prefix: &str, id: u16) -> Result<String, AllocError>
 
 /// Hosts the bricks from this number on, beside those that were started, and past the last one does the task. It gives back to the host what it
 /// opened, and hands back the bricks that were started, as they are then.
-#[cycle(bricks)]
+///
+/// It calls itself, since each disk is given back by its name: to make that again might find no memory.
 fn host_bricks<H: Host, K: Sink>(
     alloc: Global,
     host: &mut H,
@@ -88,114 +86,27 @@ fn host_bricks<H: Host, K: Sink>(
     if id >= layout.bricks() {
         return run_by_clock(alloc, host, out, layout, task, bricks);
     }
+    let me = BrickId(id);
+    let port = port_of(layout, me);
     let name = match disk_name(alloc, prefix, id) {
         Ok(name) => name,
         // A name without memory is told as a disk that was refused for that.
         Err(_) => return (bricks, Ending::Memory),
     };
     let name = name.as_str();
-    let disk = match host.disk(name, false) {
-        Ok(disk) => disk,
-        Err(fault) => return (bricks, Ending::refusal(fault)),
-    };
-    let me = BrickId(id);
-    let (bricks, disk, ending) = host_store(
-        alloc, host, out, prefix, layout, task, me, bricks, disk,
-    );
-    host.keep_disk(name, disk);
-    (bricks, ending)
-}
-
-/// Starts the brick whose store a disk holds, hosts it and those behind it, and hands the disk back.
-#[cycle(bricks)]
-fn host_store<H: Host, K: Sink>(
-    alloc: Global,
-    host: &mut H,
-    out: &mut K,
-    prefix: &str,
-    layout: &Layout,
-    task: Task,
-    me: BrickId,
-    bricks: HostedBricks<H::Disk, H::Link>,
-    disk: H::Disk,
-) -> (HostedBricks<H::Disk, H::Link>, H::Disk, Ending)
-    requires has { me.0 < layout.now.bricks }
-    requires few { layout.now.bricks ≤ 64 }
-    requires count { length bricks.bricks ≡ me.0 }
-    requires room { bricks.room ≡ layout.now.bricks }
-    requires running { AreRunning bricks.bricks }
-    ensures hosts { HostsOver (views H.Disk.Disk H.Link.Link H.Clock.Clock) layout.now me
-        (HostsFrom (streams H.Source.Source H.Input.Source H.Output.Sink) (views H.Disk.Disk H.Link.Link H.Clock.Clock) layout.now prefix.now task
-        (K.told out.old) (K.told out.new) result.2 (me.0 + 1)) disk result.1
-        (host_seen (H.faults host.old) (H.asked host.old) (H.holds host.old)) (host_seen (H.faults host.new) (H.asked host.new) (H.holds host.new))
-        bricks.bricks result.0.bricks (K.told out.old) (K.told out.new) result.2 }
-    ensures same { AreSame bricks.bricks result.0.bricks }
-    ensures runs_still { result.2 ≢ Ending.Disk → AreRunning result.0.bricks }
-    ensures knows { Told (H.holds host.old) (H.holds host.new) KnowsStill }
-    ensures stays { H.sound host.old → AllByRecursion (IsSound H.Disk.Disk H.Link.Link H.Clock.Clock) bricks.bricks → H.Disk.sound disk
-        → H.sound host.new × AllByRecursion (IsSound H.Disk.Disk H.Link.Link H.Clock.Clock) result.0.bricks × H.Disk.sound result.1 }
-    ensures sink { Kept (K.faults out.old) (K.faults out.new) (K.sound out.old) (K.sound out.new) (FailsOut task result.2) }
-    ensures done { H.sound host.old → AllByRecursion (IsSound H.Disk.Disk H.Link.Link H.Clock.Clock) bricks.bricks → H.Disk.sound disk → K.sound out.old
-        → MayStart H.Disk.tells H.Disk.seen layout.now me disk
-        → Has (H.holds host.old) (HasRest H.Disk.tells H.Disk.seen layout.now prefix.now task me) → IsDone result.2 }
-{
-    match start::<H>(alloc, layout, me, disk) {
-        Ok(node) => {
-            let (bricks, node, ending) = host_link(
-                alloc, host, out, prefix, layout, task, me, bricks, node,
-            );
-            (bricks, node.into_disk(), ending)
+    let (node, link) = match open_brick(alloc, host, name, layout, me) {
+        Ok(opened) => opened,
+        Err((opened, ending)) => {
+            give_back(host, name, port, opened);
+            return (bricks, ending);
         }
-        Err((ending, disk)) => (bricks, disk, ending),
-    }
-}
-
-/// Opens the link of a brick, hosts the brick and those behind it, and gives the link back.
-#[cycle(bricks)]
-fn host_link<H: Host, K: Sink>(
-    alloc: Global,
-    host: &mut H,
-    out: &mut K,
-    prefix: &str,
-    layout: &Layout,
-    task: Task,
-    me: BrickId,
-    bricks: HostedBricks<H::Disk, H::Link>,
-    node: Node<H::Disk>,
-) -> (HostedBricks<H::Disk, H::Link>, Node<H::Disk>, Ending)
-    requires has { me.0 < layout.now.bricks }
-    requires few { layout.now.bricks ≤ 64 }
-    requires count { length bricks.bricks ≡ me.0 }
-    requires room { bricks.room ≡ layout.now.bricks }
-    requires running { AreRunning bricks.bricks }
-    requires runs { node.brick.halted ≡ false }
-    ensures hosts { HostsByLink (port_of (ports_of layout.now) me)
-        (HostsFrom (streams H.Source.Source H.Input.Source H.Output.Sink) (views H.Disk.Disk H.Link.Link H.Clock.Clock) layout.now prefix.now task
-        (K.told out.old) (K.told out.new) result.2 (me.0 + 1))
-        (host_seen (H.faults host.old) (H.asked host.old) (H.holds host.old)) (host_seen (H.faults host.new) (H.asked host.new) (H.holds host.new))
-        bricks.bricks result.0.bricks node result.1 (K.told out.old) (K.told out.new) result.2 }
-    ensures same { AreSame bricks.bricks result.0.bricks }
-    ensures runs_still { result.2 ≢ Ending.Disk → AreRunning result.0.bricks }
-    ensures brick { IsSameBrick node result.1 }
-    ensures runs { result.2 ≢ Ending.Disk → result.1.brick.halted ≡ false }
-    ensures knows { Told (H.holds host.old) (H.holds host.new) KnowsStill }
-    ensures stays { H.sound host.old → AllByRecursion (IsSound H.Disk.Disk H.Link.Link H.Clock.Clock) bricks.bricks → H.Disk.sound node.brick.disk
-        → H.sound host.new × AllByRecursion (IsSound H.Disk.Disk H.Link.Link H.Clock.Clock) result.0.bricks × H.Disk.sound result.1.brick.disk }
-    ensures sink { Kept (K.faults out.old) (K.faults out.new) (K.sound out.old) (K.sound out.new) (FailsOut task result.2) }
-    ensures done { H.sound host.old → AllByRecursion (IsSound H.Disk.Disk H.Link.Link H.Clock.Clock) bricks.bricks → H.Disk.sound node.brick.disk → K.sound out.old
-        → Has (H.holds host.old) (HasRest H.Disk.tells H.Disk.seen layout.now prefix.now task me) → IsDone result.2 }
-{
-    let port = port_of(layout, me);
-    let link = match host.link(port) {
-        Ok(link) => link,
-        Err(fault) => return (bricks, node, Ending::refusal(fault)),
     };
     let bricks = with_brick(bricks, node, link);
-    let (bricks, ending) = host_bricks(alloc, host, out, prefix, layout, task, me.0 + 1, bricks);
-    let mut bricks = bricks;
-    let (node, link) = take_last(&mut bricks);
-    host.keep_link(port, link);
-    (bricks, node, ending)
+    let (bricks, ending) = host_bricks(alloc, host, out, prefix, layout, task, id + 1, bricks);
+    let (bricks, node, link) = without_last(bricks);
+    let equipment = Equipment::Linked(node.into_disk(), link);
+    give_back(host, name, port, equipment);
+    (bricks, ending)
 }
 
 /// Puts a brick behind these. There is room for it.
@@ -218,12 +129,13 @@ fn with_brick<D: Disk, L: Link>(
 }
 
 /// Takes the last of these bricks away. There is one.
-fn take_last<D: Disk, L: Link>(bricks: &mut HostedBricks<D, L>) -> (Node<D>, L)
-    requires { 0 < length bricks.old.bricks }
-    ensures { TakesLast bricks.old.bricks bricks.new.bricks (Some result) }
+fn without_last<D: Disk, L: Link>(bricks: HostedBricks<D, L>) -> (HostedBricks<D, L>, Node<D>, L)
+    requires { 0 < length bricks.bricks }
+    ensures { TakesLast bricks.bricks result.0.bricks (Some (result.1, result.2)) }
 {
+    let mut bricks = bricks;
     match bricks.pop() {
-        Some(taken) => taken,
+        Some((node, link)) => (bricks, node, link),
         None => unreachable!(),
     }
 }

@@ -7,8 +7,9 @@
 //!
 //! A line `memory WORDS..` runs a command over a host in memory, which keeps what it holds from line to line, and holds the layout of `data/`
 //! as `layout`. Behind ` < ` stands the name of a file in `data/`: its lines `PORT HEX` are the datagrams that wait at the link of brick 0.
-//! After the line `fail` the next call of that host fails. The line `session PIECE NAME` puts a session into that host, whose client sends the bytes
-//! of the file NAME in `data/`, at most PIECE of them at a read, and links at which the datagrams of `data/replies` wait for the bricks' client.
+//! After the line `fail` the next call of that host fails. The line `session PIECE NAME REPLIES` puts a session into that host, whose client sends the
+//! bytes of the file NAME in `data/`, at most PIECE of them at a read, and links at which the datagrams of the file REPLIES wait for the bricks' client;
+//! that is `data/replies` where no other is named.
 //!
 //! For each command its line, its status and what it printed are printed. For one in memory the datagrams that were sent by brick 0 and by the bricks'
 //! client follow, and for both kinds of a session what was sent to its client.
@@ -214,6 +215,7 @@ fn add_session(
     host: &mut MemHost,
     piece: &str,
     name: &str,
+    replies: &str,
 ) -> io::Result<()> {
     let alloc = rt.alloc();
     let mut source = MemSource::new(read_bytes(alloc, fs::read_to_string(rt, name)?.as_str())?);
@@ -222,7 +224,7 @@ fn add_session(
         _ => return Err(refused()),
     }
     let sink = MemSink::new(alloc);
-    let replies = read_datagrams(alloc, fs::read_to_string(rt, "replies")?.as_str())?;
+    let replies = read_datagrams(alloc, fs::read_to_string(rt, replies)?.as_str())?;
     for port in OTHER_PORTS {
         if host.add_link(port, MemLink::new(Vec::new(alloc))).is_err() {
             return Err(refused());
@@ -267,8 +269,9 @@ fn main(rt: HostRuntime) -> io::Result<()> {
             let next = host.asked().len() as u64 + 1;
             host.fail_at(vec![in alloc; next; 1]?);
         } else if let Some(rest) = line.strip_prefix("session ") {
-            let (piece, name) = rest.split_once(' ').unwrap_or((rest, ""));
-            add_session(&rt, &mut host, piece, name)?;
+            let (piece, names) = rest.split_once(' ').unwrap_or((rest, ""));
+            let (name, replies) = names.split_once(' ').unwrap_or((names, "replies"));
+            add_session(&rt, &mut host, piece, name, replies)?;
         } else if let Some(rest) = line.strip_prefix("client ") {
             let (name, command) = rest.split_once(' ').unwrap_or((rest, ""));
             let says = read_bytes(alloc, fs::read_to_string(&rt, name)?.as_str())?;

@@ -4,7 +4,7 @@ use Rattle.stamp_store.specs.declared.log_records.LogChange.{LogChange}
 use Rattle.stamp_store.specs.declared.log_records.LogChange.TheVariants.{Same, Collect, Slot}
 use Rattle.fab_base.specs.declared.stamps.Stamp.{Stamp}
 use Rattle.brick_state.specs.Entries.{Entry}
-use Rattle.brick_state.specs.States.{Place, StripeOf, StateOf}
+use Rattle.brick_state.specs.States.{Place, StripeOf, StateOf, stripe_at, with_order, ordered}
 use Rattle.brick_state.specs.Folds.{Limits, slot_limits, log_changed, placed}
 use Rattle.brick_state.specs.Maps.{AnswersAt}
 use Rattle.brick_state.specs.Indexes.{Answers}
@@ -26,6 +26,13 @@ pub placed_answer : (p : Place) (st : StateOf Entry) (new : List (Place × Strip
     → AnswersAt p st.stripes new changed answer → Answers (with_stripes st new) (placed p st changed) answer
 placed_answer p st new None answer h = h.0
 placed_answer p st new (Some s) answer h = (h.0, ap (with_stripes st) h.1)
+
+-- an order stamp of a stripe is one of the state
+pub order_answer : (p : Place) (t : Stamp) (st : StateOf Entry) (new : List (Place × StripeOf Entry)) (refused answer : Bool)
+    → AnswersAt p st.stripes new (cond refused None (Some (with_order t (stripe_at st p)))) answer
+    → Answers (with_stripes st new) (cond refused None (Some (ordered p t st))) answer
+order_answer p t st new true answer h = h.0
+order_answer p t st new false answer h = (h.0, ap (with_stripes st) h.1)
 
 -- a change that can't be leaves the stripes as they were
 pub placed_refused : (p : Place) (old new : List (Place × StripeOf Entry)) (changed : Option (StripeOf Entry)) (answer : Bool)

@@ -74,7 +74,7 @@ abbrev pub placed : Place → StateOf Entry → Option (StripeOf Entry) → Opti
 placed p st None = None
 placed p st (Some s) = Some (with_stripe p s st)
 
--- One record more. None where it can't be: a group above 63, a view below 2, one live record too many, or as of a log's change.
+-- One record more. None where it can't be: a group from most_groups on, a view below 2, one live record too many, or as of a log's change.
 unfoldable pub applied : Limits → Record → StateOf Entry → Option (StateOf Entry)
 applied limits (forms.Kept (Boot count)) st = Some (booted count st)
 applied limits (forms.Kept (kinds.View g view synced)) st = if nat_lt g.0 most_groups && nat_le 2 view.number.0 then Some (viewed g.0 view synced st) else None

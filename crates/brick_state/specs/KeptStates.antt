@@ -33,9 +33,9 @@ abbrev pub IsLearnt : Option (View × Bool) → Type 0
 IsLearnt None = Unit {0}
 IsLearnt (Some known) = 2 ≤ known.0.number.0
 
--- 64 groups; stripes by their places; no more live records than there may be
+-- the most groups that there may be; stripes by their places; no more live records than there may be
 pub record IsKeptState (limits : Limits) (st : StateOf Entry) : Type 0 where
-  pub all_groups : length st.groups ≡ 64
+  pub all_groups : length st.groups ≡ most_groups
   pub groups : AllByRecursion (λ group. IsLearnt group.known) st.groups
   pub sorted : IsStrictlySortedBy place_cmp (keys_of st.stripes)
   pub stripes : AllByRecursion (λ e. IsKeptStripe limits e.0 e.1) st.stripes

@@ -5,6 +5,9 @@ ghost use Rattle.brick_state.specs.States.{with_view, with_ballots};
 
 use fab_base::{Ballot, Members, View};
 
+/// How many groups there may be: a brick keeps views and ballots of so many.
+pub const MOST_GROUPS: u32 = 64;
+
 /// What is kept of a group.
 #[derive(Drop)]
 pub struct Group {

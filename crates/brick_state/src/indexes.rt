@@ -1,11 +1,10 @@
 //! The index: what a brick keeps, in memory.
 
-ghost use Rattle.std.specs.Prelude.{◌≡◌, ◌≤◌, ◌&&◌, not, length};
+ghost use Rattle.std.specs.Prelude.{◌≡◌, ◌≤◌, length};
 ghost use Rattle.fab_base.specs.Layouts.{most_groups};
-ghost use Rattle.fab_base.specs.Stamps.{stamp_same, first_stamp};
 ghost use Rattle.brick_state.specs.Folds.{slot_named};
 
-use crate::groups::Group;
+use crate::groups::{Group, MOST_GROUPS};
 use crate::records::Record;
 use crate::stripe_tables::StripeTable;
 use crate::stripes::{Place, Stripe, ZERO_SLOT};
@@ -22,7 +21,7 @@ pub struct Index {
     boot: u32,
     groups: Vec<Group>,
     stripes: StripeTable,
-    ghost all_groups: { length groups.items ≡ 64 },
+    ghost all_groups: { length groups.items ≡ most_groups },
     ghost few: { records ≤ 4294967295 },
 }
 
@@ -44,7 +43,7 @@ impl Index {
     {
         let stripes = StripeTable::new(alloc, slots);
         let mut groups = Vec::new(alloc);
-        for _ in 0..64u8 {
+        for _ in 0..MOST_GROUPS {
             groups.push(Group {
                 known: None,
                 ballots: None,
@@ -208,7 +207,7 @@ impl Index {
         ensures refused { result ≡ false → state_of self.new ≡ state_of self.old }
         ensures limits { limits_of self.new ≡ limits_of self.old }
     {
-        if group >= 64 || view.number.0 < 2 {
+        if group >= MOST_GROUPS || view.number.0 < 2 {
             return false;
         }
         let first = if synced {
@@ -233,7 +232,7 @@ impl Index {
         ensures refused { result ≡ false → state_of self.new ≡ state_of self.old }
         ensures limits { limits_of self.new ≡ limits_of self.old }
     {
-        if group >= 64 {
+        if group >= MOST_GROUPS {
             return false;
         }
         let entry = &mut self.groups[group as usize];
@@ -250,16 +249,12 @@ impl Index {
         ensures limits { limits_of self.new ≡ limits_of self.old }
         ensures enough { HasRoom self.old.stripes.views place → IsOk result }
     {
-        if place.0 >= 64 {
+        if place.0 >= MOST_GROUPS {
             return Ok(false);
         }
         self.stripes.make_room(self.alloc, place, ZERO_SLOT)?;
-        let adds = adds_record(stamp, self.order(place));
-        if adds && self.is_full() {
-            return Ok(false);
-        }
-        self.stripes.set_order(place, stamp);
-        Ok(true)
+        let full = self.is_full();
+        Ok(self.stripes.set_order(place, stamp, full))
     }
 
     /// The order stamp of a stripe.
@@ -280,7 +275,7 @@ impl Index {
         ensures enough { HasRoom self.old.stripes.views (place logged.now.group logged.now.view logged.now.stripe)
             → HasSlotRoom self.old.stripes.slots self.old.stripes.counts (slot_named logged.now.change) → IsOk result }
     {
-        if logged.group.0 >= 64 {
+        if logged.group.0 >= MOST_GROUPS {
             return Ok(false);
         }
         let place = (logged.group.0, logged.view.0, logged.stripe.0);
@@ -300,11 +295,4 @@ fn slot_named(change: LogChange) -> u32
         LogChange::Collect => ZERO_SLOT,
         LogChange::Slot { slot, .. } => slot,
     }
-}
-
-// Whether an order stamp in the place of another is one live record more.
-fn adds_record(stamp: Stamp, order: Stamp) -> bool
-    ensures { result ≡ (stamp_same order first_stamp && not (stamp_same stamp first_stamp)) }
-{
-    order.is_same(Stamp::FIRST) && !stamp.is_same(Stamp::FIRST)
 }

@@ -19,7 +19,7 @@ mod top_times;
 mod view_stripes;
 mod view_tables;
 
-pub use groups::Group;
+pub use groups::{Group, MOST_GROUPS};
 pub use indexes::Index;
 pub use records::Record;
 pub use stripes::{Entry, FIRST_ENTRY, Place, Stripe, ZERO_SLOT};

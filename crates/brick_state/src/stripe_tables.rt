@@ -1,11 +1,11 @@
 //! The stripes of a brick with what is counted of them.
 
-ghost use Rattle.std.specs.Prelude.{◌≡◌, ◌≢◌, ◌+◌, ◌-◌, ◌<◌, ◌≤◌, ℕ, ◌==◌, ◌^◌, not, filter, length, IfOk, OnOk, IsOk, IfNone, IfSome, IsSome, nat_lt, replicate, slice_index_or, sum_by, true, []};
+ghost use Rattle.std.specs.Prelude.{◌≡◌, ◌≢◌, ◌+◌, ◌-◌, ◌<◌, ◌≤◌, ℕ, ◌==◌, ◌^◌, ◌&&◌, false, if◌then◌else◌, Some, None, not, filter, length, IfOk, OnOk, IsOk, IfNone, IfSome, IsSome, nat_lt, replicate, slice_index_or, sum_by, true, []};
 ghost use Rattle.std.specs.Map.{remove_entry};
 ghost use Rattle.std.specs.BTreeMap.{is_at, get, values};
 ghost use Rattle.fab_base.specs.Stamps.{stamp_below, stamp_same, first_stamp};
 ghost use Rattle.brick_state.specs.States.{first_stripe, stripe_in, has_version, stripe_of, stamp_of, put, live_in, weight, with_order, with_added, with_bottom, with_collected, is_of_view, newest_entry};
-ghost use Rattle.brick_state.specs.Maps.{listed_in, HasRoom, view_cmp};
+ghost use Rattle.brick_state.specs.Maps.{listed_in, HasRoom, view_cmp, AnswersAt};
 ghost use Rattle.brick_state.specs.Folds.{adds_order, is_above};
 ghost use Rattle.brick_state.specs.Slots.{slots_in, IsFree};
 ghost use Rattle.brick_state.specs.Times.{time_in};
@@ -125,18 +125,25 @@ impl StripeTable {
         Ok(())
     }
 
-    /// Sets an order stamp.
-    pub fn set_order(&mut self, place: Place, stamp: Stamp)
+    /// Sets an order stamp. False where that is one live record more, and `full` tells that there are as many as there may be:
+    /// then nothing is changed. The stripe is looked up once for both stamps.
+    pub fn set_order(&mut self, place: Place, stamp: Stamp, full: bool) -> bool
         requires room { HasRoom self.old.views place }
-        requires fits { adds_order stamp (stripe_in (listed_in self.old.views) place) ≡ true → live_in (listed_in self.old.views) < 4294967295 }
-        ensures order { listed_in self.new.views ≡ put place (with_order stamp (stripe_in (listed_in self.old.views) place))
-            (listed_in self.old.views) }
+        requires fits { full ≡ false → live_in (listed_in self.old.views) < 4294967295 }
+        ensures answer { AnswersAt place (listed_in self.old.views) (listed_in self.new.views)
+            (if adds_order stamp (stripe_in (listed_in self.old.views) place) && full then None else Some
+            (with_order stamp (stripe_in (listed_in self.old.views) place))) result }
         ensures slots { self.new.slots ≡ self.old.slots }
     {
         let replaced = stripe_maps::order(&self.views, place);
         let before = order_weight(replaced);
+        let adds = adds_record(stamp, replaced);
+        if adds && full {
+            return false;
+        }
         stripe_maps::change(&mut self.views, place, StripeChange::Order(stamp));
         self.live = self.live - before + order_weight(stamp);
+        true
     }
 
     /// Adds a version.
@@ -205,6 +212,13 @@ impl StripeTable {
             self.live -= table.live();
         }
     }
+}
+
+// Whether an order stamp in the place of another is one live record more.
+fn adds_record(stamp: Stamp, order: Stamp) -> bool
+    ensures { result ≡ (stamp_same order first_stamp && not (stamp_same stamp first_stamp)) }
+{
+    order.is_same(Stamp::FIRST) && !stamp.is_same(Stamp::FIRST)
 }
 
 // The live records that an order stamp is.

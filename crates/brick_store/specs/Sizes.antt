@@ -62,7 +62,7 @@ framed body = 6 + body
 abbrev pub longest_frame : ℕ
 longest_frame = 145
 
--- the most bytes of the frames of what is kept: of the count of openings, of the views and ballots of 64 groups, and of so many live records
+-- the most bytes of the frames of what is kept: of the count of openings, of the views and ballots of all groups, and of so many live records
 abbrev pub most_listed : ℕ → ℕ
 most_listed live = 15690 + 41 * live
 

@@ -25,7 +25,7 @@ impl<D: Disk> BrickStore<D> {
     }
 
     /// The greatest view learnt of a group, above 1, and whether all its stripes are known to be in it. None before a view was
-    /// learnt. There is none of a group from 64 on.
+    /// learnt. There is none of a group from `MOST_GROUPS` on.
     pub fn known_view(&self, group: GroupId) -> Option<(View, bool)>
         requires { group.0 < most_groups }
         ensures value { result ≡ (group_at self.now.state group.0).known }

@@ -39,6 +39,13 @@ pub half_within : (shape : Shape) (half : Half) → half_at shape half + half_si
 half_within shape A = omega arith
 half_within shape B = omega arith
 
+-- a list that fits in its half, as a clause sees the store, ends within it
+pub list_within : {D : Type 0} (held s : Held D) (half : Half) (frames : List Frame) (line : List ℕ) (at : ℕ) → held ≡ s
+    → size_of frames + 1 ≤ half_size s.shape → line ≡ closed_list frames → at ≡ half_at held.shape half → at + length line ≤ store_end held.shape
+list_within held s half frames line at view fits line_is at_is =
+    let here = subst (λ h. size_of frames + 1 ≤ half_size h.shape) (sym view) fits in
+    omega (arith, at_is, half_within held.shape half, here, ap length line_is, length-closed_list frames)
+
 -- what shuts a gate is a byte at most
 pub closing_short : (b : Bool) → length (closing b) ≤ 1
 closing_short true = omega arith

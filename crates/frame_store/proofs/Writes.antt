@@ -1,5 +1,5 @@
 -- What a write of the list leaves at each of its exits: in the words of a clause, and of the store's fields.
-use Rattle.std.proofs.Common.{◌≡◌, ◌⊎◌, ℕ, ◌+◌, ◌-◌, ◌^◌, ◌<◌, ◌≤◌, max, Bool, true, false, List, [], ◌∷◌, ◌++◌, length, Option, Some, None, sym, ap, subst, arith}
+use Rattle.std.proofs.Common.{◌≡◌, ℕ, ◌+◌, ◌-◌, ◌^◌, ◌<◌, ◌≤◌, max, Bool, true, false, List, [], ◌∷◌, ◌++◌, length, Option, Some, None, sym, subst}
 use Rattle.fab_disk.specs.declared.disk.Disk as on_disk
 use Rattle.fab_disk.specs.Disk.{written, Torn}
 use Rattle.fab_disk.specs.Changing.{End, Whole, Still, Run}

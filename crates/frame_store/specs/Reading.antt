@@ -16,6 +16,12 @@ pub record IsShutAt (bytes : List ℕ) (at : ℕ) : Type 0 where
   pub within : at < length bytes
   pub shut : get_or bytes at 0 ≢ open_gate
 
+-- these frames stand at the front of a piece of a list; closed says whether a gate that is not open stands behind them
+pub record IsPiece (bytes : List ℕ) (frames : List Frame) (used : ℕ) (closed : Bool) : Type 0 where
+  pub front : IsFront bytes frames used
+  pub ended : closed ≡ true → IsShutAt bytes used
+  pub not_ended : IsShutAt bytes used → closed ≡ true
+
 -- The list of these bytes has these frames, which are so many bytes; closed says whether a gate that is not open stands behind them.
 pub record IsListOf (bytes : List ℕ) (frames : List Frame) (used : ℕ) (closed : Bool) : Type 0 where
   pub listed : frames_of bytes ≡ frames

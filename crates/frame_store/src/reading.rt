@@ -1,6 +1,6 @@
 //! What is read of a disk when a store is opened.
 
-ghost use Rattle.std.specs.Prelude.{◌≡◌, ◌≢◌, ℕ, ◌+◌, ◌^◌, ◌<◌, ◌≤◌, ◌++◌, ◌∷◌, [], List, ◌↔◌, ◌⊎◌, ◌-◌, min, length, slice_range, take, vec_len, IsTrue, IsOk, IfOk, IfErr, OnOk, IfSome, IfNone, Some, None};
+ghost use Rattle.std.specs.Prelude.{◌≡◌, ◌≢◌, ℕ, ◌+◌, ◌*◌, ◌^◌, ◌<◌, ◌≤◌, ◌++◌, ◌∷◌, [], List, ◌↔◌, ◌⊎◌, ◌-◌, min, length, slice_range, take, vec_len, IsTrue, IsOk, IfOk, IfErr, OnOk, IfSome, IfNone, Some, None};
 ghost use Rattle.std.specs.Int.{w64, from_be_bytes};
 ghost use Rattle.fab_disk.specs.Changing.{Still};
 ghost use Rattle.frame_store.specs.declared.frames.Frame.{Frame};
@@ -8,7 +8,7 @@ ghost use Rattle.frame_store.specs.Layouts.{IsShape, headers_size, open_gate, id
 ghost use Rattle.frame_store.specs.Listed.{frame_at, frame_of, frame_rest, size_of};
 ghost use Rattle.frame_store.specs.Images.{part, IsOpen, IsLater, InForce, IsNoStore, generation_at};
 ghost use Rattle.frame_store.specs.Laid.{Laid, IsCounted};
-ghost use Rattle.frame_store.specs.Reading.{IsFront, IsShutAt, IsListOf};
+ghost use Rattle.frame_store.specs.Reading.{IsFront, IsShutAt, IsPiece, IsListOf};
 
 use crate::buffers::{OPEN, identity};
 use crate::faults::OpenFault;
@@ -207,6 +207,63 @@ fn read_piece<D: Disk>(
     read_front(disk, at, limit, piece.as_mut_slice())
 }
 
+// What a piece of a list gave: the list with its frames, how many bytes were read, how many of these are frames, and whether a
+// gate that is not open stands behind them.
+#[derive(Drop)]
+struct Taken {
+    listing: Listing,
+    len: usize,
+    used: usize,
+    closed: bool,
+}
+
+// Reads a piece of a list, and hands on the frames at its front.
+fn next_piece<D: Disk, T: TakesFrames>(
+    disk: &mut D,
+    at: u64,
+    limit: u64,
+    piece: &mut Vec<u8>,
+    listing: Listing,
+    taker: &mut T,
+) -> Result<Taken, OpenFault>
+    requires below { at ≤ limit }
+    requires reach { limit ≤ 2 ^ 48 }
+    requires within { D.tells → limit ≤ length (D.seen disk.old) }
+    ensures makes { IfOk result (λ taken. (first : _) → T.makes first listing.frames taker.old → T.makes first taken.listing.frames taker.new) }
+    ensures count { IfOk result (λ taken. taken.len ≡ min (limit - at) (vec_len piece.old)) }
+    ensures front { IfOk result (λ taken. (frames : List Frame) × (taken.listing.frames ≡ listing.frames ++ frames)
+        × (taken.used ≡ size_of frames) × (taken.used ≤ taken.len)
+        × (D.tells → IsPiece (part at taken.len (D.seen disk.old)) frames taken.used taken.closed)) }
+    ensures size { vec_len piece.new ≡ vec_len piece.old }
+    ensures still { Still D.Disk disk.old disk.new (result ≡ Err OpenFault.Disk) }
+    ensures certain { D.certain disk.new ≡ D.certain disk.old }
+    ensures only { result ≢ Err OpenFault.NotAStore }
+{
+    let len = read_piece(disk, at, limit, piece)?;
+    let bytes = &piece[..len];
+    let (used, listing) = take_frames(taker, listing, bytes)?;
+    let closed = is_shut(bytes, used);
+    Ok(Taken {
+        listing,
+        len,
+        used,
+        closed,
+    })
+}
+
+// A piece for the bytes that follow: one of twice as many bytes where no frame was whole in so many.
+fn piece_after(alloc: Global, piece: Vec<u8>, len: usize, used: usize) -> Result<Vec<u8>, NoMem>
+    requires { len ≤ 2 ^ 48 }
+    ensures longer { IfOk result (λ next. used ≡ 0 → vec_len next ≡ 2 * len) }
+    ensures same { IfOk result (λ next. used ≢ 0 → vec_len next ≡ vec_len piece) }
+{
+    if used == 0 {
+        Ok(vec![in alloc; 0; 2 * len]?)
+    } else {
+        Ok(piece)
+    }
+}
+
 // A list as it was read: its frames, how many bytes they are, and whether a gate that is not open stands behind them.
 #[derive(Drop)]
 struct Reading {
@@ -240,12 +297,14 @@ fn read_list<D: Disk, T: TakesFrames>(
     let mut listing = Listing::new();
     let mut at = from;
     loop {
-        let n = read_piece(disk, at, limit, &mut piece)?;
-        let bytes = &piece[..n];
-        let (used, listed) = take_frames(taker, listing, bytes)?;
-        let closed = is_shut(bytes, used);
+        let Taken {
+            listing: listed,
+            len,
+            used,
+            closed,
+        } = next_piece(disk, at, limit, &mut piece, listing, taker)?;
         listing = listed;
-        let end = at + n as u64;
+        let end = at + len as u64;
         at += used as u64;
         if closed || end == limit {
             return Ok(Reading {
@@ -254,9 +313,7 @@ fn read_list<D: Disk, T: TakesFrames>(
                 closed,
             });
         }
-        if used == 0 {
-            piece = vec![in alloc; 0; 2 * n]?;
-        }
+        piece = piece_after(alloc, piece, len, used)?;
     }
 }
 

@@ -1,5 +1,5 @@
 -- How a range goes on, by what its fields say.
-use Rattle.std.proofs.Common.{◌≡◌, ℕ, ◌+◌, ◌-◌, ◌≤◌, List, [], ◌++◌, Option, Some, None, Result, Ok, option_map, refl, sym, ap, subst, ◌∙◌, arith}
+use Rattle.std.proofs.Common.{◌≡◌, ℕ, ◌+◌, ◌-◌, ◌≤◌, true, false, List, [], ◌++◌, Option, Some, None, is_some, Result, Ok, option_map, refl, sym, ap, subst, ◌∙◌, arith}
 use Rattle.std.specs.Option.{ForSome}
 use Rattle.fab_base.specs.declared.answers.Answer.{Answer}
 use Rattle.fab_base.specs.declared.answers.Answer.TheVariants as answer
@@ -11,7 +11,7 @@ use Rattle.front.specs.declared.steps.RangeAnswer.TheVariants as range
 use Rattle.front.specs.declared.steps.RangeStep.TheVariants as step
 use Rattle.front.specs.Halts.{answer_of}
 use Rattle.front.specs.Pieces.{Wish, Part, ask_of, parts_from}
-use Rattle.front.specs.Ranges.{Progress, next_by, next_of, stopped, after_by, after_end, FitsFirst, FitsEnd}
+use Rattle.front.specs.Ranges.{Progress, next_by, next_of, ask_in, next_ask, stopped, after_by, after_end, FitsFirst, FitsEnd}
 use Rattle.front.specs.Inside.{progress_of, first_piece}
 use Rattle.front.proofs.PartLaws.{left_first, left_none, ended}
 
@@ -47,6 +47,25 @@ shows_ask wish total done came before p piece is going found within =
     ap (λ (h : Option Halt). next_by (option_map (answer_of done) h) (parts_from wish done (total - done) 0) came) going
     ∙ ap (λ (parts : List Part). next_by None parts came) left in
     sym here ∙ ap next_of is
+
+-- the operation on the piece that is next, if one is
+pub asks_next : (wish : Wish) (total done : ℕ) (came : List ℕ) (before : Option Halt) (p : Progress) (piece : StripePart)
+    → progress_of wish total done came before ≡ p → before ≡ None
+    → first_piece wish.layout wish.volume wish.first total done ≡ Some piece → done + (piece.behind + 1) ≤ total
+    → Some (ask_of wish.layout.block wish.content done piece) ≡ next_ask p
+asks_next wish total done came before p piece is going found within =
+    ap ask_in (shows_ask wish total done came before p piece is going found within)
+
+-- no operation is next where no piece is
+pub asks_none : (wish : Wish) (total done : ℕ) (came : List ℕ) (before : Option Halt) (p : Progress)
+    → progress_of wish total done came before ≡ p → before ≡ None
+    → first_piece wish.layout wish.volume wish.first total done ≡ None → None ≡ next_ask p
+asks_none wish total done came before p is going none = ap ask_in (shows_done wish total done came came before p is going none refl)
+
+-- a range has no halt where the test finds none
+pub not_halted : (halt : Option Halt) → is_some halt ≡ false → halt ≡ None
+not_halted None is = refl
+not_halted (Some halt) is = let never : true ≡ false = is in absurd cc
 
 -- a range that has an operation left has not halted
 going : (halt : Option Halt) (total done behind : ℕ) → ForSome halt (λ why. done ≡ total) → done + (behind + 1) ≤ total → halt ≡ None

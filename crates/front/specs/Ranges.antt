@@ -3,6 +3,7 @@ use Rattle.std.specs.Prelude.{◌≡◌, ℕ, ◌+◌, ◌*◌, List, [], ◌∷
 use Rattle.fab_base.specs.declared.answers.Answer.{Answer}
 use Rattle.fab_base.specs.declared.answers.Answer.TheVariants as answer
 use Rattle.fab_base.specs.declared.answers.Refusal.{Refusal}
+use Rattle.fab_base.specs.declared.asks.Ask.{Ask}
 use Rattle.fab_base.specs.declared.asks.Op.{Op}
 use Rattle.fab_base.specs.declared.asks.Op.TheVariants.{ReadBlock, WriteBlock, ReadStripe, WriteStripe}
 use Rattle.fab_base.specs.Layouts.{Layout}
@@ -44,6 +45,15 @@ next_by None (part ∷ parts) came = step.Ask part.ask
 -- what a range wants next
 abbrev pub next_of : Progress → RangeStep
 next_of progress = next_by progress.halted progress.left progress.came
+
+-- the operation of a step, if it is one
+abbrev pub ask_in : RangeStep → Option Ask
+ask_in (step.Ask ask) = Some ask
+ask_in (step.End answer) = None
+
+-- the operation that a range wants next; None once it has ended
+abbrev pub next_ask : Progress → Option Ask
+next_ask progress = ask_in (next_of progress)
 
 -- Bytes for so many data blocks are what an operation is answered: as many as the blocks have for a read, and none for a write.
 abbrev pub FitsOp : Op → ℕ → Answer → Type 0

@@ -8,7 +8,8 @@ ghost use Rattle.front.specs.Contents.{written_by};
 ghost use Rattle.front.specs.Halts.{halt_of};
 ghost use Rattle.front.specs.declared.steps.Halt.TheVariants.{Stopped};
 ghost use Rattle.front.specs.Inside.{first_piece, progress_of, IsSound};
-ghost use Rattle.front.specs.Ranges.{begun, next_of, after_end, stopped, FitsEnd};
+ghost use Rattle.front.specs.Ranges.{begun, next_of, next_ask, after_end, stopped, FitsEnd};
+ghost use Rattle.front.specs.declared.steps.RangeStep.TheVariants.{End};
 
 use crate::pieces::{Content, StripePart, piece_at};
 use crate::steps::{Halt, RangeAnswer, RangeStep, Why};
@@ -107,18 +108,24 @@ fn name_in<'l>(layout: &'l Layout, volume: &str) -> &'l str
 }
 
 impl<'l> Range<'l> {
-    /// A read of `length` bytes of a volume, from the one of the number `byte` on.
+    /// A read of `length` bytes of a volume, from the one of the number `byte` on. It has room for all of them.
+    ///
+    /// # Errors
+    ///
+    /// `NoMemory` where no memory was left.
     pub fn read(
         alloc: Global,
         layout: &'l Layout,
         volume: &str,
         byte: u64,
         length: u64,
-    ) -> Range<'l>
-        ensures begun { result ≡ begun layout.now volume.now byte length None }
+    ) -> Result<Range<'l>, NoMem>
+        ensures begun { IfOk result (λ range. range ≡ begun layout.now volume.now byte length None) }
         ensures each { AsksEach layout.now volume.now byte length None }
     {
-        Range::begin(alloc, layout, volume, byte, length, Content::Nothing)
+        let mut range = Range::begin(alloc, layout, volume, byte, length, Content::Nothing);
+        range.make_room()?;
+        Ok(range)
     }
 
     /// A write of these bytes to a volume, from its byte of the number `byte` on.
@@ -228,7 +235,16 @@ impl<'l> Range<'l> {
         }
     }
 
-    /// What is to be done next: the same operation until its end is told, and at last how the range ended.
+    // Makes room for the bytes of all its data blocks.
+    fn make_room(&mut self) -> Result<(), NoMem>
+        ensures { self.new ≡ self.old }
+    {
+        let bytes = self.total * u64::from(self.layout.block());
+        self.came.reserve(bytes as usize)?;
+        Ok(())
+    }
+
+    /// What is to be done next: the same operation until its end is told, and at last how the range ended, with a copy of its bytes.
     ///
     /// # Errors
     ///
@@ -237,17 +253,55 @@ impl<'l> Range<'l> {
         ensures step { IfOk result (λ step. step ≡ next_of self.old) }
         ensures same { self.new ≡ self.old }
     {
-        if let Some(halt) = self.halt {
-            return Ok(RangeStep::End(halt.answer(self.done)));
+        match self.next_ask()? {
+            Some(ask) => Ok(RangeStep::Ask(ask)),
+            None => Ok(RangeStep::End(self.answer()?)),
+        }
+    }
+
+    /// The operation that is to be done next: the same until its end is told. `None` says that the range has ended.
+    ///
+    /// # Errors
+    ///
+    /// `NoMemory` where no memory was left.
+    pub fn next_ask(&self) -> Result<Option<Ask>, NoMem>
+        ensures { IfOk result (λ ask. ask ≡ next_ask self.now) }
+    {
+        if self.halt.is_some() {
+            return Ok(None);
         }
         let next = first_piece(self.layout, self.volume, self.first, self.total, self.done);
         let Some(piece) = next else {
-            let came = Bytes::from_slice(self.alloc, self.came.as_slice())?;
-            return Ok(RangeStep::End(RangeAnswer::Done(came)));
+            return Ok(None);
         };
         let block = self.layout.block();
         let ask = piece.ask(self.alloc, self.content.bytes(), block, self.done)?;
-        Ok(RangeStep::Ask(ask))
+        Ok(Some(ask))
+    }
+
+    // How the range ended, with a copy of its bytes.
+    fn answer(&self) -> Result<RangeAnswer, NoMem>
+        requires { next_ask self.now ≡ None }
+        ensures { IfOk result (λ answer. End answer ≡ next_of self.now) }
+    {
+        match self.halt {
+            Some(halt) => Ok(halt.answer(self.done)),
+            None => {
+                let came = Bytes::from_slice(self.alloc, self.came.as_slice())?;
+                Ok(RangeAnswer::Done(came))
+            }
+        }
+    }
+
+    /// How the range ended. It hands its bytes over, and no byte is copied.
+    pub fn into_answer(self) -> RangeAnswer
+        requires { next_ask self ≡ None }
+        ensures { End result ≡ next_of self.entry }
+    {
+        match self.halt {
+            Some(halt) => halt.answer(self.done),
+            None => RangeAnswer::Done(Bytes::from_vec(self.came)),
+        }
     }
 
     /// Takes the end of the operation that [`Range::next`] gave: bytes for the data blocks that it reads, or that a write is done, or

@@ -19,26 +19,25 @@ use Rattle.serving.proofs.Looks.{Grows-stays, Looked-none, Looked-stays, Looked-
 -- ---- a round
 
 -- one in which the operation ended
-pub HearsOnce-end : {T E : Type 0} (r : Result T E) (port sent sent_after : ℕ) (range mid range_after : Progress) (wanted : Wanted) (link between after : Told)
+pub HearsOnce-end : {T E : Type 0} (r : Result T E) (port sent sent_after : ℕ) (range mid : Progress) (wanted : Wanted) (link between after : Told)
     (came : Option Datagram) (end : Result Answer Refusal) → Stands range (Waits wanted) → Looked link.waiting between.waiting (came ∷ [])
-    → Stays link.sent between.sent → Hears port sent wanted came (Some end) → mid ≡ after_end range end → range_after ≡ mid
+    → Stays link.sent between.sent → Hears port sent wanted came (Some end) → mid ≡ after_end range end
     → Stays between.waiting after.waiting → OnOk r (Grows between.sent after.sent (asks_by port sent (next_of mid)))
     → OnOk r (sent_after ≡ sent_by sent (next_of mid))
-    → OnOk r ((heard : Heard) × HearsOnce port (record { sent = sent; range = range }) (record { sent = sent_after; range = range_after }) link after heard)
-HearsOnce-end (Ok x) port sent sent_after range mid range_after wanted link between after came end stands looked unsent hears ended same waiting asks count =
-    let number = count ∙ ap (λ (p : Progress). sent_by sent (next_of p)) ended in
-    let left = same ∙ ended in (
+    → OnOk r ((heard : Heard) × HearsOnce port (record { sent = sent; range = range }) (record { sent = sent_after; range = mid }) link after heard)
+HearsOnce-end (Ok x) port sent sent_after range mid wanted link between after came end stands looked unsent hears ended waiting asks count =
+    let number = count ∙ ap (λ (p : Progress). sent_by sent (next_of p)) ended in (
       record { came = came; end = Some end },
       record {
         waits = stands.0;
         hears = subst (λ (w : Wanted). Hears port sent w came (Some end)) stands.1 hears;
         looked = Looked-stays link.waiting between.waiting after.waiting (came ∷ []) looked waiting;
-        left = (λ i. record { sent = number i; range = left i });
+        left = (λ i. record { sent = number i; range = ended i });
         asked = Grows-stays link.sent between.sent after.sent (asks_by port sent (next_of (after_end range end))) unsent
             (subst (λ (p : Progress). Grows between.sent after.sent (asks_by port sent (next_of p))) ended asks);
       },
     )
-HearsOnce-end (Err e) port sent sent_after range mid range_after wanted link between after came end stands looked unsent hears ended same waiting asks count = tt
+HearsOnce-end (Err e) port sent sent_after range mid wanted link between after came end stands looked unsent hears ended waiting asks count = tt
 
 -- one in which it did not
 pub HearsOnce-none : (port sent : ℕ) (range : Progress) (wanted : Wanted) (link after : Told) (came : Option Datagram) → Stands range (Waits wanted)
@@ -100,9 +99,9 @@ pub record IsRunning {A : Type 0} (takes : A → A → Type 0) (port : ℕ) (fir
   pub took : Took takes rounds bricks bricks_now
 
 -- the client asks for its first operation
-pub asking_is : (sent sent_after : ℕ) (range after : Progress) → sent_after ≡ sent_by sent (next_of range) → after ≡ range
-    → (let now : Asking = record { sent = sent_after; range = after } in now) ≡ asking sent range
-asking_is sent sent_after range after count same = (λ i. record { sent = count i; range = same i })
+pub asking_is : (sent sent_after : ℕ) (range : Progress) → sent_after ≡ sent_by sent (next_of range)
+    → (let now : Asking = record { sent = sent_after; range = range } in now) ≡ asking sent range
+asking_is sent sent_after range count = (λ i. record { sent = count i; range = range })
 
 -- it begins: its client asks for its first operation
 pub IsRunning-first : {A : Type 0} (takes : A → A → Type 0) (port : ℕ) (first : Progress) (sent turns : ℕ) (now : Asking) (link link_now : Told) (bricks : A)

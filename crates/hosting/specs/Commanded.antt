@@ -11,7 +11,7 @@ use Rattle.fab_base.specs.Layouts.{Layout, group_of}
 use Rattle.fab_io.specs.declared.links.Datagram.{Datagram}
 use Rattle.fab_base.specs.Asks.{bytes_by}
 use Rattle.front.specs.Pieces.{Part}
-use Rattle.front.specs.Ranges.{Progress, begun, next_of, after_end}
+use Rattle.front.specs.Ranges.{Progress, begun, next_of, next_ask, after_end}
 use Rattle.front.specs.declared.steps.RangeStep.{RangeStep}
 use Rattle.front.specs.declared.steps.RangeStep.TheVariants as step
 use Rattle.layout.specs.Places.{blocks_of}
@@ -108,7 +108,7 @@ pub record IsRangeOf (layout : Layout) (range : Progress) : Type 0 where
   pub block : range.block ≡ layout.block
   pub parts : AreParts layout range.left
 
--- a range waits for this reply, or it ended so
+-- a range waits for this reply, or it has ended
 abbrev pub Stands : Progress → Standing → Type 0
 Stands range (Waits wanted) = ((ask : Ask) × (next_of range ≡ step.Ask ask)) × (wanted ≡ wanted_in range)
-Stands range (Ended answer) = next_of range ≡ step.End answer
+Stands range Ended = next_ask range ≡ None

@@ -18,7 +18,7 @@ use crate::rooms::Room;
 use fab_base::{Ask, Bytes, GroupId, NoMem, Op, Refusal};
 use fab_io::{IoFault, Link};
 use fab_wire::encode;
-use front::{Range, RangeAnswer, RangeStep};
+use front::Range;
 use layout::Layout;
 use messages::{ClientAsk, Message};
 use std::alloc::Global;
@@ -35,12 +35,12 @@ pub struct ClientEnd<L: Link> {
 }
 
 /// How the range of a command stands.
-#[derive(Drop)]
+#[derive(Clone, Copy)]
 pub enum Standing {
     /// It waits for the end of an operation.
     Waits(Wanted),
-    /// It ended.
-    Ended(RangeAnswer),
+    /// It has ended.
+    Ended,
 }
 
 /// Whether a name is in ASCII.
@@ -69,7 +69,7 @@ fn range_of<'l>(alloc: Global, layout: &'l Layout, command: &Command) -> Result<
 {
     let volume = name_of(command.volume.as_slice());
     match &command.access {
-        Access::Read(count) => Ok(Range::read(alloc, layout, volume, command.byte, *count)),
+        Access::Read(count) => Range::read(alloc, layout, volume, command.byte, *count),
         Access::Write(bytes) => Range::write(alloc, layout, volume, command.byte, bytes.as_slice()),
     }
 }
@@ -78,9 +78,9 @@ fn range_of<'l>(alloc: Global, layout: &'l Layout, command: &Command) -> Result<
 fn refuse(range: &mut Range<'_>) -> Result<(), NoMem>
     ensures { OnOk result (range.new ≡ refused_by (next_of range.old) range.old) }
 {
-    match range.next()? {
-        RangeStep::Ask(_) => range.on_end(Err(Refusal::Down)),
-        RangeStep::End(_) => Ok(()),
+    match range.next_ask()? {
+        Some(_) => range.on_end(Err(Refusal::Down)),
+        None => Ok(()),
     }
 }
 
@@ -150,28 +150,25 @@ impl<L: Link> ClientEnd<L> {
         alloc: Global,
         layout: &Layout,
         port: u16,
-        range: &mut Range<'_>,
+        range: &Range<'_>,
     ) -> Result<Standing, HostFault>
         requires room { self.old.sent + 1 < 2 ^ 64 }
-        requires parts { IsRangeOf layout.now range.old }
-        ensures same { range.new ≡ range.old }
-        ensures stands { IfOk result (Stands range.old) }
-        ensures sent { OnOk result (self.new.sent ≡ sent_by self.old.sent (next_of range.old)) }
+        requires parts { IsRangeOf layout.now range.now }
+        ensures stands { IfOk result (Stands range.now) }
+        ensures sent { OnOk result (self.new.sent ≡ sent_by self.old.sent (next_of range.now)) }
         ensures few { OnOk result (self.new.sent ≤ self.old.sent + 1) }
-        ensures asks { OnOk result (Grows (L.sent self.old.link) (L.sent self.new.link) (asks_by port self.old.sent (next_of range.old))) }
+        ensures asks { OnOk result (Grows (L.sent self.old.link) (L.sent self.new.link) (asks_by port self.old.sent (next_of range.now))) }
         ensures unsent { OnErr result (Stays (L.sent self.old.link) (L.sent self.new.link)) }
         ensures waiting { Stays (L.waiting self.old.link) (L.waiting self.new.link) }
         ensures only { IfErr result AtClientLink }
         ensures kept { Kept (L.faults self.old.link) (L.faults self.new.link) (L.sound self.old.link) (L.sound self.new.link) (result ≡ Err HostFault.ClientLink) }
     {
-        match range.next()? {
-            RangeStep::Ask(ask) => {
-                let wanted = wanted_for(layout, &ask);
-                send(alloc, &mut self.link, port, self.sent + 1, ask)?;
-                self.sent += 1;
-                Ok(Standing::Waits(wanted))
-            }
-            RangeStep::End(answer) => Ok(Standing::Ended(answer)),
-        }
+        let Some(ask) = range.next_ask()? else {
+            return Ok(Standing::Ended);
+        };
+        let wanted = wanted_for(layout, &ask);
+        send(alloc, &mut self.link, port, self.sent + 1, ask)?;
+        self.sent += 1;
+        Ok(Standing::Waits(wanted))
     }
 }

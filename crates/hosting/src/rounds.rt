@@ -109,7 +109,7 @@ pub struct HostedClient<B: Bricks, L: Link> {
 
 impl<B: Bricks, L: Link> HostedClient<B, L> {
     /// Asks the brick of a port for the operations of a range, one after another, and takes a round for each turn until the range is answered.
-    /// `None` says that no turn is left, and the client waits.
+    /// Its answer hands over the bytes that came. `None` says that no turn is left, and the client waits.
     ///
     /// # Errors
     ///
@@ -120,34 +120,34 @@ impl<B: Bricks, L: Link> HostedClient<B, L> {
         alloc: Global,
         layout: &Layout,
         port: u16,
-        range: &mut Range<'_>,
+        mut range: Range<'_>,
     ) -> Result<Option<RangeAnswer>, HostFault>
         requires few { self.old.end.sent + self.old.turns + 1 < 2 ^ 64 }
-        requires parts { IsRangeOf layout.now range.old }
+        requires parts { IsRangeOf layout.now range }
         ensures runs { IfOk result (λ answer. (rounds : List Heard)
-            × RunsRange port range.old self.old.end.sent self.new.end.sent self.old.turns self.new.turns (told (L.waiting self.old.end.link)
+            × RunsRange port range.entry self.old.end.sent self.new.end.sent self.old.turns self.new.turns (told (L.waiting self.old.end.link)
             (L.sent self.old.end.link)) (told (L.waiting self.new.end.link) (L.sent self.new.end.link)) rounds answer
             × Took B.takes rounds self.old.bricks self.new.bricks) }
         ensures few { OnOk result (self.new.end.sent + self.new.turns ≤ self.old.end.sent + self.old.turns + 1) }
-        ensures stopped { IfErr result (StopsRange B.takes B.stops port range.old self.old.end.sent self.old.turns (told (L.waiting self.old.end.link)
+        ensures stopped { IfErr result (StopsRange B.takes B.stops port range.entry self.old.end.sent self.old.turns (told (L.waiting self.old.end.link)
             (L.sent self.old.end.link)) (told (L.waiting self.new.end.link) (L.sent self.new.end.link)) self.old.bricks self.new.bricks) }
         ensures bricks { KeepsBricks B.sound self.old.bricks self.new.bricks result }
         ensures only { IfErr result AtCommand }
         ensures kept { Kept (L.faults self.old.end.link) (L.faults self.new.end.link) (L.sound self.old.end.link) (L.sound self.new.end.link)
             (result ≡ Err HostFault.ClientLink) }
     {
-        let mut standing = self.end.ask_next(alloc, layout, port, range)?;
+        let mut standing = self.end.ask_next(alloc, layout, port, &range)?;
         loop {
             let wanted = match standing {
                 Standing::Waits(wanted) => wanted,
-                Standing::Ended(answer) => return Ok(Some(answer)),
+                Standing::Ended => return Ok(Some(range.into_answer())),
             };
             if self.turns == 0 {
                 return Ok(None);
             }
             self.turns -= 1;
             self.bricks.take_turns()?;
-            standing = self.end.hear_once(alloc, layout, port, range, wanted)?;
+            standing = self.end.hear_once(alloc, layout, port, &mut range, wanted)?;
         }
     }
 
@@ -174,7 +174,7 @@ impl<B: Bricks, L: Link> HostedClient<B, L> {
         let _ = layout.bricks();
         let port = port_of(layout, command.brick);
         match open(alloc, layout, command) {
-            Ok(mut range) => self.run_range(alloc, layout, port, &mut range),
+            Ok(range) => self.run_range(alloc, layout, port, range),
             Err(fault) => Err(HostFault::from(fault)),
         }
     }

@@ -10,6 +10,7 @@ ghost use Rattle.nbd_front.specs.Sessions.{Asks, ReadsNoFurther, Waits, asked_of
 ghost use Rattle.nbd_hosting.specs.Serving.{ServesSession, ServesUntil, outside, range_of};
 ghost use Rattle.nbd_hosting.specs.Steps.{ReadsClient, RunsAsked, ServesOn};
 
+use fab_base::NoMem;
 use fab_io::{IoFault, Link, Sink, Source};
 use front::{Range, RangeAnswer};
 use hosting::{Bricks, ClientEnd, HostFault, HostedClient, Room};
@@ -56,8 +57,8 @@ fn send<K: Sink>(sink: &mut K, bytes: &[u8]) -> Result<(), HostFault>
 }
 
 /// The range of bytes of a volume that a command reads or writes. It borrows what is written.
-fn range_of<'s>(alloc: Global, layout: &'s Layout, command: Command<'s>) -> Range<'s>
-    ensures { result ≡ range_of layout.now (shown command.entry) }
+fn range_of<'s>(alloc: Global, layout: &'s Layout, command: Command<'s>) -> Result<Range<'s>, NoMem>
+    ensures { IfOk result (λ range. range ≡ range_of layout.now (shown command.entry)) }
 {
     match command {
         Command::Read {
@@ -69,7 +70,7 @@ fn range_of<'s>(alloc: Global, layout: &'s Layout, command: Command<'s>) -> Rang
             volume,
             byte,
             bytes,
-        } => Range::write_from(alloc, layout, volume, byte, bytes),
+        } => Ok(Range::write_from(alloc, layout, volume, byte, bytes)),
     }
 }
 
@@ -96,8 +97,10 @@ fn run_command<B: Bricks, L: Link>(
 {
     let _ = layout.bricks();
     let port = layout.port();
-    let mut range = range_of(alloc, layout, session.command());
-    client.run_range(alloc, layout, port, &mut range)
+    match range_of(alloc, layout, session.command()) {
+        Ok(range) => client.run_range(alloc, layout, port, range),
+        Err(fault) => Err(HostFault::from(fault)),
+    }
 }
 
 /// Reads bytes of the part that a session reads next. A turn is taken for them if they are the first of an option or of a request. Answers how the

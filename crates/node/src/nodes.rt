@@ -29,6 +29,7 @@ use crate::faults::NodeFault;
 use crate::open_calls::OpenCalls;
 use crate::outs::{Begun, Outs};
 use crate::sending::answer_messages;
+use brick_state::MOST_GROUPS;
 use brick_store::{BrickStore, OpenFault, State};
 use fab_base::{Ask, BrickId, GroupId, Refusal, StripeNo, ViewNo};
 use fab_disk::{Armed, Disk, Plan};
@@ -377,7 +378,7 @@ fn is_first_view<D: Disk>(store: &BrickStore<D>) -> bool
     ensures first { result ≡ true → IsFirstView store.now.state }
     ensures later { result ≡ false → IsFirstView store.now.state → ⊥ }
 {
-    for group in 0..64 {
+    for group in 0..MOST_GROUPS {
         if store.known_view(GroupId(group)).is_some() {
             return false;
         }

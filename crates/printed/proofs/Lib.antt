@@ -4,10 +4,6 @@ pub mod OtherLines
 pub mod LineTexts
 pub mod Reading
 pub mod PrintedMarks
-pub mod Clocks
-pub mod StampedMessages
-pub mod StampedSteps
-pub mod StampedWorlds
 pub mod Standing
 pub mod Counts
 pub mod MarksSound

@@ -1,5 +1,5 @@
 -- The printed line of a mark reads back as that mark.
-use Rattle.std.proofs.Common.{◌≡◌, ℕ, ◌*◌, ◌<◌, ◌≤◌, ◌^◌, Bool, true, false, cond, nat_le, nat_eq, List, ◌∷◌, ◌++◌, length, Some, None, refl, sym, ap, ◌∙◌, arith, codes, append_assoc}
+use Rattle.std.proofs.Common.{◌≡◌, ℕ, ◌*◌, ◌≤◌, Bool, true, false, cond, nat_le, nat_eq, List, ◌∷◌, ◌++◌, length, Some, None, refl, sym, ap, ◌∙◌, arith, codes, append_assoc}
 use Rattle.std.specs.Prelude.{⊤}
 use Rattle.std.specs.List.{list_all}
 use Rattle.std.specs.Str.{bytes_eq}
@@ -32,6 +32,7 @@ use Rattle.transcript.specs.Tokens.{behind}
 use Rattle.transcript.specs.Words.{or_else, stamp_of, later_of, gone_of, full_of, moved_of, cause_of, is_word}
 use Rattle.fab_base.specs.Texts.{newline, cause_text}
 use Rattle.world.specs.Texts.{place_text, op_text, answer_text, mark_text}
+use Rattle.printed.specs.Spellings.{IsSmall, StampReads, CauseReads}
 use Rattle.printed.proofs.Tokens.{is_clear, bind_some, or_some, or_none, IsPiece, piece_both, piece_most, digits_piece, BeginsDigit, begins_digit, plain_back, before_back, behind_front, behind_other, hex_piece, hex_back}
 
 -- the mark as it is claimed
@@ -83,10 +84,6 @@ claimed (Crash p b) = refl
 
 -- numbers and bytes that have a spelling
 
--- a number below 2^64
-abbrev pub IsSmall : ℕ → Type 0
-IsSmall n = n < 2 ^ 64
-
 -- the most bytes that a mark tells
 abbrev pub most_told : ℕ
 most_told = 32768
@@ -103,20 +100,6 @@ OpReads (ReadBlock j) = IsSmall j
 OpReads (WriteBlock j bytes) = IsSmall j × IsTold bytes
 OpReads ReadStripe = ⊤
 OpReads (WriteStripe bytes) = IsTold bytes
-
--- a stamp
-pub record StampReads (stamp : Stamp) : Type 0 where
-  pub view : IsSmall stamp.view.0
-  pub time : IsSmall stamp.time
-  pub brick : IsSmall stamp.brick.0
-  pub boot : IsSmall stamp.boot
-
--- why an operation was aborted
-abbrev pub CauseReads : Cause → Type 0
-CauseReads (Later brick stamp) = IsSmall brick.0 × StampReads stamp
-CauseReads (Gone brick) = IsSmall brick.0
-CauseReads (Full brick live) = IsSmall brick.0 × IsSmall live
-CauseReads (Moved brick view) = IsSmall brick.0 × IsSmall view.0
 
 -- an answer
 abbrev pub AnswerReads : Answer → Type 0

@@ -3,7 +3,7 @@ use Rattle.protocol_laws.proofs.ViewLaws.{follows_layout}
 use Rattle.std.proofs.Common.{◌≡◌, ℕ, zero, suc, ◌*◌, ◌<◌, ◌≤◌, Bool, true, nat_lt, nat_eq, ◌&&◌, List, [], ◌∷◌, length, take, drop, replicate, Option, Some, None, refl, sym, ap, ◌∙◌, subst, arith, take-append-drop, inl, inr}
 use Rattle.std.specs.Prelude.{slice_get, slice_index}
 use Rattle.std.proofs.lemmas.Bool.{and_parts, ltb-true, eqb-true}
-use Rattle.std.proofs.lemmas.Option.{same_Some, slice_get_within}
+use Rattle.std.proofs.lemmas.Option.{same_Some, slice_get_within, get_or_from_slice_get}
 use Rattle.fab_base.specs.declared.identities.BrickId.{BrickId}
 use Rattle.fab_base.specs.declared.stamps.Stamp.{Stamp}
 use Rattle.fab_base.specs.declared.asks.Ask.{Ask}
@@ -11,8 +11,6 @@ use Rattle.fab_base.specs.declared.asks.Op.{Op}
 use Rattle.fab_base.specs.declared.asks.Op.TheVariants.{ReadBlock, WriteBlock, ReadStripe, WriteStripe}
 use Rattle.fab_base.specs.declared.answers.Answer.{Answer}
 use Rattle.fab_base.specs.declared.answers.Answer.TheVariants.{Data, Done, Aborted}
-use Rattle.fab_base.specs.declared.answers.Cause.{Cause}
-use Rattle.fab_base.specs.declared.answers.Cause.TheVariants.{Later, Gone, Full, Moved}
 use Rattle.fab_base.specs.Layouts.{Layout, Group, group_of}
 use Rattle.layout.specs.Limits.{IsGroup, IsLayout}
 use Rattle.stripe_code.specs.Codes.{coding}
@@ -26,7 +24,7 @@ use Rattle.protocol.specs.Settings.{are_bytes}
 use Rattle.protocol.specs.Nodes.{has_block, has_length}
 use Rattle.protocol.specs.Views.{layout_views, views_in}
 use Rattle.protocol.specs.Worlds.{World, Operation, Event, zero_content, first_world, run}
-use Rattle.protocol_laws.specs.Laws.{Laws, Evidence}
+use Rattle.protocol_laws.specs.Laws.{Laws}
 use Rattle.protocol_laws.specs.Marked as law
 use Rattle.protocol_laws.proofs.BooksEvents as books
 use Rattle.protocol_laws.proofs.EveryRun.{every_views_run}
@@ -34,9 +32,8 @@ use Rattle.reg_model.proofs.GrowingLives.{life_of-append, life_onward}
 use Rattle.protocol_laws.proofs.Said.{Stamping, Said, IsMadeOrFirst}
 use Rattle.protocol_laws.proofs.SaidAlways.{always_said}
 use Rattle.audit.specs.Checks.{GroupFits, BeginFits, WordFits, AnswerFits, MarksHold}
-use Rattle.printed.proofs.Clocks.{EventsFit}
-use Rattle.printed.proofs.MarkLines.{IsSmall, IsTold, OpReads, AskReads, CauseReads, AnswerReads, MarkReads, most_told}
-use Rattle.printed.proofs.StampedWorlds.{WorldFits, run_fits, first_world_fits}
+use Rattle.printed.specs.Spellings.{IsSmall, ToldReads, AllToldRead}
+use Rattle.printed.proofs.MarkLines.{IsTold, OpReads, AskReads, AnswerReads, MarkReads, most_told}
 use Rattle.printed.proofs.Standing.{MarkStands, AllStand, always_stand}
 
 -- bytes, by a test
@@ -146,7 +143,7 @@ module _ (layout : Layout) (is : IsLayout layout) where
   }
 
   -- a world that events leave
-  module _ (events : List Event) (timely : EventsFit events) where
+  module _ (events : List Event) where
     abbrev w : World
     w = run (coding layout) events (first_world layout)
 
@@ -157,10 +154,6 @@ module _ (layout : Layout) (is : IsLayout layout) where
     -- each operation that begins fits, and each brick that stops is the layout's
     stands : AllStand (coding layout) w.marks
     stands = always_stand (coding layout) events
-
-    -- each stamp has a spelling
-    fits : WorldFits (coding layout) w
-    fits = run_fits (coding layout) events (first_world layout) (let few = is.few_bricks in omega arith) (first_world_fits (coding layout)) timely
 
     -- data that was answered is bytes
 
@@ -218,52 +211,39 @@ module _ (layout : Layout) (is : IsLayout layout) where
     word_long group (WriteBlock j given) bytes of word = absurd word
     word_long group (WriteStripe given) bytes of word = absurd word
 
-    -- why an operation was aborted
-    cause_reads : (n : ℕ) (o : Operation) (cause : Cause) → Evidence w n o cause → CauseReads cause
-    cause_reads n o (Later brick x) shows =
-        let packet = fits.packets shows.told.0 _ shows.told.1 in
-        let few = is.few_bricks in
-        let there = packet.from in
-        (omega (arith, few, there), packet.message)
-    cause_reads n o (Full brick live) shows =
-        let packet = fits.packets shows.told.0 _ shows.told.1 in
-        let few = is.few_bricks in
-        let there = packet.from in
-        let most = is.few_records in
-        let same = laws.full shows.call brick o.brick live shows.told in
-        (omega (arith, few, there), omega (arith, same, most))
-    cause_reads n o (Gone brick) shows = absurd shows
-    cause_reads n o (Moved brick view) shows = absurd shows
+    -- what a mark says has a spelling, where all that the marks say has one
+    told_reads : AllToldRead w.marks → (k : ℕ) (mark : Mark) → slice_get w.marks k ≡ Some mark → ToldReads mark
+    told_reads all k mark at =
+        subst ToldReads (get_or_from_slice_get w.marks k mark mark at) (all k mark (slice_get_within w.marks k mark at))
 
     -- an answer has a spelling
-    answer_reads : (k p n : ℕ) (answer : Answer) → slice_get w.marks k ≡ Some (End p n answer)
+    answer_reads : AllToldRead w.marks → (k p n : ℕ) (answer : Answer) → slice_get w.marks k ≡ Some (End p n answer)
         → AnswerReads answer
-    answer_reads k p n (Data bytes) at =
+    answer_reads all k p n (Data bytes) at =
         let word = laws.words k p n (Data bytes) at in
         let long = word_long word.1 word.0.ask.op bytes (is.each word.0.ask.group.0 word.1 word.3) word.4 in
         are_told bytes (data_bytes k p n bytes at) long.0 long.1
-    answer_reads k p n Done at = tt
-    answer_reads k p n (Aborted cause) at =
-        let shows = laws.aborts k p n cause at in cause_reads shows.0 shows.1 cause shows.4
+    answer_reads all k p n Done at = tt
+    answer_reads all k p n (Aborted cause) at = told_reads all k (End p n (Aborted cause)) at
 
     -- where there are so few marks and operations, each mark reads back
-    pub mark_reads : (length w.marks ≤ 10000000) → ((n : ℕ) → (life : Life)
+    pub mark_reads : AllToldRead w.marks → (length w.marks ≤ 10000000) → ((n : ℕ) → (life : Life)
         → life_of w.marks n ≡ Some life → IsSmall n)
         → ((k p n : ℕ) (b : BrickId) (ask : Ask) → slice_get w.marks k ≡ Some (Begin p n b ask) → IsSmall n)
         → (k : ℕ) (mark : Mark) → slice_get w.marks k ≡ Some mark → MarkReads mark
-    mark_reads few lives begins k (Begin p n b ask) at =
+    mark_reads all few lives begins k (Begin p n b ask) at =
         let place = laws.without_gaps.placed k (Begin p n b ask) at in
         let within = slice_get_within w.marks k (Begin p n b ask) at in
         let its = stands k (Begin p n b ask) at in
         let bricks = is.few_bricks in
         let there = its.0 in
         (omega (arith, place, within, few), begins k p n b ask at, omega (arith, bricks, there), ask_reads ask its.1)
-    mark_reads few lives begins k (End p n answer) at =
+    mark_reads all few lives begins k (End p n answer) at =
         let place = laws.without_gaps.placed k (End p n answer) at in
         let within = slice_get_within w.marks k (End p n answer) at in
         let word = laws.words k p n answer at in
-        (omega (arith, place, within, few), lives n word.0 word.2, answer_reads k p n answer at)
-    mark_reads few lives begins k (Crash p b) at =
+        (omega (arith, place, within, few), lives n word.0 word.2, answer_reads all k p n answer at)
+    mark_reads all few lives begins k (Crash p b) at =
         let place = laws.without_gaps.placed k (Crash p b) at in
         let within = slice_get_within w.marks k (Crash p b) at in
         let bricks = is.few_bricks in

@@ -15,7 +15,8 @@ use Rattle.transcript.specs.Words.{or_else, is_refusal, is_word}
 use Rattle.fab_base.specs.Texts.{newline, refusal_text}
 use Rattle.printed.specs.Outputs.{happening_text, happenings_text, happened_text}
 use Rattle.printed.proofs.Tokens.{bind_some, or_some, or_none, IsPiece, piece_both, piece_most, all_both, digits_piece, digits_few, digits_no_space, plain_back, before_back, behind_front, split_first, split_alone}
-use Rattle.printed.proofs.MarkLines.{IsSmall, literal, entry_short}
+use Rattle.printed.specs.Spellings.{IsSmall}
+use Rattle.printed.proofs.MarkLines.{literal, entry_short}
 
 -- why an operation was not begun, on a line without its line feed
 abbrev pub refusal_line : Refusal → List ℕ

@@ -19,7 +19,8 @@ use Rattle.transcript.specs.Transcripts.{position_said, stripe_before, is_behind
 use Rattle.printed.specs.Printed.{Printed, OfMark, OfRefusal, OfNothing, printed_text, printed_texts, printed_marks}
 use Rattle.fab_base.specs.Texts.{newline}
 use Rattle.printed.proofs.LineTexts.{text_of_lines, AreClear}
-use Rattle.printed.proofs.MarkLines.{IsSmall, claim_of, mark_line, mark_ends, mark_piece, mark_back, MarkReads}
+use Rattle.printed.specs.Spellings.{IsSmall}
+use Rattle.printed.proofs.MarkLines.{claim_of, mark_line, mark_ends, mark_piece, mark_back, MarkReads}
 use Rattle.printed.proofs.OtherLines.{refusal_line, refusal_ends, refusal_piece, refusal_back, idle_back, AllRead, happened_line, happened_piece, happened_back, counts_line, counts_back, CountsRead}
 
 -- these lines lead from the first n lines, which say so much, to the first m, which say that

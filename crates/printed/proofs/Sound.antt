@@ -37,10 +37,10 @@ use Rattle.printed.specs.Outputs.{happened_text, stripes_text, stripes_of, group
 use Rattle.printed.specs.Printed.{printed_marks}
 use Rattle.printed.specs.LineSteps.{AreStepsOf}
 use Rattle.printed.specs.Sound.{ReadsBack, IsSoundText}
-use Rattle.printed.proofs.Clocks.{EventsFit, steps_fit}
 use Rattle.printed.proofs.Counts.{begins_are, begun_place, ends_few}
 use Rattle.printed.proofs.LineTexts.{text_of_lines, lines_both, one_line_text, AreClear, clear_all, lines_back}
-use Rattle.printed.proofs.MarkLines.{IsSmall, claim_of, claimed, MarkReads}
+use Rattle.printed.specs.Spellings.{IsSmall, AllToldRead}
+use Rattle.printed.proofs.MarkLines.{claim_of, claimed, MarkReads}
 use Rattle.printed.proofs.MarksSound as marking
 use Rattle.printed.proofs.OtherLines.{counts_line, counts_piece, CountsRead}
 use Rattle.printed.proofs.PrintedMarks.{is_end, others, lines_are, begins_among, marks_among_lines, IsPrintedAs, schedule_printed}
@@ -75,7 +75,7 @@ counts_end_text lines marks =
     simp append_assoc refl
 
 module _ (layout : Layout) (is : IsLayout layout) (schedule : List (List ℕ)) (steps : List Step) (are : AreStepsOf layout schedule steps)
-    (few : length steps ≤ out.most_lines) where
+    (few : length steps ≤ out.most_lines) (told : AllToldRead (left_by layout steps).marks) where
   abbrev events : List Event
   events = all_events steps
 
@@ -83,17 +83,13 @@ module _ (layout : Layout) (is : IsLayout layout) (schedule : List (List ℕ)) (
   abbrev w : World
   w = left_by layout steps
 
-  -- the times that clocks are set to have a spelling
-  timely : EventsFit events
-  timely = steps_fit are.first are.last schedule steps are.lines are.leads
-
   -- the printed lines
   printed : IsPrintedAs (first_world layout) w (steps_text (coding layout) (first_world layout) steps) (length steps)
   printed = schedule_printed layout schedule steps are
 
   -- the laws of the disk
   laws : Laws (coding layout) (views_in layout w.packets) w
-  laws = marking.laws layout is events timely
+  laws = marking.laws layout is events
 
   -- the marks among the printed lines are the world's
   marks_are : printed_marks printed.printed ≡ w.marks
@@ -142,7 +138,7 @@ module _ (layout : Layout) (is : IsLayout layout) (schedule : List (List ℕ)) (
   -- each mark reads back
   reads : (k : ℕ) (mark : Mark) → slice_get w.marks k ≡ Some mark → MarkReads mark
   reads =
-      marking.mark_reads layout is events timely (omega (arith, marks_low, few))
+      marking.mark_reads layout is events told (omega (arith, marks_low, few))
       (λ n life at. let low = lives_low n life at in omega (arith, low, few))
       (λ k p n b ask at.
       let place = begun_place w.marks k p n b ask at in
@@ -336,17 +332,17 @@ module _ (layout : Layout) (is : IsLayout layout) (schedule : List (List ℕ)) (
       subst (λ (text : Text). Examines layout text (Judged Sound)) (sym reads_as)
       (subst (λ (marks : List Mark). MarksHold layout marks × StripesHold layout marks stage.lines × CountsHold counts marks)
       (sym (marks_back w.marks))
-      (marking.marks_hold layout is events timely, stripes_hold, counts_hold))
+      (marking.marks_hold layout is events, stripes_hold, counts_hold))
 
 -- What is printed for the steps of a whole schedule, over the layout that a text says, reads back as the world that they leave.
 pub what_is_printed_reads_back : (head : List ℕ) (layout : Layout) (schedule : List (List ℕ)) (steps : List Step) → layout_of head ≡ Ok layout
-    → AreStepsOf layout schedule steps → length steps ≤ out.most_lines
+    → AreStepsOf layout schedule steps → length steps ≤ out.most_lines → AllToldRead (left_by layout steps).marks
     → ReadsBack layout (steps_text (coding layout) (first_world layout) steps ++ closing_text layout (left_by layout steps) (length steps))
     (left_by layout steps)
-what_is_printed_reads_back head layout schedule steps says are few = text_back layout (accepted_is head layout says) schedule steps are few
+what_is_printed_reads_back head layout schedule steps says are few told = text_back layout (accepted_is head layout says) schedule steps are few told
 
 -- It is a text that an audit finds sound.
 pub what_is_printed_audits : (head : List ℕ) (layout : Layout) (schedule : List (List ℕ)) (steps : List Step) → layout_of head ≡ Ok layout
-    → AreStepsOf layout schedule steps → length steps ≤ out.most_lines
+    → AreStepsOf layout schedule steps → length steps ≤ out.most_lines → AllToldRead (left_by layout steps).marks
     → IsSoundText layout (steps_text (coding layout) (first_world layout) steps ++ closing_text layout (left_by layout steps) (length steps))
-what_is_printed_audits head layout schedule steps says are few = sound_text layout (accepted_is head layout says) schedule steps are few
+what_is_printed_audits head layout schedule steps says are few told = sound_text layout (accepted_is head layout says) schedule steps are few told

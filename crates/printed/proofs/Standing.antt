@@ -1,16 +1,21 @@
 -- Each operation of a run that begins fits the layout, and each brick that stops is one of the layout.
-use Rattle.std.proofs.Common.{◌≡◌, ℕ, ◌+◌, ◌<◌, ⊎_elim, not, List, [], ◌∷◌, ◌++◌, length, Some, None, is_some, subst}
+use Rattle.std.proofs.Common.{◌≡◌, ℕ, ◌+◌, ◌<◌, ⊎_elim, true, not, List, [], ◌∷◌, ◌++◌, length, Some, None, is_some, subst}
 use Rattle.std.specs.Prelude.{⊤, slice_get}
-use Rattle.std.proofs.lemmas.Bool.{and_parts}
+use Rattle.std.proofs.lemmas.Bool.{and_parts, ltb-true}
+use Rattle.fab_base.specs.declared.identities.BrickId.{BrickId}
+use Rattle.fab_base.specs.Layouts.{Layout}
 use Rattle.reg_model.specs.declared.marks.Mark.{Mark}
 use Rattle.reg_model.specs.declared.marks.Mark.TheVariants.{Begin, End, Crash}
 use Rattle.protocol.specs.Settings.{Setting}
 use Rattle.protocol.specs.Nodes.{refusal_of}
-use Rattle.protocol.specs.Worlds.{World, Event, is_up, run, first_world}
+use Rattle.protocol.specs.Worlds.{World, Event, is_brick, is_up, run, first_world}
 use Rattle.protocol_laws.proofs.BooksEvents.{BeginFits, begin_fits}
 use Rattle.reg_model.proofs.AddedMarks.{slice_get_push}
-use Rattle.printed.proofs.StampedSteps.{up_brick}
 use Rattle.protocol.proofs.Events.{EventCases, step_on, world_counting, stepped_each, started_each, always}
+
+-- a brick that is up is one of the layout
+up_brick : (layout : Layout) (w : World) (brick : BrickId) → is_up layout w brick ≡ true → brick.0 < layout.bricks
+up_brick layout w brick up = ltb-true brick.0 layout.bricks (and_parts (is_brick layout brick) (w.up brick.0) up).0
 
 -- an operation that begins fits, and a brick that stops is the layout's
 abbrev pub MarkStands : Setting → Mark → Type 0

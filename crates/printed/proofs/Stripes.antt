@@ -24,7 +24,7 @@ use Rattle.reg_model.proofs.StripeLives.{filter_place, none_filtered}
 use Rattle.audit.specs.Checks.{happenings_said}
 use Rattle.printed.specs.Outputs.{happened_text, stripes_of}
 use Rattle.printed.proofs.LineTexts.{text_of_lines, lines_both, one_line_text, AreClear, clear_all}
-use Rattle.printed.proofs.MarkLines.{IsSmall}
+use Rattle.printed.specs.Spellings.{IsSmall}
 use Rattle.printed.proofs.OtherLines.{HappeningReads, AllRead, happened_line, happened_ends}
 use Rattle.printed.proofs.PrintedMarks.{count_yes, count_no}
 use Rattle.printed.proofs.Reading.{Reads, reads_both, of_stripes, AreBefore, before_both, before_stripe, before_group, stripe_lines, stripe_contents, StripeReads, stripe_clear, stripe_read}

@@ -1,4 +1,5 @@
 pub mod Outputs
 pub mod Printed
+pub mod Spellings
 pub mod LineSteps
 pub mod Sound

@@ -1,8 +1,7 @@
 -- What an audit finds of an input, from what was read of its layout and found of the text behind it.
-use Rattle.std.proofs.Common.{◌≡◌, ℕ, ◌≤◌, true, List, [], ◌∷◌, ◌++◌, length, map, codes, Option, Some, None, Result, Ok, Err, inl, inr, refl, sym, ap, ◌∙◌, subst, arith}
+use Rattle.std.proofs.Common.{◌≡◌, ℕ, ◌≤◌, true, List, [], ◌++◌, length, map, codes, Option, Some, None, Result, Ok, Err, inl, inr, refl, sym, ap, ◌∙◌, subst, arith}
 use Rattle.std.specs.Io.KnownBytes.{Appends, Keeps, IsAtEnd, prepend_known}
 use Rattle.std.proofs.KnownBytes.{prepend_known-nil}
-use Rattle.std.proofs.lemmas.Slice.Eq.{bytes_eq-Decides}
 use Rattle.fab_io.proofs.Content.{Appends-none}
 use Rattle.fab_base.specs.Layouts.{Layout}
 use Rattle.layout.specs.declared.faults.LayoutFault.{LayoutFault}
@@ -29,15 +28,11 @@ use Rattle.replay.specs.Replays.{is_word, status_of, MayGoOn, LeavesOpen}
 use Rattle.replay.specs.AuditFindings.{AuditsWith, Audits, FindsAlone}
 use Rattle.replay.specs.Audits.{FindsTold, EndsAudited, FindsLeft, FindsBehind, FindsIn, AuditPrints, AuditGoesOn, IsAuditDecided}
 use Rattle.replay.proofs.Inputs.{input_of-parts, at_end}
+use Rattle.replay.proofs.Statuses.{one_word}
 
 -- no word is both
-pub one_word : (words : List (List ℕ)) → is_word (codes "run") words ≡ true → is_word (codes "audit") words ≡ true → ⊥
-one_word [] run audit = cc
-one_word (word ∷ []) run audit =
-    let lengths : length (codes "run") ≡ length (codes "audit") =
-    ap length (sym ((bytes_eq-Decides word (codes "run")).0 run) ∙ (bytes_eq-Decides word (codes "audit")).0 audit) in
-    omega (arith, lengths)
-one_word (word ∷ (more ∷ words)) run audit = cc
+pub run_or_audit : (words : List (List ℕ)) → is_word (codes "run") words ≡ true → is_word (codes "audit") words ≡ true → ⊥
+run_or_audit words run audit = let lengths = one_word (codes "run") (codes "audit") words run audit in omega (arith, lengths)
 
 -- what is found of the lines behind a layout's text is found alone
 with_alone : (layout : Result Layout LayoutFault) (lines : List (List ℕ)) (one other : Audited) → AuditsWith layout lines one

@@ -9,24 +9,24 @@ use Rattle.fab_base.specs.Layouts.{Layout}
 use Rattle.stripe_code.specs.Codes.{coding}
 use Rattle.protocol.specs.Worlds.{World, first_world}
 use Rattle.world.specs.Runs.{Run, world_of}
-use Rattle.world.specs.Disks.{ShowsDisks}
 use Rattle.replay.specs.declared.endings.RunResult.{RunResult}
 use Rattle.replay.specs.declared.endings.RunResult.TheVariants as verdict
 use Rattle.replay.specs.declared.endings.Halt.{Halt}
 use Rattle.replay.specs.Inputs.{Input, Parted, TooLong, Endless, most_layout_bytes, input_of, IsInput}
 use Rattle.printed.specs.Outputs.{left_by, steps_text}
+use Rattle.printed.specs.Spellings.{AllToldRead}
+use Rattle.printed.specs.LineSteps.{StartsFresh}
 use Rattle.replay.specs.Outputs.{onto, output_behind, output_of, bad_layout}
 use Rattle.replay.specs.Turns.{Prints, AreLinesOf, PrintsRest, PrintsHeaded, PrintsInput}
 use Rattle.replay.proofs.LayoutTexts.{within}
 use Rattle.replay.proofs.LeftLines.{some_lines}
 use Rattle.replay.proofs.OutputLines.{output_of-steps}
 use Rattle.replay.proofs.Steppings.{after_steps, after_steps-all, leads_world}
-use Rattle.replay.proofs.Printing.{Prints-nothing, Prints-same, stops_not}
+use Rattle.replay.proofs.Printing.{Prints-nothing, Prints-same, stops_not, ends_not}
 
 -- an input without a layout does not end as whole
 refused_not : (old new : Option (List ℕ)) (why : List ℕ) (r : Result RunResult Halt) → Prints old new (bad_layout why) r → r ≡ Ok verdict.Whole → ⊥
-refused_not old new why (Ok one) p e = (let bad : Some verdict.BadLayout ≡ Some one = p.0 in let same : one ≡ verdict.Whole = cc in cc)
-refused_not old new why (Err halt) p e = stops_not halt e
+refused_not old new why r p = ends_not old new (bad_layout why).text verdict.BadLayout r (λ e. cc) p
 
 -- the output of an input that has no layout
 pub output_of-long : output_of [] TooLong ≡ bad_layout (codes "limit layout")
@@ -47,6 +47,7 @@ PrintsHeaded-stopped head left old halt =
       steps = [];
       steps_are = inr (refl, stops_not halt);
       printed = Prints-nothing old (output_of [] (Parted head some.0)) halt;
+      told = λ e. absurd (stops_not halt e);
     }
 
 -- the text has this output, whatever stands behind it
@@ -61,12 +62,13 @@ PrintsHeaded-refused head left old new r why is p =
       steps = [];
       steps_are = inr (refl, refused_not old new why r p);
       printed = Prints-same old new r (output_of [] (Parted head some.0)) (bad_layout why) (is some.0) p;
+      told = λ e. absurd (refused_not old new why r p e);
     }
 
 -- the layout was read, and the lines behind it were run
 pub PrintsHeaded-lines : (head : List ℕ) (layout : Layout) (run : Run) (left old new : Option (List ℕ)) (r : Result RunResult Halt)
     → layout_of head ≡ Ok layout
-    → run ≡ record { layout = layout; steps = []; disks = run.disks } → ShowsDisks run → PrintsRest run 0 left old new r
+    → run ≡ record { layout = layout; steps = []; disks = run.disks } → StartsFresh run → PrintsRest run 0 left old new r
     → PrintsHeaded head left old new r
 PrintsHeaded-lines head layout run left old new r is first fresh p =
     let text = steps_text (coding layout) (first_world layout) p.steps in
@@ -99,6 +101,10 @@ PrintsHeaded-lines head layout run left old new r is first fresh p =
           ∙ ap (λ (u : Run). onto (steps_text (coding u.layout) (world_of u) p.steps) (output_behind u.layout (world_of p.last) (length p.steps) p.behind)) (sym first)
           ∙ ap (λ (k : ℕ). onto (steps_text (coding run.layout) (world_of run) p.steps) (output_behind run.layout (world_of p.last) k p.behind)) (sym count))
           p.printed;
+      told = λ e other schedule found same here.
+          let text_is : head ≡ other = (let parted : Parted head (p.done ++ p.behind) ≡ Parted other schedule = same in cc) in
+          let layout_is : layout ≡ found = (let both : Ok layout ≡ Ok found = sym is ∙ ap layout_of text_is ∙ here in cc) in
+          subst (λ (l : Layout). AllToldRead (left_by l p.steps).marks) layout_is (subst (λ (w : World). AllToldRead w.marks) world (p.told e));
     }
 
 -- the output of an equal layout's text
@@ -115,6 +121,7 @@ stopped_input input source old halt is_input = record {
   steps = [];
   steps_are = inr (refl, stops_not halt);
   printed = Prints-nothing old (output_of [] input) halt;
+  told = λ e. absurd (stops_not halt e);
 }
 
 pub PrintsInput-stopped : (source old : Option (List ℕ)) (halt : Halt) → PrintsInput source old old (Err halt)
@@ -130,6 +137,7 @@ PrintsInput-refused source old new input why r is_input is p = record {
   steps = [];
   steps_are = inr (refl, refused_not old new why r p);
   printed = Prints-same old new r (output_of [] input) (bad_layout why) is p;
+  told = λ e. absurd (refused_not old new why r p e);
 }
 
 -- an input of these parts, whose layout's text is within the limit
@@ -148,6 +156,7 @@ PrintsInput-headed source left old new head r reads under p =
       steps = p.steps;
       steps_are = p.steps_are;
       printed = p.printed;
+      told = p.told;
     }
   where
     is_input : (source left : Option (List ℕ)) → ReadsSchedule source left head [] → AreLinesOf left p.schedule

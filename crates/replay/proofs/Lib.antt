@@ -6,6 +6,7 @@ pub mod Inputs
 pub mod HeadReading
 pub mod OpenEnds
 pub mod StripeTexts
+pub mod CountedMarks
 pub mod LayoutTexts
 pub mod Successions
 pub mod Linearity

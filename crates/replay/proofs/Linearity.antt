@@ -22,10 +22,12 @@ use Rattle.printed.specs.Outputs.{left_by, steps_text, closing_text, most_lines}
 use Rattle.printed.specs.Printed.{ArePrinted}
 use Rattle.printed.specs.LineSteps.{AreStepsOf}
 use Rattle.printed.specs.Sound.{ReadsBack, IsSoundText}
+use Rattle.printed.specs.Spellings.{AllToldRead}
 use Rattle.printed.proofs.PrintedMarks.{schedule_printed}
 use Rattle.printed.proofs.Sound.{what_is_printed_reads_back, what_is_printed_audits}
 use Rattle.replay.specs.Outputs.{Output, onto, output_line, output_behind, output_of}
 use Rattle.replay.specs.LineSteps.{BeginsWith, AreStepsIn}
+use Rattle.replay.specs.Turns.{AllToldReadOf}
 use Rattle.replay.specs.Replays.{IsStrictWorld, IsLinearizable, StaysStrict}
 use Rattle.replay.proofs.OutputLines.{output_behind-end, output_of-steps}
 use Rattle.replay.proofs.Successions.{follows_steps}
@@ -65,8 +67,8 @@ none_left layout w n (content ∷ rest) whole = absurd (line_left n (nat_lt n mo
 
 -- what was printed of an input that ends as whole is strict
 pub linearizable : (input : Input) (steps : List Step) (ending : Result RunResult Halt) → ending ≡ Ok Whole → AreStepsIn input steps ending
-    → (output_of steps input).verdict ≡ Some Whole → IsLinearizable input (output_of steps input).text
-linearizable input steps ending all are whole =
+    → (output_of steps input).verdict ≡ Some Whole → AllToldReadOf input steps → IsLinearizable input (output_of steps input).text
+linearizable input steps ending all are whole told =
     elim are [
       | inl some ↦ begun some.0 some.1 some.2
       | inr none ↦ absurd (none.1 all)
@@ -85,8 +87,9 @@ linearizable input steps ending all are whole =
         ∙ ap (λ (rest : List (List ℕ)). text ++ (output_behind layout world (length steps) rest).text) none
         ∙ ap (λ (o : Output). text ++ o.text) (output_behind-end layout world (length steps))
         in
+        let all_told : AllToldRead (left_by layout steps).marks = told b.head (b.schedule ++ b.rest) layout b.input_is b.layout_is in
         let sound : IsSoundText layout (output_of steps input).text =
-        subst (IsSoundText layout) (sym text_is) (what_is_printed_audits b.head layout b.schedule steps b.layout_is b.steps_are few)
+        subst (IsSoundText layout) (sym text_is) (what_is_printed_audits b.head layout b.schedule steps b.layout_is b.steps_are few all_told)
         in
         record {
           head = b.head;
@@ -102,7 +105,7 @@ linearizable input steps ending all are whole =
           are_printed = printed_steps layout b.schedule steps b.steps_are;
           is_strict = strict_world layout (accepted_is b.head layout b.layout_is) steps;
           reads_back = subst (λ (t : List ℕ). ReadsBack layout t world) (sym text_is)
-              (what_is_printed_reads_back b.head layout b.schedule steps b.layout_is b.steps_are few);
+              (what_is_printed_reads_back b.head layout b.schedule steps b.layout_is b.steps_are few all_told);
           is_sound = sound;
           audits = sound_alone b.head layout (map content (raw_lines (output_of steps input).text)) b.layout_is sound;
         }

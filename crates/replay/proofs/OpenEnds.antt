@@ -8,8 +8,8 @@ use Rattle.fab_base.specs.Layouts.{Layout}
 use Rattle.layout.specs.Texts.{layout_of}
 use Rattle.stripe_code.specs.Codes.{coding}
 use Rattle.world.specs.Runs.{Run, world_of}
-use Rattle.world.specs.Disks.{ShowsDisks}
 use Rattle.printed.specs.Outputs.{steps_text}
+use Rattle.printed.specs.LineSteps.{StartsFresh}
 use Rattle.lines.specs.Lines.{is_line_feed, raw_lines, content, ends_layout, parts, parts_of_lines, whole_lines}
 use Rattle.lines.specs.Reading.{AreWhole, IsNeeded}
 use Rattle.lines.proofs.WholeLines.{AreWhole-both, whole_firsts, lines_of}
@@ -143,7 +143,7 @@ ReadsPart-map one other unread told told_after old new came untouched failed to 
 
 -- lines were read behind the text of a layout
 pub ReadsPart-schedule : (head unread : List ℕ) (first : Run) (layout : Layout) (told told_after old new : Option (List ℕ)) (came : ℕ) (untouched failed : Type 0)
-    → layout_of head ≡ Ok layout → first ≡ record { layout = layout; steps = []; disks = first.disks } → ShowsDisks first
+    → layout_of head ≡ Ok layout → first ≡ record { layout = layout; steps = []; disks = first.disks } → StartsFresh first
     → ReadsPart (LinesSoFar first) unread told told_after old new came untouched failed
     → ReadsPart (ScheduleSoFar head) unread told told_after old new came untouched failed
 ReadsPart-schedule head unread first layout told told_after old new came untouched failed is start fresh p =

@@ -50,3 +50,10 @@ memory_alone e = cc
 -- a run that stops is not whole
 pub stops_not : (halt : Halt) → (let r : Result RunResult Halt = Err halt in r ≡ Ok verdict.Whole → ⊥)
 stops_not halt e = cc
+
+-- what ends otherwise is not whole
+pub ends_not : (old new : Option (List ℕ)) (text : List ℕ) (one : RunResult) (r : Result RunResult Halt) → (one ≡ verdict.Whole → ⊥)
+    → Prints old new (record { text = text; verdict = Some one }) r → r ≡ Ok verdict.Whole → ⊥
+ends_not old new text one (Ok other) differs p e =
+    differs (let said : Some one ≡ Some other = p.0 in let whole : other ≡ verdict.Whole = cc in cc)
+ends_not old new text one (Err halt) differs p e = stops_not halt e

@@ -29,19 +29,21 @@ use Rattle.replay.specs.declared.endings.Halt.{Halt}
 use Rattle.printed.specs.Outputs.{most_lines, steps_text}
 use Rattle.replay.specs.Outputs.{Output, onto, output_behind, finished, bad_line, too_many_lines}
 use Rattle.printed.specs.LineSteps.{LeadsTo, AreLinesOfSteps}
+use Rattle.printed.specs.Spellings.{AllToldRead}
 use Rattle.printed.proofs.PrintedMarks.{after_step}
 use Rattle.replay.specs.Turns.{Prints, AreLinesOf, PrintsRest, PrintsLine, LineRuns, LineBegins, LineTurnMeans, PieceMeans, TurnMeans, IsTheEnd}
 use Rattle.replay.specs.Readings.{LinesSoFar, ReadsPart}
 use Rattle.replay.proofs.HeadReading.{unread_more}
 use Rattle.replay.proofs.OutputLines.{output_behind-end, output_behind-bad, output_behind-many}
 use Rattle.replay.proofs.Steppings.{after_steps, leads_none, leads_one, leads_both, lines_both, steps_text-append}
-use Rattle.replay.proofs.Printing.{Prints-after, Prints-kept, Prints-nothing, Prints-same}
+use Rattle.replay.proofs.Printing.{Prints-after, Prints-kept, Prints-nothing, Prints-same, stops_not, ends_not}
 use Rattle.replay.proofs.LeftLines.{some_lines, no_lines, taken_lines, first_line, long_line, some_line}
 
 -- no line was run: what was printed is what stands behind those that were
 PrintsRest-none : (run : Run) (n : ℕ) (left old new : Option (List ℕ)) (r : Result RunResult Halt) (behind : List (List ℕ)) → n ≤ most_lines
-    → AreLinesOf left behind → Prints old new (output_behind run.layout (world_of run) n behind) r → PrintsRest run n left old new r
-PrintsRest-none run n left old new r behind within are p =
+    → AreLinesOf left behind → (r ≡ Ok verdict.Whole → AllToldRead (world_of run).marks)
+    → Prints old new (output_behind run.layout (world_of run) n behind) r → PrintsRest run n left old new r
+PrintsRest-none run n left old new r behind within are told p =
     let none : n ≡ n + 0 = omega arith in
     record {
       done = [];
@@ -53,14 +55,16 @@ PrintsRest-none run n left old new r behind within are p =
       lines = refl;
       within = omega (arith, within);
       printed = subst (λ (k : ℕ). Prints old new (onto [] (output_behind run.layout (world_of run) k behind)) r) none p;
+      told = told;
     }
 
 -- the next line was run: what was printed is its text, and what stands behind it
 PrintsRest-one : (before after : Run) (n : ℕ) (left old new : Option (List ℕ)) (r : Result RunResult Halt) (content : List ℕ) (rest : List (List ℕ)) (step : Step)
     → n < most_lines → AreLinesOf left (content ∷ rest) → line_of content ≡ Some step.line → Runs before after step.line step
+    → (r ≡ Ok verdict.Whole → AllToldRead (world_of after).marks)
     → Prints old new (onto (step_text (coding before.layout) (world_of before) step) (output_behind before.layout (world_of after) (n + 1) rest)) r
     → PrintsRest before n left old new r
-PrintsRest-one before after n left old new r content rest step within are is runs p =
+PrintsRest-one before after n left old new r content rest step within are is runs told p =
     let text = step_text (coding before.layout) (world_of before) step in
     record {
       done = content ∷ [];
@@ -72,19 +76,22 @@ PrintsRest-one before after n left old new r content rest step within are is run
       lines = ap (λ (x : Option Line). x ∷ []) is;
       within = omega (arith, within);
       printed = subst (λ (t : List ℕ). Prints old new (onto t (output_behind before.layout (world_of after) (n + 1) rest)) r) (sym (append-nil text)) p;
+      told = told;
     }
 
 -- the run was stopped before the next line
 pub PrintsRest-stopped : (run : Run) (n : ℕ) (left old : Option (List ℕ)) (halt : Halt) → n ≤ most_lines → PrintsRest run n left old old (Err halt)
 PrintsRest-stopped run n left old halt within =
     let some = some_lines left in
-    PrintsRest-none run n left old old (Err halt) some.0 within some.1 (Prints-nothing old (output_behind run.layout (world_of run) n some.0) halt)
+    PrintsRest-none run n left old old (Err halt) some.0 within some.1 (λ e. absurd (stops_not halt e))
+    (Prints-nothing old (output_behind run.layout (world_of run) n some.0) halt)
 
 -- no line is left
 pub PrintsRest-ended : (run : Run) (n : ℕ) (left old new : Option (List ℕ)) (r : Result RunResult Halt) → n ≤ most_lines → IsAtEnd left
-    → Prints old new (finished run.layout (world_of run) n) r → PrintsRest run n left old new r
-PrintsRest-ended run n left old new r within end p =
-    PrintsRest-none run n left old new r [] within (no_lines left end)
+    → (r ≡ Ok verdict.Whole → AllToldRead (world_of run).marks) → Prints old new (finished run.layout (world_of run) n) r
+    → PrintsRest run n left old new r
+PrintsRest-ended run n left old new r within end told p =
+    PrintsRest-none run n left old new r [] within (no_lines left end) told
     (Prints-same old new r (output_behind run.layout (world_of run) n []) (finished run.layout (world_of run) n)
     (output_behind-end run.layout (world_of run) n) p)
 
@@ -93,6 +100,7 @@ PrintsRest-bad : (run : Run) (n : ℕ) (left old new : Option (List ℕ)) (r : R
     → AreLinesOf left (line ∷ rest) → line_of line ≡ None → Prints old new (bad_line (n + 1)) r → PrintsRest run n left old new r
 PrintsRest-bad run n left old new r line rest within are bad p =
     PrintsRest-none run n left old new r (line ∷ rest) (omega (arith, within)) are
+    (λ e. absurd (ends_not old new (bad_line (n + 1)).text (verdict.BadLine (n + 1)) r (λ never. cc) p e))
     (Prints-same old new r (output_behind run.layout (world_of run) n (line ∷ rest)) (bad_line (n + 1))
     (output_behind-bad run.layout (world_of run) n line rest within bad) p)
 
@@ -108,11 +116,12 @@ line-front run after n old new line halt within stops = λ left rest are.
     elim stops [
       | inl keeps ↦
           let behind = output_behind run.layout (world_of run) n (line ∷ rest) in
-          PrintsRest-none run n left old new (Err halt) (line ∷ rest) (omega (arith, within)) are (AppendsFront-none old new behind.text keeps)
+          PrintsRest-none run n left old new (Err halt) (line ∷ rest) (omega (arith, within)) are (λ e. absurd (stops_not halt e))
+          (AppendsFront-none old new behind.text keeps)
       | inr begins ↦
           let text = step_text (coding run.layout) (world_of run) begins.step in
           let behind = output_behind run.layout (world_of after) (n + 1) rest in
-          PrintsRest-one run after n left old new (Err halt) line rest begins.step within are begins.is_line begins.runs
+          PrintsRest-one run after n left old new (Err halt) line rest begins.step within are begins.is_line begins.runs (λ e. absurd (stops_not halt e))
           (AppendsFront-more old new text behind.text begins.printed)
     ]
 
@@ -155,6 +164,7 @@ PrintsRest-halt run n left old new halt other p = record {
   lines = p.lines;
   within = p.within;
   printed = p.printed;
+  told = λ e. absurd (stops_not other e);
 }
 
 -- the same, at a line
@@ -170,14 +180,15 @@ PrintsRest-line run n left rest old new line r passes p = let first = first_line
 -- the last line was run, and the output closed
 pub PrintsRest-last : (before after : Run) (n : ℕ) (left rest old mid new : Option (List ℕ)) (line : List ℕ) (r : Result RunResult Halt)
     → n < most_lines → Passes left rest (line ∷ []) → IsAtEnd rest → LineRuns before after (content line) old mid
+    → (r ≡ Ok verdict.Whole → AllToldRead (world_of after).marks)
     → Prints mid new (finished after.layout (world_of after) (n + 1)) r → PrintsRest before n left old new r
-PrintsRest-last before after n left rest old mid new line r within passes end l p =
+PrintsRest-last before after n left rest old mid new line r within passes end l told p =
     let text = step_text (coding before.layout) (world_of before) l.step in
     let same : after.layout ≡ before.layout = ap (λ u. u.layout) l.runs.run in
     let closed = finished before.layout (world_of after) (n + 1) in
     let behind = output_behind before.layout (world_of after) (n + 1) [] in
     PrintsRest-one before after n left old new r (content line) [] l.step within (taken_lines left rest (line ∷ []) [] passes (no_lines rest end))
-    l.is_line l.runs
+    l.is_line l.runs told
     (Prints-after old mid new text behind r l.printed
     (Prints-same mid new r behind closed (output_behind-end before.layout (world_of after) (n + 1))
     (subst (λ u. Prints mid new (finished u (world_of after) (n + 1)) r) same p)))
@@ -195,6 +206,7 @@ pub PrintsRest-many : (run : Run) (left rest old new : Option (List ℕ)) (piece
 PrintsRest-many run left rest old new piece r says more p =
     let (line, contents, are_lines) = some_line left rest piece says more in
     PrintsRest-none run most_lines left old new r (line ∷ contents) (omega arith) are_lines
+    (λ e. absurd (ends_not old new too_many_lines.text verdict.TooManyLines r (λ never. cc) p e))
     (Prints-same old new r (output_behind run.layout (world_of run) most_lines (line ∷ contents)) too_many_lines
     (output_behind-many run.layout (world_of run) line contents) p)
 
@@ -211,10 +223,11 @@ PieceMeans-line run n piece line old new r is p left rest says =
 -- the last line was run, and the output closed
 pub PieceMeans-last : (before after : Run) (n : ℕ) (piece : NextLine) (line : List ℕ) (old mid new : Option (List ℕ)) (r : Result RunResult Halt)
     → n < most_lines → piece ≡ Last line → LineRuns before after (content line) old mid
+    → (r ≡ Ok verdict.Whole → AllToldRead (world_of after).marks)
     → Prints mid new (finished after.layout (world_of after) (n + 1)) r → PieceMeans before n piece old new r
-PieceMeans-last before after n piece line old mid new r within is l p left rest given =
+PieceMeans-last before after n piece line old mid new r within is l told p left rest given =
     let says = subst (Says 70000 left rest) is given in
-    PrintsRest-last before after n left rest old mid new line r within says.1 says.2 l p
+    PrintsRest-last before after n left rest old mid new line r within says.1 says.2 l told p
 
 -- the next line was run, or the run ended at it
 pub TurnMeans-line : (before after : Run) (n : ℕ) (piece : NextLine) (line : List ℕ) (old new : Option (List ℕ)) (r : Result (Option RunResult) Halt)
@@ -426,6 +439,7 @@ HasRun-rest first run n unread now told told_now old mid new came untouched r h 
           ∙ ap (λ (k : ℕ). onto (h.text ++ text) (output_behind first.layout (world_of p.last) k p.behind)) count
           ∙ sym (onto-onto h.text text behind))
           (Prints-after old mid new h.text (onto text behind) r h.printed printed);
+      told = p.told;
     }
 
 -- what was read where the run ended behind what came next, by no failure of the source

@@ -1,5 +1,6 @@
--- What a status says of the end of a run.
-use Rattle.std.proofs.Common.{◌≡◌, ℕ, ◌⊎◌, List, Option, Some, None, Result, Ok, Err, refl, sym, ap, ◌∙◌, inl, inr}
+-- What a status says of the words, and of the end of a run.
+use Rattle.std.proofs.Common.{◌≡◌, ℕ, ◌⊎◌, true, List, [], ◌∷◌, length, Option, Some, None, Result, Ok, Err, refl, sym, ap, ◌∙◌, inl, inr}
+use Rattle.std.proofs.lemmas.Slice.Eq.{bytes_eq-Decides}
 use Rattle.replay.specs.declared.endings.RunResult.{RunResult}
 use Rattle.replay.specs.declared.endings.Halt.{Halt}
 use Rattle.replay.specs.declared.endings.Halt.TheVariants.{Source, Sink, Memory}
@@ -9,7 +10,13 @@ use Rattle.replay.specs.LineSteps.{AreStepsIn}
 use Rattle.replay.proofs.OutputLines.{verdict_alone}
 use Rattle.replay.specs.Inputs.{Input, IsInput}
 use Rattle.replay.specs.Turns.{Prints}
-use Rattle.replay.specs.Replays.{status_of, IsDecided}
+use Rattle.replay.specs.Replays.{is_word, status_of, IsDecided}
+
+-- words that are one word, and another one, are as long
+pub one_word : (one other : List ℕ) (words : List (List ℕ)) → is_word one words ≡ true → is_word other words ≡ true → length one ≡ length other
+one_word one other [] is also = cc
+one_word one other (word ∷ []) is also = ap length (sym ((bytes_eq-Decides word one).0 is) ∙ (bytes_eq-Decides word other).0 also)
+one_word one other (word ∷ (more ∷ words)) is also = cc
 
 -- a run that neither end stopped answers what the input calls for, or was stopped for want of memory
 pub decided : (source old new : Option (List ℕ)) (input : Input) (steps : List Step) (ending : Result RunResult Halt) → IsInput source input

@@ -8,14 +8,13 @@ use Rattle.fab_base.specs.Layouts.{Layout}
 use Rattle.layout.specs.Texts.{layout_of}
 use Rattle.stripe_code.specs.Codes.{coding}
 use Rattle.world.specs.Runs.{Run, Step, world_of}
-use Rattle.world.specs.Disks.{ShowsDisks}
 use Rattle.replay.specs.declared.endings.Halt.{Halt}
 use Rattle.replay.specs.declared.endings.Halt.TheVariants.{Source}
 use Rattle.replay.specs.declared.heads.Head.{Head}
 use Rattle.replay.specs.declared.heads.Head.TheVariants.{Text, Alone, TooLong, Endless}
 use Rattle.replay.specs.Inputs.{most_layout_bytes}
 use Rattle.printed.specs.Outputs.{most_lines, steps_text}
-use Rattle.printed.specs.LineSteps.{LeadsTo, AreLinesOfSteps}
+use Rattle.printed.specs.LineSteps.{LeadsTo, AreLinesOfSteps, StartsFresh}
 
 -- What a part of a run read, behind the bytes that were unread: no more than left it open how the run ends. Where the source
 -- failed it is open still, and the sink took the text of what was read.
@@ -55,7 +54,7 @@ pub record ScheduleSoFar (head bytes text : List ℕ) : Type 0 where
   pub layout_is : layout_of head ≡ Ok layout
   pub first : Run
   pub first_is : first ≡ record { layout = layout; steps = []; disks = first.disks }
-  pub fresh : ShowsDisks first
+  pub fresh : StartsFresh first
   pub lines : LinesSoFar first bytes text
 
 -- Bytes behind a layout's text are whole lines, and a line that was begun, behind which it goes on, and this is the text of the lines.

@@ -62,11 +62,10 @@ status_of (Ok Refuted) = 9
 abbrev pub usage_text : List ℕ
 usage_text = codes "usage: replay run | replay make SEED LINES | replay audit" ++ newline
 
--- The words are refused: the sink took the usage line, and the status is 2. Where that line could not be
+-- The words are refused: the sink took this usage line, and the status is 2. Where that line could not be
 -- written, the status is 6 or 7, and the sink took some of it, from its front.
-abbrev pub Refuses : Option (List ℕ) → Option (List ℕ) → ℕ → Type 0
-Refuses old new status =
-    ((status ≡ 2) × Appends old new usage_text) ⊎ (((status ≡ 6) ⊎ (status ≡ 7)) × AppendsFront old new usage_text)
+abbrev pub Refuses : List ℕ → Option (List ℕ) → Option (List ℕ) → ℕ → Type 0
+Refuses usage old new status = ((status ≡ 2) × Appends old new usage) ⊎ (((status ≡ 6) ⊎ (status ≡ 7)) × AppendsFront old new usage)
 
 -- What lines left is strict: the marks are well formed, and each answer has the word of its operation; the happenings of each stripe are
 -- strict for its marks; and every abort shows its evidence. Beside these all laws of the disk hold of it, for the members that its messages

@@ -74,7 +74,7 @@ pub fn replay<S: Source, K: Sink>(
 ) -> u8
     // Words that are neither the one word `run` nor the one word `audit`: nothing is read.
     ensures words { asks_run (map string_bytes words.now) ≡ false → asks_audit (map string_bytes words.now) ≡ false
-        → Refuses (K.told sink.old) (K.told sink.new) result × (source.new ≡ source.old) }
+        → Refuses usage_text (K.told sink.old) (K.told sink.new) result × (source.new ≡ source.old) }
     ensures run { asks_run (map string_bytes words.now) ≡ true
         → RunEnds (S.told source.old) (S.told source.new) (S.came source.new) (K.told sink.old) (K.told sink.new) result }
     ensures audit { asks_audit (map string_bytes words.now) ≡ true

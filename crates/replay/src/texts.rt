@@ -6,8 +6,9 @@ ghost use Rattle.world.specs.Runs.{world_of};
 ghost use Rattle.world.specs.Walks.{AreEntriesOf};
 ghost use Rattle.transcript.specs.Kinds.{is_begin, is_answered, is_aborted, is_crash};
 ghost use Rattle.printed.specs.Outputs.{happened_text, stripes_text, stripes_of, groups_text, count_text, closing_text};
+ghost use Rattle.printed.specs.Spellings.{cause_told, ToldReads, AllToldRead};
 
-use fab_base::{Answer, GroupId, NoMem, StripeNo};
+use fab_base::{Answer, Cause, GroupId, NoMem, StripeNo};
 use reg_model::{Happening, Mark};
 use std::alloc::Global;
 use world::{StripeEntries, World};
@@ -28,17 +29,26 @@ fn is_answer(mark: &Mark) -> bool
     }
 }
 
-/// Whether a mark is the End of an aborted operation.
-fn is_abort(mark: &Mark) -> bool
-    ensures { result ≡ is_aborted mark.now }
+/// Why a mark says that its operation was aborted, if it says so.
+fn cause_of(mark: &Mark) -> Option<Cause>
+    ensures { result ≡ cause_told mark.now }
 {
     match mark {
         Mark::End { answer, .. } => match answer {
-            Answer::Data(_) | Answer::Done => false,
-            Answer::Aborted(_) => true,
+            Answer::Aborted(cause) => Some(*cause),
+            Answer::Data(_) | Answer::Done => None,
         },
-        Mark::Begin { .. } | Mark::Crash { .. } => false,
+        Mark::Begin { .. } | Mark::Crash { .. } => None,
     }
+}
+
+/// Whether a mark is the End of an aborted operation. The numbers of its cause are those of their types.
+#[tactic(auto, using(crate::proofs::CountedMarks::aborted_tells))]
+fn is_abort(mark: &Mark) -> bool
+    ensures is { result ≡ is_aborted mark.now }
+    ensures told { ToldReads mark.now }
+{
+    cause_of(mark).is_some()
 }
 
 /// How many operations began.
@@ -60,9 +70,16 @@ fn count_answered(marks: &[Mark]) -> usize
 
 /// How many operations were aborted.
 fn count_aborted(marks: &[Mark]) -> usize
-    ensures { result ≡ count_by is_aborted marks.now }
+    ensures count { result ≡ count_by is_aborted marks.now }
+    ensures told { AllToldRead marks.now }
 {
-    marks.iter().filter(|mark| is_abort(mark)).count()
+    let mut count = 0;
+    for mark in marks {
+        if is_abort(mark) {
+            count += 1;
+        }
+    }
+    count
 }
 
 /// How many bricks crashed.
@@ -155,7 +172,8 @@ fn groups_text(alloc: Global, world: &World) -> Result<String, NoMem>
 
 /// The last line of an output.
 fn count_text(alloc: Global, lines: u64, marks: &[Mark]) -> Result<String, NoMem>
-    ensures { IfOk result (λ text. string_bytes text ≡ count_text lines marks.now) }
+    ensures text { IfOk result (λ text. string_bytes text ≡ count_text lines marks.now) }
+    ensures told { AllToldRead marks.now }
 {
     let begun = count_begun(marks);
     let answered = count_answered(marks);
@@ -166,9 +184,10 @@ fn count_text(alloc: Global, lines: u64, marks: &[Mark]) -> Result<String, NoMem
     )?)
 }
 
-/// What closes the output after this many lines.
+/// What closes the output after this many lines. What the marks that it counts say of why operations were aborted has a spelling.
 pub(crate) fn closing_text(alloc: Global, world: &World, lines: u64) -> Result<String, NoMem>
-    ensures { IfOk result (λ text. string_bytes text ≡ closing_text world.now.layout (world_of world.now) lines) }
+    ensures text { IfOk result (λ text. string_bytes text ≡ closing_text world.now.layout (world_of world.now) lines) }
+    ensures told { IfOk result (λ text. AllToldRead (world_of world.now).marks) }
 {
     let mut text = groups_text(alloc, world)?;
     let counts = count_text(alloc, lines, world.marks())?;

@@ -111,7 +111,7 @@ fn member_served<D: Disk>(
     ensures first { IsSome result → call.view.0 ≡ 1 }
     ensures fits { IfSome result (λ member. IsTrue (fits_block member.block member.m member.seat request.now)) }
 {
-    // Both calls only tell limits: a layout has at most 64 groups and some byte in a block, and a group at most 32 seats.
+    // Both calls only tell limits: a layout has no more groups than there may be and some byte in a block, and a group few seats.
     let _ = layout.records();
     let group = layout.group(call.group)?;
     let _ = group.policy();

@@ -15,10 +15,10 @@ use Rattle.protocol.specs.Worlds.{World}
 use Rattle.protocol.specs.Settings.{Setting}
 use Rattle.stripe_code.specs.Codes.{coding}
 use Rattle.world.specs.Runs.{Run, Step, world_of}
-use Rattle.world.specs.Disks.{ShowsDisks}
 use Rattle.world.specs.Steps.{Ran, Runs}
 use Rattle.world.specs.Texts.{step_text}
 use Rattle.printed.specs.Outputs.{steps_text}
+use Rattle.printed.specs.LineSteps.{StartsFresh}
 use Rattle.replay.proofs.Steppings.{leads_none, leads_one, leads_both, leads_layout, leads_world, lines_both, steps_text-append, after_steps}
 use Rattle.replay.specs.declared.endings.RunResult.{RunResult}
 use Rattle.replay.specs.declared.endings.RunResult.TheVariants.{Whole, BadLayout, Refuted}
@@ -169,7 +169,7 @@ ends_not verdict other (Err halt) same differs e = cc
 
 -- a run over a layout's disk, from its first line on
 pub run-told : (source old new : Option (List ℕ)) (ending : Result RunResult Halt) (head : List ℕ) (first : Run) → layout_of head ≡ Ok first.layout
-    → first ≡ record { layout = first.layout; steps = []; disks = first.disks } → ShowsDisks first → TellsRest first source head old new ending
+    → first ≡ record { layout = first.layout; steps = []; disks = first.disks } → StartsFresh first → TellsRest first source head old new ending
     → TellsRun source old new ending
 run-told source old new ending head first is first_is fresh rest =
     let steps : List Step = rest.lines.steps in

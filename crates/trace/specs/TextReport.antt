@@ -11,10 +11,9 @@ use Rattle.layout.specs.Texts.{layout_of}
 use Rattle.protocol.specs.Worlds.{first_world}
 use Rattle.stripe_code.specs.Codes.{coding}
 use Rattle.world.specs.Runs.{Run, Step, world_of}
-use Rattle.world.specs.Disks.{ShowsDisks}
 use Rattle.world.specs.Steps.{Ran}
 use Rattle.printed.specs.Outputs.{steps_text}
-use Rattle.printed.specs.LineSteps.{LeadsTo, AreLinesOfSteps, AreStepsOf}
+use Rattle.printed.specs.LineSteps.{LeadsTo, AreLinesOfSteps, StartsFresh, AreStepsOf}
 use Rattle.replay.specs.declared.endings.RunResult.{RunResult}
 use Rattle.replay.specs.declared.endings.RunResult.TheVariants.{Whole, BadLayout, BadLine, Refuted}
 use Rattle.replay.specs.declared.endings.Halt.{Halt}
@@ -71,7 +70,7 @@ IsSolid text = 32 < slice_index text 0
 
 -- the disk of a layout, over which nothing was run yet
 abbrev pub IsNew : Layout → Run → Type 0
-IsNew layout world = (world ≡ record { layout = layout; steps = []; disks = world.disks }) × ShowsDisks world
+IsNew layout world = (world ≡ record { layout = layout; steps = []; disks = world.disks }) × StartsFresh world
 
 -- a layout's text was read, and nothing was run over its disk yet; or it is none
 abbrev pub OpensLayout : List ℕ → Opening → Type 0

@@ -67,6 +67,7 @@ fn draw_lines<S: Source>(
 ) -> Result<Outcome, Halt>
     ensures called { (input : Option (List ℕ)) → IsLeftTo input 0 (prepend_known unread.old (S.told source.old))
         → IfOk result (λ outcome. CallsFor input outcome.verdict) }
+    ensures ran { IfOk result (λ outcome. outcome.verdict ≢ RunResult.Refuted) }
     ensures kept { Kept (S.faults source.old) (S.faults source.new) (S.sound source.old) (S.sound source.new)
         (result ≡ Err Halt.Source) }
     ensures cause { result ≢ Err Halt.Sink }
@@ -96,6 +97,7 @@ fn draw_lines<S: Source>(
 /// Runs a layout and a schedule from a source, and draws them.
 fn draw_source<S: Source>(alloc: Global, source: &mut S) -> Result<Outcome, Halt>
     ensures called { IfOk result (λ outcome. CallsFor (S.told source.old) outcome.verdict) }
+    ensures ran { IfOk result (λ outcome. outcome.verdict ≢ RunResult.Refuted) }
     ensures kept { Kept (S.faults source.old) (S.faults source.new) (S.sound source.old) (S.sound source.new)
         (result ≡ Err Halt.Source) }
     ensures cause { result ≢ Err Halt.Sink }
@@ -116,6 +118,19 @@ fn say<K: Sink>(sink: &mut K, text: &Text) -> Result<(), Halt>
     write(sink, text.whole()?.as_bytes())
 }
 
+/// Writes the picture of a run of all lines. Of another one there is none.
+fn show<K: Sink>(sink: &mut K, outcome: &Outcome) -> Result<(), Halt>
+    ensures undrawn { outcome.now.verdict ≢ RunResult.Whole → K.told sink.new ≡ K.told sink.old }
+    ensures kept { Kept (K.faults sink.old) (K.faults sink.new) (K.sound sink.old) (K.sound sink.new)
+        (result ≡ Err Halt.Sink) }
+    ensures cause { result ≢ Err Halt.Source }
+{
+    match outcome.verdict {
+        RunResult::Whole => say(sink, &outcome.picture),
+        _ => Ok(()),
+    }
+}
+
 /// Runs a layout and a schedule from a source, and writes its picture. Why there is none, or not of all lines, is written to `errors`.
 pub(crate) fn draw<S: Source, K: Sink, E: Sink>(
     alloc: Global,
@@ -124,13 +139,15 @@ pub(crate) fn draw<S: Source, K: Sink, E: Sink>(
     errors: &mut E,
 ) -> Result<RunResult, Halt>
     ensures called { EndsAsCalled (S.told source.old) result }
+    ensures undrawn { IfOk result (λ verdict. verdict ≢ RunResult.Whole → K.told sink.new ≡ K.told sink.old) }
+    ensures ran { IfOk result (λ verdict. verdict ≢ RunResult.Refuted) }
     ensures source { Kept (S.faults source.old) (S.faults source.new) (S.sound source.old) (S.sound source.new)
         (result ≡ Err Halt.Source) }
     ensures sinks { AreKept (K.faults sink.old) (K.faults sink.new) (E.faults errors.old) (E.faults errors.new)
         (K.sound sink.old) (K.sound sink.new) (E.sound errors.old) (E.sound errors.new) (result ≡ Err Halt.Sink) }
 {
     let outcome = draw_source(alloc, source)?;
-    say(sink, &outcome.picture)?;
+    show(sink, &outcome)?;
     say(errors, &outcome.notice)?;
     Ok(outcome.verdict)
 }

@@ -1,9 +1,9 @@
 //! The program's top call.
 
-ghost use Rattle.std.specs.Prelude.{◌≡◌, ◌⊎◌, true, codes, map, string_bytes};
+ghost use Rattle.std.specs.Prelude.{◌≡◌, ◌⊎◌, false, true, map, string_bytes};
 ghost use Rattle.fab_io.specs.Ends.{Kept};
-ghost use Rattle.replay.specs.Replays.{is_word, IsDecided};
-ghost use Rattle.trace.specs.Words.{AreKept, TextEnds};
+ghost use Rattle.replay.specs.Replays.{Refuses, IsDecided};
+ghost use Rattle.trace.specs.Words.{asks_text, asks_picture, usage_text, AreKept, TextEnds, PictureEnds};
 
 use crate::drawings::draw;
 use crate::text_report::tell;
@@ -19,10 +19,10 @@ use std::alloc::Global;
 /// | status | when | beside that |
 /// |---|---|---|
 /// | 0 | all lines were run, and all was written | |
-/// | 2 | the words are others | nothing is read; the usage line is written to `errors` |
+/// | 2 | the words are others | nothing is read, and nothing is shown; the usage line is written to `errors` |
 /// | 3, 4, 8 | as `replay` answers the input | what `replay` prints last is written; with `svg` to `errors`, and nothing is drawn |
 /// | 5 | the source failed | |
-/// | 6 | the sink failed, or with `svg` `errors` did | |
+/// | 6 | with `text` the sink failed; with `svg` the sink or `errors` did; with other words `errors` did | |
 /// | 7 | no memory was left | |
 ///
 /// What is written with the word `text` tells what `replay` prints for the lines that were run, before it closes its output: it is the lines with
@@ -34,14 +34,19 @@ pub fn trace<S: Source, K: Sink, E: Sink>(
     sink: &mut K,
     errors: &mut E,
 ) -> u8
-    ensures text { is_word (codes "text") (map string_bytes words.now) ≡ true
+    // Words that are neither the one word `text` nor the one word `svg`: nothing is read, and nothing is shown.
+    ensures words { asks_text (map string_bytes words.now) ≡ false → asks_picture (map string_bytes words.now) ≡ false
+        → Refuses usage_text (E.told errors.old) (E.told errors.new) result × (source.new ≡ source.old) × (sink.new ≡ sink.old) }
+    ensures text { asks_text (map string_bytes words.now) ≡ true
         → TextEnds (S.told source.old) (K.told sink.old) (K.told sink.new) result × (errors.new ≡ errors.old) }
+    ensures picture { asks_picture (map string_bytes words.now) ≡ true
+        → PictureEnds (S.told source.old) (K.told sink.old) (K.told sink.new) result }
     // A failure comes only where the count of faults of the source rose, or of a sink, and never from sound ends.
     ensures source { Kept (S.faults source.old) (S.faults source.new) (S.sound source.old) (S.sound source.new) (result ≡ 5) }
     ensures sinks { AreKept (K.faults sink.old) (K.faults sink.new) (E.faults errors.old) (E.faults errors.new)
         (K.sound sink.old) (K.sound sink.new) (E.sound errors.old) (E.sound errors.new) (result ≡ 6) }
     // Over sound ends a run answers what the input alone calls for, or that memory was lacking.
-    ensures decided { (is_word (codes "text") (map string_bytes words.now) ≡ true) ⊎ (is_word (codes "svg") (map string_bytes words.now) ≡ true)
+    ensures decided { (asks_text (map string_bytes words.now) ≡ true) ⊎ (asks_picture (map string_bytes words.now) ≡ true)
         → S.sound source.old → K.sound sink.old → E.sound errors.old → IsDecided (S.told source.old) result }
 {
     if is_word(words, "text") {

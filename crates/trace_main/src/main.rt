@@ -2,11 +2,10 @@
 #![tactic(auto)]
 
 use clap::{Arg, Command};
-use fab_io::{StdSink, StdSource};
+use fab_io::{NO_MEMORY, StdSink, StdSource, command_words};
 use std::alloc::{AllocError, Global};
-use std::io::ErrorKind;
+use std::io;
 use std::process::ExitCode;
-use std::{env, io};
 use trace::trace;
 
 /// The command line.
@@ -21,16 +20,6 @@ fn command<'a>(alloc: Global) -> Result<Command<'a>, AllocError> {
         .arg(form)
 }
 
-/// The words of the command line behind the program's name.
-fn words(rt: &HostRuntime) -> io::Result<Vec<String>> {
-    match env::args(rt) {
-        Ok(words) => Ok(words.skip(1).collect(rt.alloc())?),
-        // A word that is no text makes a faulty command line, as the empty one is.
-        Err(error) if error.kind() == ErrorKind::InvalidData => Ok(Vec::new(rt.alloc())),
-        Err(error) => Err(error),
-    }
-}
-
 /// Shows the run of standard input, and answers the exit status.
 fn show(rt: &HostRuntime, words: &[String]) -> u8 {
     let mut source = StdSource::new(rt.reader());
@@ -41,7 +30,9 @@ fn show(rt: &HostRuntime, words: &[String]) -> u8 {
 
 /// Runs the program, and answers its exit status.
 fn run(rt: &HostRuntime) -> io::Result<u8> {
-    let words = words(rt)?;
+    let Some(words) = command_words(rt) else {
+        return Ok(NO_MEMORY);
+    };
     match command(rt.alloc())?.try_get_matches_from(words.as_slice()) {
         Ok(_) => Ok(show(rt, words.as_slice())),
         Err(error) => {
@@ -50,9 +41,6 @@ fn run(rt: &HostRuntime) -> io::Result<u8> {
         }
     }
 }
-
-/// The status of a run that finds no memory.
-const NO_MEMORY: u8 = 7;
 
 fn main(rt: HostRuntime) -> ExitCode {
     ExitCode::from(run(&rt).unwrap_or(NO_MEMORY))

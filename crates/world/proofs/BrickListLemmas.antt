@@ -1,42 +1,45 @@
 -- What the bricks show, after a step of one of them.
-use Rattle.std.proofs.Common.{◌≡◌, ◌≢◌, ℕ, ◌+◌, ◌^◌, ◌<◌, ◌≤◌, ◌&&◌, Bool, true, false, ⊎_elim, List, [], ◌∷◌, ◌++◌, length, set, get_or, Option, Some, None, refl, sym, ap, ◌∙◌, subst, arith, length-append}
-use Rattle.std.specs.Prelude.{slice_get, Result, Ok, Err, IfOk, OnErr}
-use Rattle.std.specs.Option.{ForSome, SomeIff}
+use Rattle.std.proofs.Common.{◌≡◌, ◌≢◌, ℕ, ◌+◌, ◌<◌, ◌≤◌, ◌&&◌, nat_lt, Bool, true, false, ⊎_elim, List, [], ◌∷◌, ◌++◌, length, set, get_or, Option, Some, None, refl, sym, ap, ◌∙◌, subst, arith, length-append}
+use Rattle.std.specs.Prelude.{slice_get, option_and_then, unwrap_or, Result, Ok, Err, IfOk, IfSome, OnErr}
+use Rattle.std.specs.Option.{option_map}
 use Rattle.std.proofs.lemmas.Bool.Decides.{nat_tests}
 use Rattle.std.proofs.lemmas.List.{length-set}
-use Rattle.std.proofs.lemmas.Option.{slice_get_read}
+use Rattle.std.proofs.lemmas.Bool.{cases_lt}
+use Rattle.std.proofs.lemmas.Option.{same_Some, slice_get_read, slice_get_within, slice_get_past, slice_get-map}
 use Rattle.std.proofs.lemmas.Result.{IfOk-weaker, on_err_weaker}
 use Rattle.fab_base.specs.declared.asks.Ask.{Ask}
 use Rattle.fab_base.specs.declared.faults.NoMem.{NoMem}
 use Rattle.fab_base.specs.declared.identities.BrickId.{BrickId}
-use Rattle.fab_disk.specs.MemDisk.{IsSound}
+use Rattle.fab_disk.specs.MemDisk.{IsSound, content_of}
 use Rattle.fab_disk.specs.declared.mem_disk.MemDisk.{MemDisk}
 use Rattle.messages.specs.declared.packets.Packet.{Packet}
 use Rattle.messages.specs.declared.packets.Message.{Message}
 use Rattle.coord_phase.specs.Messages.{packets_from}
 use Rattle.brick_store.specs.Bricks.{Brick as Store}
+use Rattle.brick_store.specs.Images.{IsListed}
 use Rattle.node.specs.declared.outs.Begun.{Begun}
 use Rattle.node.specs.Outcomes.{Outcome}
 use Rattle.node.specs.declared.faults.NodeFault.{NodeFault}
 use Rattle.stripe_code.specs.Codes.{coding}
 use Rattle.node.specs.Calls.{packet_calls}
 use Rattle.node.specs.Faults.{RefusesAs}
-use Rattle.node.specs.Running.{Running, state_of, IsSameBrick}
+use Rattle.node.specs.Running.{Running, state_of, shape_at, IsSameBrick}
 use Rattle.node.specs.States.{BeginsAs}
-use Rattle.protocol.specs.Worlds.{World, first_world, is_brick, is_up}
+use Rattle.protocol.specs.Worlds.{World, first_world, is_up}
 use Rattle.fab_base.specs.Layouts.{Layout}
 use Rattle.protocol.specs.Nodes as machine
 use Rattle.world.specs.Runs.{brick_of}
-use Rattle.world.specs.Disks.{IsUnwritten, ListsPacket}
+use Rattle.world.specs.Disks.{AreFreshDisks, IsUnwritten, ListsPacket, first_listed}
 use Rattle.world.specs.Faults.{IsReached, IsLeft, plan_of}
-use Rattle.world.specs.Shown.{IsRunning, Rests, ShowsPower, ShowsBrick, ShowsBricks, Takes, HandledAs, IsNodeOf, IsOn, IsUp, FindsUp, AreNodesOf, disk_in, disks_of}
+use Rattle.world.specs.Shown.{IsRunning, Rests, ShowsPower, ShowsBrick, ShowsBricks, IsFreshBrick, Takes, HandledAs, IsNodeOf, IsOn, IsUp, FindsUp, StopsBrick, AreNodesOf, disk_in, disks_of, node_in, running_at, clock_at}
 use Rattle.lines.specs.declared.forms.Fault.{Fault}
 use Rattle.world.proofs.DiskLemmas.{disk_at, disk_set, unwritten_but}
 use Rattle.world.specs.declared.bricks.Brick.{Brick}
 use Rattle.world.specs.declared.bricks.Power.{Power}
 use Rattle.world.specs.declared.bricks.Power.TheVariants.{Up, Down}
 use Rattle.world.proofs.BrickLemmas.{kept_same, still_runs}
-use Rattle.world.proofs.Places.{grown, replaced, value_here, value_elsewhere}
+use Rattle.world.proofs.DownLemmas.{rests_off}
+use Rattle.world.proofs.Places.{grown, replaced, slice_get_not_none, value_here, value_elsewhere}
 
 -- one brick changed, and no other
 pub shows_after : (layout : Layout) (bricks : List Brick) (b : ℕ) (brick : Brick) (w v : World) → ShowsBrick layout b brick (v.nodes b) (v.after b)
@@ -113,20 +116,6 @@ shows_down layout bricks b old power w next other clock is shows =
     })
     (λ i elsewhere. (value_elsewhere w.nodes b i next elsewhere, value_elsewhere w.after b i other elsewhere, value_elsewhere w.up b i false elsewhere, refl)) shows
 
--- a brick stopped
-pub shows_stopped : (layout : Layout) (bricks : List Brick) (b : ℕ) (old : Brick) (power : Power) (w : World) → b < length bricks
-    → old ≡ get_or bricks b old
-    → ((me : BrickId) (state after : machine.Node) → ShowsPower layout me state after true old.power
-    → ShowsPower layout me (machine.stopped state) (machine.stopped state) false power)
-    → ShowsBricks layout bricks w.nodes w.after w.up w.clocks → w.up b ≡ true
-    → ShowsBricks layout (set bricks b (with_power old power)) (machine.put w.nodes b (machine.stopped (w.nodes b)))
-    (machine.put w.after b (machine.stopped (w.nodes b))) (machine.put w.up b false) w.clocks
-shows_stopped layout bricks b old power w within is off shows up =
-    let was = brick_at layout bricks w b old within is shows in
-    shows_down layout bricks b old power w (machine.stopped (w.nodes b)) (machine.stopped (w.nodes b)) was.clock
-    (off (brick_of b) (w.nodes b) (w.after b)
-    (subst (λ (on : Bool). ShowsPower layout (brick_of b) (w.nodes b) (w.after b) on old.power) up was.power)) shows
-
 -- a brick that is as it was
 pub shows_kept : (layout : Layout) (bricks : List Brick) (b : ℕ) (old : Brick) (power : Power) (w : World) → b < length bricks → old ≡ get_or bricks b old
     → ShowsPower layout (brick_of b) (w.nodes b) (w.after b) (w.up b) power → ShowsBricks layout bricks w.nodes w.after w.up w.clocks
@@ -134,16 +123,6 @@ pub shows_kept : (layout : Layout) (bricks : List Brick) (b : ℕ) (old : Brick)
 shows_kept layout bricks b old power w within is power_shows shows =
     let was = brick_at layout bricks w b old within is shows in
     shows_after layout bricks b (with_power old power) w w (record { power = power_shows; clock = was.clock }) (λ i other. (refl, refl, refl, refl)) shows
-
--- what a brick sends at a tick is what the machine's sends
-pub ticks_as : (layout : Layout) (bricks : List Brick) (b : ℕ) (brick : Brick) (node : Running MemDisk) (messages : List (BrickId × Message)) → b < length bricks
-    → brick ≡ get_or bricks b brick → brick.power ≡ Up node → packets_from node.me messages ≡ machine.ticked (coding node.layout) node.me (state_of node)
-    → (w : World) → ShowsBricks layout bricks w.nodes w.after w.up w.clocks → packets_from (brick_of b) messages ≡ machine.ticked (coding layout) (brick_of b) (w.nodes b)
-ticks_as layout bricks b brick node messages within is on sent w shows =
-    let runs = (runs_at layout bricks w b brick node within is on shows).1 in
-    ap (λ (x : BrickId). packets_from x messages) (sym runs.me_is) ∙ sent ∙ ap (λ (l : Layout). machine.ticked (coding l) node.me (state_of node)) runs.layout_is
-    ∙ ap (λ (x : BrickId). machine.ticked (coding layout) x (state_of node)) runs.me_is
-    ∙ ap (λ (x : machine.Node). machine.ticked (coding layout) (brick_of b) x) runs.state_is
 
 -- a brick's clock was set
 pub shows_clock : (layout : Layout) (bricks : List Brick) (b : ℕ) (old : Brick) (time : ℕ) (w : World) → b < length bricks → old ≡ get_or bricks b old
@@ -292,54 +271,40 @@ module _ (layout : Layout) (bricks : List Brick) (number : BrickId) (old : Brick
       (subst (λ (time : ℕ). Takes layout number (w.nodes number.0) time packet node.brick.disk fault power result) at_number.clock
       (takes (w.nodes number.0) (runs_at layout bricks w number.0 old node within is on shows).1))
 
--- the number of a brick's next call, by what the brick says
-pub next_shown : (layout : Layout) (bricks : List Brick) (b : ℕ) (brick : Brick) (node : Running MemDisk) (next : Option ℕ) → b < length bricks
-    → brick ≡ get_or bricks b brick → brick.power ≡ Up node → SomeIff next ((state_of node).seq + 1 < 2 ^ 64) ((state_of node).seq + 1)
-    → (w : World) → ShowsBricks layout bricks w.nodes w.after w.up w.clocks → SomeIff next ((w.nodes b).seq + 1 < 2 ^ 64) ((w.nodes b).seq + 1)
-next_shown layout bricks b brick node next within is on gives w shows =
-    subst (λ (x : machine.Node). SomeIff next (x.seq + 1 < 2 ^ 64) (x.seq + 1))
-    (runs_at layout bricks w b brick node within is on shows).1.state_is gives
-
--- it is above those so far
-pub next_above : (seq : ℕ) (next : Option ℕ) → SomeIff next (seq + 1 < 2 ^ 64) (seq + 1) → ForSome next (λ n. seq < n)
-next_above seq None gives = λ n never. let e : None ≡ Some n = never in cc
-next_above seq (Some next) gives = λ n at.
-    let here : next ≡ n = let e : Some next ≡ Some n = at in cc in
-    let value : next ≡ seq + 1 = gives.1 in
-    omega arith
-
--- and there is one where a number is left
-pub next_is : (seq : ℕ) (next : Option ℕ) → SomeIff next (seq + 1 < 2 ^ 64) (seq + 1) → seq + 1 < 2 ^ 64 → next ≡ Some (seq + 1)
-next_is seq None gives left = absurd (gives left)
-next_is seq (Some next) gives left = ap (λ n. Some n) gives.1
-
 -- bricks of the first world
 pub record AreFresh (layout : Layout) (bricks : List Brick) (n : ℕ) : Type 0 where
   pub count : length bricks ≡ n
-  pub each : (i : ℕ) (brick : Brick) → slice_get bricks i ≡ Some brick → ShowsBrick layout i brick (machine.first_node layout) (machine.first_node layout) true 0
-
--- no brick yet
-pub fresh_none : (layout : Layout) → AreFresh layout [] 0
-fresh_none layout = record { count = refl; each = λ i brick is. let e : None ≡ Some brick = is in cc }
+  pub each : (i : ℕ) (brick : Brick) → slice_get bricks i ≡ Some brick → IsFreshBrick layout i brick
 
 -- one more
 pub fresh_more : (layout : Layout) (bricks : List Brick) (n : ℕ) (brick : Brick) → AreFresh layout bricks n
-    → ShowsBrick layout n brick (machine.first_node layout) (machine.first_node layout) true 0 → AreFresh layout (bricks ++ brick ∷ []) (n + 1)
+    → IsFreshBrick layout n brick → AreFresh layout (bricks ++ brick ∷ []) (n + 1)
 fresh_more layout bricks n brick fresh one = record {
   count = length-append bricks _ ∙ ap (λ k. k + 1) fresh.count;
   each = λ i x is.
       ⊎_elim
       (λ (old : slice_get bricks i ≡ Some x). fresh.each i x old)
       (λ (new : (i ≡ length bricks) × (brick ≡ x)).
-      subst (λ (y : Brick). ShowsBrick layout i y (machine.first_node layout) (machine.first_node layout) true 0) new.1
-      (subst (λ (k : ℕ). ShowsBrick layout k brick (machine.first_node layout) (machine.first_node layout) true 0) (sym (new.0 ∙ fresh.count)) one))
+      subst (IsFreshBrick layout i) new.1 (subst (λ (k : ℕ). IsFreshBrick layout k brick) (sym (new.0 ∙ fresh.count)) one))
       (grown bricks brick i x is);
 }
 
 -- fresh bricks are those of the first world
 pub shows_fresh : (layout : Layout) (bricks : List Brick) (n : ℕ) → n ≡ layout.bricks → AreFresh layout bricks n
     → ShowsBricks layout bricks (first_world layout).nodes (first_world layout).after (first_world layout).up (first_world layout).clocks
-shows_fresh layout bricks n all fresh = record { count = fresh.count ∙ all; each = fresh.each }
+shows_fresh layout bricks n all fresh = record { count = fresh.count ∙ all; each = λ i brick at. (fresh.each i brick at).shows }
+
+-- and the lists of their disks are as long as a first opening leaves them
+pub disks_fresh : (layout : Layout) (bricks : List Brick) (n : ℕ) → AreFresh layout bricks n → AreFreshDisks layout (disks_of bricks)
+disks_fresh layout bricks n fresh i disk at =
+    by (slice_get bricks i) refl (sym (slice_get-map (λ (brick : Brick). disk_in brick.power) bricks i) ∙ at)
+  where
+    by : (found : Option Brick) → slice_get bricks i ≡ found → option_map (λ (brick : Brick). disk_in brick.power) found ≡ Some disk
+        → IsListed (shape_at layout (brick_of i)) first_listed (content_of disk)
+    by None here is = absurd (let e : None ≡ Some disk = is in cc)
+    by (Some brick) here is =
+        subst (λ (d : MemDisk). IsListed (shape_at layout (brick_of i)) first_listed (content_of d))
+        (same_Some (disk_in brick.power) disk is) (fresh.each i brick here).listed
 
 -- each brick that is shown is one of the layout
 pub nodes_of : (layout : Layout) (bricks : List Brick) (nodes after : ℕ → machine.Node) (up : ℕ → Bool) (clocks : ℕ → ℕ)
@@ -355,20 +320,76 @@ pub node_at : (layout : Layout) (bricks : List Brick) (b : ℕ) (brick : Brick) 
 node_at layout bricks b brick within is of = of b brick (slice_get_read bricks (length bricks) b brick refl within is)
 
 -- the brick of a number that is up is on
-pub on_at : (layout : Layout) (bricks : List Brick) (number : BrickId) (brick : Brick) (power : Power) → brick ≡ get_or bricks number.0 brick
-    → brick.power ≡ power → IsUp layout bricks number → IsOn power
-on_at layout bricks number brick power is same up =
+pub on_at : (bricks : List Brick) (number : BrickId) (brick : Brick) (power : Power) → brick ≡ get_or bricks number.0 brick
+    → brick.power ≡ power → IsUp bricks number → IsOn power
+on_at bricks number brick power is same up =
     subst IsOn same (up.on brick (slice_get_read bricks (length bricks) number.0 brick refl up.within is))
 
--- a brick is up in each world that is shown, or down
-up_is : (layout : Layout) (bricks : List Brick) (b : ℕ) (brick : Brick) (w : World) → b < length bricks → brick ≡ get_or bricks b brick
-    → ShowsBricks layout bricks w.nodes w.after w.up w.clocks → is_up layout w (brick_of b) ≡ w.up b
-up_is layout bricks b brick w within is shows =
-    let here : is_brick layout (brick_of b) ≡ true = (let count = shows.count in grind (arith, nat_tests)) in
-    ap (λ (x : Bool). x && w.up b) here
+-- a brick that runs is up, in any layout that it shows
+up_within : (layout : Layout) (bricks : List Brick) (w : World) (b : ℕ) → b < length bricks
+    → ShowsBricks layout bricks w.nodes w.after w.up w.clocks → nat_lt b layout.bricks ≡ true
+up_within layout bricks w b within shows = (let less : b < layout.bricks = omega (arith, shows.count) in grind (arith, nat_tests))
 
+-- what a brick runs
+pub running_up : (bricks : List Brick) (b : ℕ) (brick : Brick) (node : Running MemDisk) → b < length bricks → brick ≡ get_or bricks b brick
+    → brick.power ≡ Up node → running_at bricks b ≡ Some node
+running_up bricks b brick node within is on =
+    ap (option_and_then (λ (x : Brick). node_in x.power)) (slice_get_read bricks (length bricks) b brick refl within is) ∙ ap node_in on
+
+pub running_down : (bricks : List Brick) (b : ℕ) (brick : Brick) (disk : MemDisk) → b < length bricks → brick ≡ get_or bricks b brick
+    → brick.power ≡ Down disk → running_at bricks b ≡ None
+running_down bricks b brick disk within is off =
+    ap (option_and_then (λ (x : Brick). node_in x.power)) (slice_get_read bricks (length bricks) b brick refl within is) ∙ ap node_in off
+
+-- what runs as a brick is the machine's
+pub running_shown : (layout : Layout) (bricks : List Brick) (w : World) (b : ℕ) (node : Running MemDisk)
+    → ShowsBricks layout bricks w.nodes w.after w.up w.clocks → running_at bricks b ≡ Some node
+    → (is_up layout w (brick_of b) ≡ true) × IsRunning layout (brick_of b) (w.nodes b) node × (clock_at bricks b ≡ w.clocks b)
+running_shown layout bricks w b node shows = by_brick (slice_get bricks b) refl
+  where
+    by_power : (power : Power) → ShowsPower layout (brick_of b) (w.nodes b) (w.after b) (w.up b) power → node_in power ≡ Some node
+        → (w.up b ≡ true) × IsRunning layout (brick_of b) (w.nodes b) node
+    by_power (Up one) shown is = (shown.0, subst (IsRunning layout (brick_of b) (w.nodes b)) (same_Some one node is) shown.1)
+    by_power (Down disk) shown is = absurd (let never : None ≡ Some node = is in cc)
+
+    by_brick : (found : Option Brick) → slice_get bricks b ≡ found → option_and_then (λ (x : Brick). node_in x.power) found ≡ Some node
+        → (is_up layout w (brick_of b) ≡ true) × IsRunning layout (brick_of b) (w.nodes b) node
+        × (unwrap_or (option_map (λ (x : Brick). x.clock) found) 0 ≡ w.clocks b)
+    by_brick None at is = absurd (let never : None ≡ Some node = is in cc)
+    by_brick (Some brick) at is =
+        let its = shows.each b brick at in
+        let runs = by_power brick.power its.power is in (
+          ap (λ (x : Bool). x && w.up b) (up_within layout bricks w b (slice_get_within bricks b brick at) shows) ∙ runs.0,
+          runs.1,
+          its.clock,
+        )
+
+-- where nothing runs the machine's brick is not up
+pub running_not : (layout : Layout) (bricks : List Brick) (w : World) (b : ℕ) → ShowsBricks layout bricks w.nodes w.after w.up w.clocks
+    → running_at bricks b ≡ None → is_up layout w (brick_of b) ≡ false
+running_not layout bricks w b shows = by_brick (slice_get bricks b) refl
+  where
+    by_power : (power : Power) → ShowsPower layout (brick_of b) (w.nodes b) (w.after b) (w.up b) power → node_in power ≡ None → w.up b ≡ false
+    by_power (Up node) shown is = absurd (let never : Some node ≡ None = is in cc)
+    by_power (Down disk) shown is = shown.0
+
+    by_brick : (found : Option Brick) → slice_get bricks b ≡ found → option_and_then (λ (x : Brick). node_in x.power) found ≡ None
+        → is_up layout w (brick_of b) ≡ false
+    by_brick None past is = ⊎_elim
+        (λ (within : b < length bricks). absurd (slice_get_not_none bricks b within past))
+        (λ (over : length bricks ≤ b).
+        ap (λ (x : Bool). x && w.up b) (let e : nat_lt b layout.bricks ≡ false = (let count = shows.count in grind (arith, nat_tests)) in e)) (cases_lt b (length bricks))
+    by_brick (Some brick) at is =
+        ap (λ (x : Bool). x && w.up b) (up_within layout bricks w b (slice_get_within bricks b brick at) shows)
+        ∙ by_power brick.power (shows.each b brick at).power is
+
+-- no brick runs of a number past the last
+pub running_past : (bricks : List Brick) (b : ℕ) → length bricks ≤ b → running_at bricks b ≡ None
+running_past bricks b past = ap (option_and_then (λ (x : Brick). node_in x.power)) (slice_get_past bricks b past)
+
+-- a brick that was found up
 pub found_up : (layout : Layout) (bricks : List Brick) (b : ℕ) (brick : Brick) (node : Running MemDisk) → b < length bricks
-    → brick ≡ get_or bricks b brick → brick.power ≡ Up node → AreNodesOf layout bricks → FindsUp layout bricks b (Some (brick_of b))
+    → brick ≡ get_or bricks b brick → brick.power ≡ Up node → AreNodesOf layout bricks → FindsUp bricks b (Some (brick_of b))
 found_up layout bricks b brick node within is on of =
     let at : slice_get bricks b ≡ Some brick = slice_get_read bricks (length bricks) b brick refl within is in
     let one = node_at layout bricks b brick within is of in
@@ -376,31 +397,86 @@ found_up layout bricks b brick node within is on of =
       refl,
       record {
         within = within;
-        on = λ x here.
-            let same : brick ≡ x = (let e : Some brick ≡ Some x = sym at ∙ here in cc) in
-            subst (λ (y : Brick). IsOn y.power) same (subst IsOn (sym on) (runs.runs, runs.sound));
-        up = λ w shows. up_is layout bricks b brick w within is shows ∙ (runs_at layout bricks w b brick node within is on shows).0;
+        on = λ x here. subst (λ (y : Brick). IsOn y.power) (same_Some brick x (sym at ∙ here)) (subst IsOn (sym on) (runs.runs, runs.sound));
       },
     )
 
-pub found_down : (layout : Layout) (bricks : List Brick) (b : ℕ) (brick : Brick) (disk : MemDisk) → b < length bricks → brick ≡ get_or bricks b brick
-    → brick.power ≡ Down disk → FindsUp layout bricks b None
-found_down layout bricks b brick disk within is off = λ w shows.
-    up_is layout bricks b brick w within is shows ∙ (rests_at layout bricks w b brick disk within is off shows).0
+-- the machine's is up
+pub up_there : (layout : Layout) (bricks : List Brick) (w : World) (brick : BrickId) → IsUp bricks brick
+    → ShowsBricks layout bricks w.nodes w.after w.up w.clocks → is_up layout w brick ≡ true
+up_there layout bricks w brick up shows = by_brick (slice_get bricks brick.0) refl
+  where
+    by_power : (power : Power) → IsOn power → ShowsPower layout brick (w.nodes brick.0) (w.after brick.0) (w.up brick.0) power → w.up brick.0 ≡ true
+    by_power (Up node) on shown = shown.0
+    by_power (Down disk) on shown = absurd on
 
--- there is no brick of a number past the last
-pub found_none : (layout : Layout) (bricks : List Brick) (b : ℕ) → layout.bricks ≤ b → FindsUp layout bricks b None
-found_none layout bricks b past = λ w shows. let there : is_brick layout (brick_of b) ≡ false = grind (arith, nat_tests) in ap
-    (λ (x : Bool). x && w.up b) there
+    by_brick : (found : Option Brick) → slice_get bricks brick.0 ≡ found → is_up layout w brick ≡ true
+    by_brick None at = absurd (slice_get_not_none bricks brick.0 up.within at)
+    by_brick (Some x) at =
+        ap (λ (b : Bool). b && w.up brick.0) (up_within layout bricks w brick.0 up.within shows)
+        ∙ by_power x.power (up.on x at) (shows.each brick.0 x at).power
 
 -- what was found of the bricks behind a slice
-pub down_at : (layout : Layout) (slice bricks : List Brick) (b : ℕ) (brick : BrickId) → slice ≡ bricks → b ≡ brick.0 → FindsUp layout slice b None
+pub down_at : (layout : Layout) (slice bricks : List Brick) (b : ℕ) (brick : BrickId) → slice ≡ bricks → b ≡ brick.0 → FindsUp slice b None
     → (w : World) → ShowsBricks layout bricks w.nodes w.after w.up w.clocks → is_up layout w brick ≡ false
 down_at layout slice bricks b brick same here found w shows =
     ap (λ (k : ℕ). is_up layout w (brick_of k)) (sym here)
-    ∙ found w (subst (λ (xs : List Brick). ShowsBricks layout xs w.nodes w.after w.up w.clocks) (sym same) shows)
+    ∙ running_not layout bricks w b shows (ap (λ (xs : List Brick). running_at xs b) (sym same) ∙ found)
 
-pub up_at : (layout : Layout) (slice bricks : List Brick) (b : ℕ) (brick found : BrickId) → slice ≡ bricks → b ≡ brick.0
-    → FindsUp layout slice b (Some found) → (found ≡ brick) × IsUp layout bricks found
-up_at layout slice bricks b brick found same here is =
-    (is.0 ∙ ap brick_of here, subst (λ (xs : List Brick). IsUp layout xs found) same is.1)
+pub up_at : (slice bricks : List Brick) (b : ℕ) (brick found : BrickId) → slice ≡ bricks → b ≡ brick.0
+    → FindsUp slice b (Some found) → (found ≡ brick) × IsUp bricks found
+up_at slice bricks b brick found same here is =
+    (is.0 ∙ ap brick_of here, subst (λ (xs : List Brick). IsUp xs found) same is.1)
+
+-- a brick stopped
+pub shows_stopped : (layout : Layout) (old new : List Brick) (w : World) (brick : BrickId) → IsUp old brick → StopsBrick old new brick
+    → ShowsBricks layout old w.nodes w.after w.up w.clocks
+    → ShowsBricks layout new (machine.put w.nodes brick.0 (machine.stopped (w.nodes brick.0)))
+    (machine.put w.after brick.0 (machine.stopped (w.nodes brick.0))) (machine.put w.up brick.0 false) w.clocks
+shows_stopped layout old new w brick up stops shows = by_brick (slice_get old brick.0) refl
+  where
+    by_power : (power : Power) → IsOn power → ShowsPower layout brick (w.nodes brick.0) (w.after brick.0) (w.up brick.0) power
+        → ShowsPower layout brick (machine.stopped (w.nodes brick.0)) (machine.stopped (w.nodes brick.0)) false (Down (disk_in power))
+    by_power (Up node) on shown = (refl, rests_off layout brick (w.nodes brick.0) node node.brick.disk shown.1 refl)
+    by_power (Down disk) on shown = absurd on
+
+    by_brick : (found : Option Brick) → slice_get old brick.0 ≡ found
+        → ShowsBricks layout new (machine.put w.nodes brick.0 (machine.stopped (w.nodes brick.0)))
+        (machine.put w.after brick.0 (machine.stopped (w.nodes brick.0))) (machine.put w.up brick.0 false) w.clocks
+    by_brick None at = absurd (slice_get_not_none old brick.0 up.within at)
+    by_brick (Some x) at =
+        let was = shows.each brick.0 x at in
+        subst (λ (bricks : List Brick). ShowsBricks layout bricks (machine.put w.nodes brick.0 (machine.stopped (w.nodes brick.0)))
+        (machine.put w.after brick.0 (machine.stopped (w.nodes brick.0))) (machine.put w.up brick.0 false) w.clocks) (sym (stops x at))
+        (shows_down layout old brick.0 x (Down (disk_in x.power)) w (machine.stopped (w.nodes brick.0)) (machine.stopped (w.nodes brick.0)) was.clock
+        (by_power x.power (up.on x at) was.power) shows)
+
+-- what a brick sends at a tick is what the machine's sends
+pub ticks_as : (layout : Layout) (bricks : List Brick) (w : World) (brick : BrickId) (messages : List (BrickId × Message)) → IsUp bricks brick
+    → IfSome (running_at bricks brick.0) (λ node. packets_from node.me messages ≡ machine.ticked (coding node.layout) node.me (state_of node))
+    → ShowsBricks layout bricks w.nodes w.after w.up w.clocks → packets_from brick messages ≡ machine.ticked (coding layout) brick (w.nodes brick.0)
+ticks_as layout bricks w brick messages up sent shows = by_node (running_at bricks brick.0) refl sent
+  where
+    by_node : (found : Option (Running MemDisk)) → running_at bricks brick.0 ≡ found
+        → IfSome found (λ node. packets_from node.me messages ≡ machine.ticked (coding node.layout) node.me (state_of node))
+        → packets_from brick messages ≡ machine.ticked (coding layout) brick (w.nodes brick.0)
+    by_node None none is =
+        absurd (let never : true ≡ false = sym (up_there layout bricks w brick up shows) ∙ running_not layout bricks w brick.0 shows none in cc)
+    by_node (Some node) on is =
+        let runs = (running_shown layout bricks w brick.0 node shows on).1 in
+        ap (λ (x : BrickId). packets_from x messages) (sym runs.me_is) ∙ is
+        ∙ ap (λ (l : Layout). machine.ticked (coding l) node.me (state_of node)) runs.layout_is
+        ∙ ap (λ (x : BrickId). machine.ticked (coding layout) x (state_of node)) runs.me_is
+        ∙ ap (λ (x : machine.Node). machine.ticked (coding layout) brick x) runs.state_is
+
+-- how often its store was opened is what the machine's says
+pub boots_as : (layout : Layout) (bricks : List Brick) (w : World) (brick : BrickId) (boot : ℕ) → IsUp bricks brick
+    → IfSome (running_at bricks brick.0) (λ node. boot ≡ (state_of node).boot)
+    → ShowsBricks layout bricks w.nodes w.after w.up w.clocks → boot ≡ (w.nodes brick.0).boot
+boots_as layout bricks w brick boot up says shows = by_node (running_at bricks brick.0) refl says
+  where
+    by_node : (found : Option (Running MemDisk)) → running_at bricks brick.0 ≡ found → IfSome found (λ node. boot ≡ (state_of node).boot)
+        → boot ≡ (w.nodes brick.0).boot
+    by_node None none is =
+        absurd (let never : true ≡ false = sym (up_there layout bricks w brick up shows) ∙ running_not layout bricks w brick.0 shows none in cc)
+    by_node (Some node) on is = is ∙ ap (λ (x : machine.Node). x.boot) (running_shown layout bricks w brick.0 node shows on).1.state_is

@@ -1,6 +1,6 @@
 -- When an operation may run alone: as the bricks and the history tell.
 use Rattle.protocol_laws.proofs.FirstWorlds.{AreInFirst}
-use Rattle.std.proofs.Common.{◌≡◌, ◌≢◌, ℕ, zero, suc, ◌+◌, ◌<◌, ◌≤◌, Bool, true, false, not, cond, nat_eq, nat_lt, nat_le, ◌&&◌, ◌||◌, ◌-◌, List, [], ◌∷◌, length, map, take, drop, take_all, get_or, Option, Some, None, is_some, refl, sym, ap, ◌∙◌, subst, arith}
+use Rattle.std.proofs.Common.{◌≡◌, ◌≢◌, ℕ, zero, suc, ◌+◌, ◌<◌, ◌≤◌, Bool, true, false, not, cond, nat_eq, nat_le, ◌&&◌, ◌||◌, ◌-◌, List, [], ◌∷◌, length, map, take, drop, take_all, Option, Some, None, is_some, refl, sym, ap, ◌∙◌, subst, arith}
 use Rattle.std.specs.Prelude.{slice_get, slice_index_or, filter}
 use Rattle.std.specs.Bool.{Decides}
 use Rattle.std.specs.List.{IsDistinct, AllByRecursion, list_any}
@@ -28,72 +28,69 @@ use Rattle.world.specs.declared.histories.History.{History}
 use Rattle.world.specs.declared.histories.OperationRecord.{OperationRecord}
 use Rattle.world.proofs.Places.{slice_get_not_none}
 use Rattle.world.specs.Runs.{brick_of}
-use Rattle.world.specs.Shown.{ShowsBricks, IsRunning, IsAble, IsInTime, Tells, TellsOperation, record_at}
+use Rattle.world.specs.Shown.{ShowsBricks, IsAble, IsInTime, NodeIsAble, NodeIsInTime, Tells, TellsOperation, record_at, running_at, clock_at}
 use Rattle.world.specs.declared.bricks.Brick.{Brick}
-use Rattle.world.specs.declared.bricks.Power.TheVariants.{Up, Down}
-use Rattle.world.proofs.BrickListLemmas.{runs_at, rests_at}
+use Rattle.world.proofs.BrickListLemmas.{running_shown, running_not}
 use Rattle.world.proofs.CallNumbers.{AreOfBricks}
 
--- a brick that runs is up, in any layout that it shows
-up_within : (layout : Layout) (bricks : List Brick) (w : World) (b : ℕ) → b < length bricks
-    → ShowsBricks layout bricks w.nodes w.after w.up w.clocks → nat_lt b layout.bricks ≡ true
-up_within layout bricks w b within shows = (let less : b < layout.bricks = omega (arith, shows.count) in grind (arith, nat_tests))
-
-pub running_there : (layout : Layout) (bricks : List Brick) (w : World) (b : ℕ) (brick : Brick) (node : Running MemDisk) → b < length bricks
-    → brick ≡ get_or bricks b brick → brick.power ≡ Up node → ShowsBricks layout bricks w.nodes w.after w.up w.clocks
-    → (is_up layout w (brick_of b) ≡ true) × IsRunning layout (brick_of b) (w.nodes b) node
-running_there layout bricks w b brick node within is on shows =
-    let runs = runs_at layout bricks w b brick node within is on shows in
-    (ap (λ (x : Bool). x && w.up b) (up_within layout bricks w b within shows) ∙ runs.0, runs.1)
-
-pub running_not : (layout : Layout) (bricks : List Brick) (w : World) (b : ℕ) (brick : Brick) (disk : MemDisk) → b < length bricks
-    → brick ≡ get_or bricks b brick → brick.power ≡ Down disk → ShowsBricks layout bricks w.nodes w.after w.up w.clocks
-    → is_up layout w (brick_of b) ≡ false
-running_not layout bricks w b brick disk within is off shows =
-    let rests = rests_at layout bricks w b brick disk within is off shows in
-    ap (λ (x : Bool). x && w.up b) (up_within layout bricks w b within shows) ∙ rests.0
-
--- what is read of a brick that runs is the machine's
-state_live : (node : Running MemDisk) → (state_of node).live ≡ live node.brick.state
+-- how much a brick keeps that runs
+pub state_live : (node : Running MemDisk) → (state_of node).live ≡ live node.brick.state
 unfolding state_of
 state_live node = refl
 
-pub running_live : (layout : Layout) (me : BrickId) (state : Node) (node : Running MemDisk) → IsRunning layout me state node
-    → state.live ≡ live node.brick.state
-running_live layout me state node is = ap (λ (x : Node). x.live) (sym is.state_is) ∙ state_live node
-
--- a brick that is up and has room is able where its times are early
-pub able_early : (layout : Layout) (w : World) (number : ℕ) (b : Bool) (node : Running MemDisk) → is_up layout w (brick_of number) ≡ true
-    → IsRunning layout (brick_of number) (w.nodes number) node → (w.nodes number).live + 2 ≤ layout.records
-    → Decides b (IsEarly (state_of node)) → Decides b (IsAble layout w number)
-able_early layout w number b node up is room decides = (
-  λ on. record { up = up; room = room; times = subst IsEarly is.state_is (decides.0 on) },
-  λ able. decides.1 (subst IsEarly (sym is.state_is) able.times),
-)
-
--- one without room is not
-pub full_unable : (layout : Layout) (w : World) (number used records : ℕ) → (w.nodes number).live ≡ used → records ≡ layout.records → records < used + 2
-    → Decides (nat_le (used + 2) records) (IsAble layout w number)
-full_unable layout w number used records same are full = (
+-- a brick without room is not able
+pub full_unable : (layout : Layout) (node : Running MemDisk) (used records : ℕ) → (state_of node).live ≡ used → records ≡ layout.records
+    → records < used + 2 → Decides (nat_le (used + 2) records) (NodeIsAble layout (Some node))
+full_unable layout node used records same are full = (
   λ on. absurd (let fits : used + 2 ≤ records = grind (arith, nat_tests, on) in omega arith),
-  λ able. absurd (omega (arith, able.room, same, are)),
+  λ able. absurd (omega (arith, able.0, same, are)),
 )
 
--- a brick that is up is in time where its clock and its times are early
-pub in_time_early : (layout : Layout) (w : World) (number time : ℕ) (b : Bool) (node : Running MemDisk) → is_up layout w (brick_of number) ≡ true
-    → IsRunning layout (brick_of number) (w.nodes number) node → time ≡ w.clocks number → time < early
-    → Decides b (IsEarly (state_of node)) → Decides b (IsInTime layout w number)
-in_time_early layout w number time b node up is same less decides = (
-  λ on. record { up = up; clock = subst (λ (t : ℕ). t < early) same less; times = subst IsEarly is.state_is (decides.0 on) },
-  λ within. decides.1 (subst IsEarly (sym is.state_is) within.times),
-)
+-- the machine's brick is able where what runs is
+pub able_shown : (layout : Layout) (bricks : List Brick) (w : World) (b : ℕ) → ShowsBricks layout bricks w.nodes w.after w.up w.clocks
+    → (NodeIsAble layout (running_at bricks b) → IsAble layout w b) × (IsAble layout w b → NodeIsAble layout (running_at bricks b))
+able_shown layout bricks w b shows = by_node (running_at bricks b) refl
+  where
+    by_node : (found : Option (Running MemDisk)) → running_at bricks b ≡ found
+        → (NodeIsAble layout found → IsAble layout w b) × (IsAble layout w b → NodeIsAble layout found)
+    by_node None none = (
+      λ able. absurd able,
+      λ able. absurd (let never : true ≡ false = sym able.up ∙ running_not layout bricks w b shows none in cc),
+    )
+    by_node (Some node) is =
+        let its = running_shown layout bricks w b node shows is in (
+          λ able. record {
+            up = its.0;
+            room = subst (λ (x : Node). x.live + 2 ≤ layout.records) its.1.state_is able.0;
+            times = subst IsEarly its.1.state_is able.1;
+          },
+          λ able. (
+            subst (λ (x : Node). x.live + 2 ≤ layout.records) (sym its.1.state_is) able.room,
+            subst IsEarly (sym its.1.state_is) able.times,
+          ),
+        )
 
-pub late_not_in_time : (layout : Layout) (w : World) (number time : ℕ) → time ≡ w.clocks number → early ≤ time
-    → Decides (nat_lt time early) (IsInTime layout w number)
-late_not_in_time layout w number time same late = (
-  λ on. absurd (let less : time < early = grind (arith, nat_tests, on) in omega arith),
-  λ within. absurd (omega (arith, within.clock, same)),
-)
+-- and it is in time where what runs is
+pub in_time_shown : (layout : Layout) (bricks : List Brick) (w : World) (b : ℕ) → ShowsBricks layout bricks w.nodes w.after w.up w.clocks
+    → (NodeIsInTime (clock_at bricks b) (running_at bricks b) → IsInTime layout w b)
+    × (IsInTime layout w b → NodeIsInTime (clock_at bricks b) (running_at bricks b))
+in_time_shown layout bricks w b shows = by_node (running_at bricks b) refl
+  where
+    by_node : (found : Option (Running MemDisk)) → running_at bricks b ≡ found
+        → (NodeIsInTime (clock_at bricks b) found → IsInTime layout w b) × (IsInTime layout w b → NodeIsInTime (clock_at bricks b) found)
+    by_node None none = (
+      λ early_now. absurd early_now,
+      λ within. absurd (let never : true ≡ false = sym within.up ∙ running_not layout bricks w b shows none in cc),
+    )
+    by_node (Some node) is =
+        let its = running_shown layout bricks w b node shows is in (
+          λ early_now. record {
+            up = its.0;
+            clock = subst (λ (t : ℕ). t < early) its.2 early_now.0;
+            times = subst IsEarly its.1.state_is early_now.1;
+          },
+          λ within. (subst (λ (t : ℕ). t < early) (sym its.2) within.clock, subst IsEarly (sym its.1.state_is) within.times),
+        )
 
 -- a number that stands again among others, or does not
 none_again : (x : ℕ) (ys : List ℕ) → list_any (λ y. nat_eq y x) ys ≡ false → AllByRecursion (λ y. nat_eq x y ≡ false) ys
@@ -201,16 +198,6 @@ down_is layout w brick there down = ap (λ (b : Bool). b && w.up brick.0) (sym t
 -- one that is up is up
 pub up_of : (layout : Layout) (w : World) (brick : BrickId) → is_up layout w brick ≡ true → w.up brick.0 ≡ true
 up_of layout w brick up = (and_parts (is_brick layout brick) (w.up brick.0) up).1
-
--- the boot of a brick that runs is the machine's
-pub running_boot : (layout : Layout) (me : BrickId) (state : Node) (node : Running MemDisk) → IsRunning layout me state node
-    → state.boot ≡ (state_of node).boot
-running_boot layout me state node is = ap (λ (x : Node). x.boot) (sym is.state_is)
-
--- so are its open calls
-pub running_open : (layout : Layout) (me : BrickId) (state : Node) (node : Running MemDisk) (k : ℕ) → IsRunning layout me state node
-    → is_some (state.calls k) ≡ is_some ((state_of node).calls k)
-running_open layout me state node k is = ap (λ (x : Node). is_some (x.calls k)) (sym is.state_is)
 
 -- an open operation: what it asks is what its coordinator was asked, of the group that the coordinator knows
 pub record IsOpenAt (setting : Setting) (w : World) (n : ℕ) (c : Coordinator) : Type 0 where

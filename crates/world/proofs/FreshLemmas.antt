@@ -1,20 +1,26 @@
 -- A fresh brick is started over a store that was never opened.
-use Rattle.std.proofs.Common.{◌≡◌, ⊎_elim, ℕ, ◌+◌, ◌≤◌, Bool, true, false, None, Result, Ok, Err, refl, sym, ap, ◌∙◌, subst, arith}
+use Rattle.std.proofs.Common.{◌≡◌, ⊎_elim, ℕ, ◌+◌, ◌≤◌, Bool, true, false, List, [], ◌∷◌, None, Result, Ok, Err, refl, sym, ap, ◌∙◌, subst, arith}
 use Rattle.std.specs.Prelude.{OnErr, IfOk}
 use Rattle.fab_base.specs.declared.faults.NoMem.{NoMem}
 use Rattle.fab_base.specs.declared.identities.BrickId.{BrickId}
 use Rattle.fab_base.specs.Layouts.{Layout}
 use Rattle.fab_disk.specs.MemDisk.{content_of, IsSound}
 use Rattle.fab_disk.specs.declared.mem_disk.MemDisk.{MemDisk}
+use Rattle.frame_store.specs.declared.frames.Frame.{Frame}
+use Rattle.frame_store.specs.Images.{OpensAs}
+use Rattle.frame_store.specs.Listed.{size_of}
 use Rattle.version_log.specs.Versions.{Version}
 use Rattle.brick_state.specs.States.{StateOf}
-use Rattle.brick_store.specs.Images.{IsFound}
+use Rattle.brick_store.specs.Images.{IsFound, IsListed}
+use Rattle.brick_store.specs.Openings.{is_whole, opens_appendable}
+use Rattle.brick_store.specs.Sizes.{boot_size}
+use Rattle.brick_store.proofs.Lengths.{fits_there}
 use Rattle.node.specs.Running.{shape_at, ImageShows}
 use Rattle.protocol.specs.Nodes as machine
 use Rattle.protocol.specs.Worlds.{Found, Before, After}
-use Rattle.world.specs.Disks.{ShowsDisk}
+use Rattle.world.specs.Disks.{ShowsDisk, ListsOpening, first_listed}
 use Rattle.world.specs.Faults.{opened_more, found_of}
-use Rattle.world.specs.Shown.{Rests, ShowsPower, ShowsBrick, WasStarted, IsWorn, WasCutShort, TurnsOn, unopened}
+use Rattle.world.specs.Shown.{Rests, ShowsPower, IsFreshBrick, WasStarted, IsWorn, WasCutShort, TurnsOn, disk_in, unopened}
 use Rattle.world.specs.declared.bricks.Brick.{Brick}
 use Rattle.world.specs.declared.bricks.Power.{Power}
 use Rattle.world.proofs.BrickLemmas.{found_boot}
@@ -75,25 +81,50 @@ not_cut : (layout : Layout) (me : BrickId) (disk : MemDisk) (power : Power)
     → WasCutShort layout me (unopened layout) (unopened layout) disk None power → ⊥
 not_cut layout me disk power was = let some : 1 ≤ 0 = was.reached.within.some in omega arith
 
+-- frames of no bytes are none
+no_frames : (frames : List Frame) → size_of frames ≡ 0 → frames ≡ []
+no_frames [] none = refl
+no_frames (frame ∷ frames) none = absurd (omega (arith, none))
+
+-- an empty list can be appended to
+empty_appendable : (layout : Layout) (me : BrickId) → opens_appendable (shape_at layout me) [] true ≡ true
+unfolding is_whole
+empty_appendable layout me = fits_there (shape_at layout me) 0 boot_size (omega arith)
+
+-- and is as long as one frame, once it was opened
+first_opened : (layout : Layout) (me : BrickId) (node : machine.Node) (was disk : MemDisk) → IsListed (shape_at layout me) 0 (content_of was)
+    → ListsOpening layout me node was disk → IsListed (shape_at layout me) first_listed (content_of disk)
+first_opened layout me node was disk empty lists =
+    let opens : OpensAs (shape_at layout me) [] true (content_of was) =
+    subst (λ (frames : List Frame). OpensAs (shape_at layout me) frames true (content_of was)) (no_frames empty.frames empty.bytes) empty.opens
+    in
+    subst (λ (n : ℕ). IsListed (shape_at layout me) n (content_of disk)) ((lists.longer [] true opens).longer (empty_appendable layout me)) lists.is_listed
+
+-- It runs, and its list is that of a first opening.
+pub record RunsFresh (layout : Layout) (me : BrickId) (power : Power) : Type 0 where
+  pub shows : ShowsPower layout me (machine.first_node layout) (machine.first_node layout) true power
+  pub listed : IsListed (shape_at layout me) first_listed (content_of (disk_in power))
+
 fresh_runs : (layout : Layout) (me : BrickId) (disk : MemDisk) (power : Power) (started : Bool) → ShowsDisk layout me (unopened layout) disk
-    → TurnsOn layout me (unopened layout) (unopened layout) disk None power (Ok started)
-    → ShowsPower layout me (machine.first_node layout) (machine.first_node layout) true power
-fresh_runs layout me disk power true kept turns = fresh_started layout me disk power kept turns
-fresh_runs layout me disk power false kept turns = ⊎_elim
+    → IsListed (shape_at layout me) 0 (content_of disk) → TurnsOn layout me (unopened layout) (unopened layout) disk None power (Ok started)
+    → RunsFresh layout me power
+fresh_runs layout me disk power true kept empty was = record {
+  shows = fresh_started layout me disk power kept was;
+  listed = first_opened layout me _ disk (disk_in power) empty was.lists;
+}
+fresh_runs layout me disk power false kept empty turns = ⊎_elim
     (λ (was : IsWorn layout me (unopened layout) (unopened layout) disk power). absurd (not_worn layout me disk power kept was))
     (λ (was : WasCutShort layout me (unopened layout) (unopened layout) disk None power). absurd (not_cut layout me disk power was))
     turns
 
 -- and is made with its clock at 0 where it started
 pub fresh_made : (layout : Layout) (me : BrickId) (disk : MemDisk) (power : Power) (started : Result Bool NoMem) (made : Result Brick NoMem)
-    → ShowsDisk layout me (unopened layout) disk
+    → ShowsDisk layout me (unopened layout) disk → IsListed (shape_at layout me) 0 (content_of disk)
     → TurnsOn layout me (unopened layout) (unopened layout) disk None power started
     → IfOk made (λ brick. (brick.power ≡ power) × (brick.clock ≡ 0) × OnErr started ⊥)
-    → IfOk made (λ brick. ShowsBrick layout me.0 brick (machine.first_node layout) (machine.first_node layout) true 0)
-fresh_made layout me disk power (Ok started) (Ok brick) kept turns (same, clock, done) = record {
-  power = subst (λ (p : Power). ShowsPower layout me (machine.first_node layout) (machine.first_node layout) true p) (sym same)
-      (fresh_runs layout me disk power started kept turns);
-  clock = clock;
-}
-fresh_made layout me disk power (Err refused) (Ok brick) kept turns (same, clock, done) = absurd done
-fresh_made layout me disk power started (Err refused) kept turns made = made
+    → IfOk made (IsFreshBrick layout me.0)
+fresh_made layout me disk power (Ok started) (Ok brick) kept empty turns (same, clock, done) =
+    let runs : RunsFresh layout me brick.power = subst (RunsFresh layout me) (sym same) (fresh_runs layout me disk power started kept empty turns) in
+    record { shows = record { power = runs.shows; clock = clock }; listed = runs.listed }
+fresh_made layout me disk power (Err refused) (Ok brick) kept empty turns (same, clock, done) = absurd done
+fresh_made layout me disk power started (Err refused) kept empty turns made = made

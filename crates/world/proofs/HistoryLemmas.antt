@@ -4,7 +4,7 @@ use Rattle.std.specs.Prelude.{option_to_list, slice_get, if◌then◌else◌}
 use Rattle.std.specs.Option.{option_map}
 use Rattle.std.proofs.lemmas.Bool.{cond_both, eqb-true, eqb-false, ne_eqb}
 use Rattle.std.proofs.lemmas.List.{get_or_append_left}
-use Rattle.std.proofs.lemmas.Option.{slice_get_within, slice_get_past, slice_get-get_or}
+use Rattle.std.proofs.lemmas.Option.{same_Some, slice_get_within, slice_get_past, slice_get-get_or}
 use Rattle.fab_base.specs.declared.answers.Answer.{Answer}
 use Rattle.fab_base.specs.declared.asks.Ask.{Ask}
 use Rattle.fab_base.specs.declared.identities.BrickId.{BrickId}
@@ -26,7 +26,7 @@ use Rattle.world.specs.CallNumbers.{AreCalls, calls_in, call_at}
 use Rattle.world.specs.Shown.{TellsOperations, ChangesAt, TellsOperation, Tells, made_kept, seen_kept, ended_kept}
 use Rattle.world.specs.declared.call_numbers.CallNumbers.{CallNumbers}
 use Rattle.world.specs.declared.deliveries.Deliveries.{Deliveries}
-use Rattle.world.proofs.Places.{grown, each_value, value_here, value_elsewhere, get_or_end, set_here, set_elsewhere}
+use Rattle.world.proofs.Places.{grown, each_value, value_here, value_elsewhere, get_or_end, set_here, set_elsewhere, slice_get_not_none}
 
 -- room alone changes nothing that is told
 pub tells_same : (old new : History) (w : World) → new.sent.packets.items ≡ old.sent.packets.items
@@ -151,10 +151,6 @@ ended_alike answer known o is = (_, refl, record { brick = is.brick; boot = is.b
 stopped_boot : (node : Node) → (stopped node).boot ≡ node.boot
 unfolding stopped
 stopped_boot node = refl
-
-stopped_seq : (node : Node) → (stopped node).seq ≡ node.seq
-unfolding stopped
-stopped_seq node = refl
 
 restarted_seq : (openings : ℕ) (node : Node) → (restarted openings node).seq ≡ 0
 unfolding restarted
@@ -324,19 +320,23 @@ changes_at kept number default change some within n =
     let other : n ≢ number - 1 = (λ e. apart (omega arith)) in
     set_elsewhere kept (number - 1) (change (get_or kept (number - 1) default)) n other)
 
--- the operation of a number became this
-pub changes_to : (kept : List OperationRecord) (number : ℕ) (default value : OperationRecord) (change : OperationRecord → OperationRecord) → number ≢ 0 → number - 1 < length kept
-    → change (get_or kept (number - 1) default) ≡ value → ChangesAt kept (set kept (number - 1) value) number change
-changes_to kept number default value change some within is =
-    subst (λ (x : OperationRecord). ChangesAt kept (set kept (number - 1) x) number change) is (changes_at kept number default change some within)
-
 -- the number of a call is that of its operation
 pub number_is : (history : History) (w : World) (b seq number : ℕ) → Tells history w → w.up b ≡ true → 1 ≤ seq → seq ≤ (w.nodes b).seq
-    → number ≡ call_at (calls_in history.calls b) seq → number ≡ number_of w b seq
+    → Some number ≡ call_at (calls_in history.calls b) seq → number ≡ number_of w b seq
 number_is history w b zero number tells up low high is = absurd (omega arith)
 number_is history w b (suc k) number tells up low high is =
     let are = subst (λ (x : Bool). AreCalls x (calls_in history.calls b) (number_of w b) (w.nodes b).seq) up (tells.calls b) in
-    is ∙ are.1 k (omega (arith, high)) ∙ ap (number_of w b) (add-one k)
+    same_Some number (number_of w b (suc k))
+    (is ∙ slice_get-get_or (calls_in history.calls b) k 0 (omega (arith, are.0, high))
+    ∙ ap (λ n. Some n) (are.1 k (omega (arith, high)) ∙ ap (number_of w b) (add-one k)))
+
+-- and each call so far has one
+pub has_number : (history : History) (w : World) (b seq : ℕ) → Tells history w → w.up b ≡ true → 1 ≤ seq → seq ≤ (w.nodes b).seq
+    → None ≡ call_at (calls_in history.calls b) seq → ⊥
+has_number history w b zero tells up low high none = omega arith
+has_number history w b (suc k) tells up low high none =
+    let are = subst (λ (x : Bool). AreCalls x (calls_in history.calls b) (number_of w b) (w.nodes b).seq) up (tells.calls b) in
+    slice_get_not_none (calls_in history.calls b) k (omega (arith, are.0, high)) (sym none)
 
 -- an operation made a version
 pub tells_made : (old new : History) (w : World) (b seq number : ℕ) (stamp : Stamp) (base : Option Stamp) (kept after : List OperationRecord) → Tells old w
@@ -380,13 +380,6 @@ pub tells_one : (new : History) (w : World) (brick : BrickId) (answer : Option A
     → Tells new (world_answered w brick one) → Tells new (world_answers w brick (option_to_list answer))
 tells_one new w brick answer one is tells =
     subst (λ (a : Option Answered). Tells new (world_answers w brick (option_to_list a))) (sym is) tells
-
--- what contents versions have is told by no history
-pub tells_contents : (history : History) (w : World) (contents : ℕ → ℕ → Stamp → List ℕ) → Tells history w
-    → Tells history (record w { contents = contents })
-tells_contents history w contents tells =
-    let v : World = record w { contents = contents } in
-    tells_other history w v refl refl refl refl refl refl (λ i calls are. are) tells
 
 -- What is told and answered changes operations, contents and marks alone.
 pub record KeepsRest (w v : World) : Type 0 where

@@ -15,7 +15,7 @@ use Rattle.reg_model.specs.declared.marks.Mark.{Mark}
 use Rattle.reg_model.specs.Marks.{life_of, is_of_stripe, stripe_marks}
 use Rattle.reg_model.specs.Walk.{begin_of, positioned}
 use Rattle.protocol.specs.Settings.{Setting}
-use Rattle.protocol.specs.Worlds.{World, Operation, Event, first_world, run}
+use Rattle.protocol.specs.Worlds.{World, Operation}
 use Rattle.protocol.specs.Happenings.{is_marked, Effect, is_of, entry_with, entry_at, entries_to, was_answered, writes, is_told, base_of, is_among, with_entry, effect_of, ascending, walk_of, happenings_of}
 use Rattle.protocol_laws.proofs.MarkNumbers.{own_marked, own_walk}
 use Rattle.protocol_laws.proofs.Books.{Books, OperationBooks}
@@ -263,7 +263,3 @@ begins_from_books setting w books = record {
       let found = life_filtered g s w.marks n (ap (is_of_stripe g s) mine.life_is ∙ own) w.marks mine.life mine.life_is own in
       ap (λ (m : ℕ). begin_of (life_of (stripe_marks g s w.marks) m)) (books.own.each n o is) ∙ ap begin_of found.1 ∙ found.2.begin ∙ mine.begin);
 }
-
--- so in each world that a run reaches
-pub begins_in_run : (setting : Setting) (events : List Event) → BeginsAgree (run setting events (first_world setting.layout))
-begins_in_run setting events = begins_from_books setting (run setting events (first_world setting.layout)) (books setting events)

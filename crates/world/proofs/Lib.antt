@@ -23,6 +23,7 @@ pub mod Chains
 pub mod ChainWalks
 pub mod Numberless
 pub mod CalmLemmas
+pub mod OpenRecords
 pub mod CalmRuns
 pub mod CalmLoops
 pub mod CalmEnds

@@ -1,5 +1,5 @@
 -- When an operation begins in the machine, and what a message does there.
-use Rattle.std.proofs.Common.{◌≡◌, ◌≢◌, ℕ, ◌+◌, ◌<◌, ◌≤◌, Bool, true, false, not, cond, nat_lt, ◌&&◌, List, Option, Some, None, refl, ap, ◌∙◌, arith}
+use Rattle.std.proofs.Common.{◌≡◌, ℕ, ◌+◌, ◌<◌, ◌≤◌, Bool, true, false, not, cond, nat_lt, ◌&&◌, List, Option, Some, None, refl, ap, ◌∙◌, arith}
 use Rattle.std.specs.Prelude.{if◌then◌else◌}
 use Rattle.std.specs.Option.{is_some, option_map}
 use Rattle.std.proofs.lemmas.Bool.Decides.{nat_tests}
@@ -14,7 +14,6 @@ use Rattle.protocol.specs.Views.{kept_by}
 use Rattle.protocol.specs.Nodes.{Node, group_at, put, has_block, has_length, is_spent, most_open, refusal_in, refusal_of, began, invoked}
 use Rattle.protocol.specs.Worlds.{World, Invokes, Delivers, Sets, Ticks, Stops, Starts, Found, is_up, may_start, world_began, world_ticked, world_stopped, world_found, world_started, delivered, packet_of, happens}
 use Rattle.world.specs.Runs.{ask_of, refusal_at}
-use Rattle.world.proofs.Places.{value_here, value_elsewhere}
 use Rattle.protocol.proofs.Events.{world_handled}
 
 -- where there is no such group there is no such stripe
@@ -104,25 +103,6 @@ pub invoked_next : (setting : Setting) (brick : BrickId) (now : ℕ) (node : Nod
 unfolding invoked refusal_of
 invoked_next setting brick now node ask none =
     began_next setting brick now node ask (group_at setting.layout node ask.group.0)
-    (refused_alike setting.layout node ask (node.learnt ask.group.0).view.members (group_of setting.layout ask.group.0) ∙ none)
-
--- it is open, and the other calls are as they were
-abbrev pub OpensOne : Node → Node → Type 0
-OpensOne node after = ((k : ℕ) → k ≢ after.seq → after.calls k ≡ node.calls k) × (is_some (after.calls after.seq) ≡ true)
-
-began_opens : (setting : Setting) (brick : BrickId) (now : ℕ) (node : Node) (ask : Ask) (found : Option Group)
-    → refusal_in setting.layout.block node ask found ≡ None → OpensOne node (began setting brick now node ask found).node
-began_opens setting brick now node ask None none = absurd (let never : Some Refusal.NoStripe ≡ None = none in cc)
-began_opens setting brick now node ask (Some group) none = (
-  λ k other. value_elsewhere node.calls (node.seq + 1) k _ other,
-  ap is_some (value_here node.calls (node.seq + 1) (node.seq + 1) _ refl),
-)
-
-pub invoked_opens : (setting : Setting) (brick : BrickId) (now : ℕ) (node : Node) (ask : Ask) → refusal_of setting.layout node ask ≡ None
-    → OpensOne node (invoked setting brick now node ask).node
-unfolding invoked refusal_of
-invoked_opens setting brick now node ask none =
-    began_opens setting brick now node ask (group_at setting.layout node ask.group.0)
     (refused_alike setting.layout node ask (node.learnt ask.group.0).view.members (group_of setting.layout ask.group.0) ∙ none)
 
 -- it is a call of the same boot

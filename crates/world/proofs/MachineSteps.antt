@@ -10,19 +10,12 @@ use Rattle.messages.specs.declared.replies.Reply.{Reply}
 use Rattle.fab_base.specs.Layouts.{Group}
 use Rattle.protocol.specs.Settings.{Setting}
 use Rattle.protocol.specs.Coordinators.{Coordinator, Next, Ignores, Waits, Sends, Makes, Ends, on_reply}
-use Rattle.protocol.specs.Nodes.{Node, NodeStep, group_at, known_after, fresh_stamp, seat_served, requested_at, requested_in, requested, seen_told, carried_out, replied_at, replied, received, absorbed}
-use Rattle.world.specs.Shown.{AreTold, AreAnswered}
+use Rattle.protocol.specs.Nodes.{Node, group_at, known_after, fresh_stamp, seat_served, requested_at, requested_in, requested, seen_told, carried_out, replied_at, replied, received, absorbed}
+use Rattle.world.specs.Shown.{AreTold, OpensNone}
 
 -- each open call knows its number, and is one of the brick's calls so far
 abbrev pub CallsAreNumbered : Node → Type 0
 CallsAreNumbered node = (k : ℕ) (c : Coordinator) → node.calls k ≡ Some c → (c.call.seq ≡ k) × (1 ≤ k) × (k ≤ node.seq)
-
--- the step opens no call, and tells and answers of the calls so far
-pub record OpensNone (node : Node) (step : NodeStep) : Type 0 where
-  pub boot : step.node.boot ≡ node.boot
-  pub seq : step.node.seq ≡ node.seq
-  pub told : AreTold node step.told
-  pub answers : AreAnswered node step.answers
 
 -- a request
 requested_at_opens_none : (setting : Setting) (m : ℕ) (me from : BrickId) (node : Node) (call : Call) (request : Request) (seat : Option ℕ)

@@ -1,5 +1,5 @@
 -- There is no message of number 0: none such is ever delivered.
-use Rattle.std.proofs.Common.{◌≡◌, ℕ, zero, suc, Bool, true, false, nat_eq, Option, Some, None, refl, ◌∙◌, arith}
+use Rattle.std.proofs.Common.{◌≡◌, ℕ, zero, suc, ◌+◌, Bool, true, false, nat_eq, get_or, List, Option, Some, None, refl, sym, ap, ◌∙◌, arith}
 use Rattle.std.proofs.lemmas.Bool.{cond_both}
 use Rattle.fab_base.specs.declared.identities.BrickId.{BrickId}
 use Rattle.messages.specs.declared.packets.Packet.{Packet}
@@ -7,6 +7,7 @@ use Rattle.protocol.specs.Settings.{Setting}
 use Rattle.protocol.specs.Nodes.{put}
 use Rattle.protocol.specs.Worlds.{World, packet_of, reached_at, reached_during}
 use Rattle.stripe_code.specs.Codes.{coding}
+use Rattle.world.specs.Deliveries.{is_noted}
 use Rattle.world.specs.Runs.{Run, all_events, world_of}
 use Rattle.world.proofs.Places.{value_elsewhere}
 use Rattle.protocol.proofs.Events.{EventCases, step_on, world_counting, world_handled, stepped_each, started_each, always}
@@ -49,6 +50,12 @@ zero_cases setting w none = record {
   stops = λ brick during up. zero_during w brick during none;
   starts = λ brick openings found may. started_each NoneAtZero w brick openings none none found;
 }
+
+-- what is noted of a message is whether it was delivered
+pub noted_is : (reached : List Bool) (w : World) (number : ℕ) → NoneAtZero w → ((k : ℕ) → get_or reached k false ≡ w.reached (k + 1))
+    → is_noted reached number ≡ w.reached number
+noted_is reached w zero none are = sym none
+noted_is reached w (suc k) none are = are k ∙ ap w.reached (let e : k + 1 ≡ suc k = omega arith in e)
 
 -- so in the world that a run leaves
 pub none_at_zero : (r : Run) → NoneAtZero (world_of r)

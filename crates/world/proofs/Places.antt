@@ -1,6 +1,6 @@
 -- Lists that grow or change at one place, functions with one value changed, and queries for calls.
-use Rattle.std.proofs.Common.{◌≡◌, ◌≢◌, ℕ, zero, suc, ◌<◌, ◌⊎◌, inl, inr, Bool, true, false, cond, nat_eq, ◌&&◌, List, [], ◌∷◌, ◌++◌, length, get_or, set, Some, None, refl, sym, ap, ◌∙◌, subst, arith}
-use Rattle.std.specs.Prelude.{slice_get, Result, Ok, Err, is_ok, IsOk}
+use Rattle.std.proofs.Common.{◌≡◌, ◌≢◌, ℕ, zero, suc, ◌<◌, ◌⊎◌, inl, inr, Bool, cond, nat_eq, ◌&&◌, List, [], ◌∷◌, ◌++◌, length, get_or, set, Some, None, refl, sym, ap, ◌∙◌, subst, arith}
+use Rattle.std.specs.Prelude.{slice_get}
 use Rattle.std.specs.declared.cmp.Ordering.{Ordering}
 use Rattle.std.specs.declared.cmp.Ordering.TheVariants.{Less, Equal, Greater}
 use Rattle.std.specs.Ordering.{nat_cmp, is_eq, ordering_then}
@@ -77,12 +77,6 @@ set_elsewhere (z ∷ xs) zero x zero other = absurd (other refl)
 set_elsewhere (z ∷ xs) zero x (suc n) other = refl
 set_elsewhere (z ∷ xs) (suc k) x zero other = refl
 set_elsewhere (z ∷ xs) (suc k) x (suc n) other = set_elsewhere xs k x n (λ e. other (ap suc e))
-
--- what was put at the end of a list, where there was room for it
-pub with_room : {A E : Type 0} (old new more : List A) (r : Result (Unit {0}) E) → new ≡ cond (is_ok r) (old ++ more) old → IsOk r
-    → new ≡ old ++ more
-with_room old new more (Ok done) is room = is
-with_room old new more (Err refused) is room = absurd (let never : false ≡ true = room in cc)
 
 -- what stands before a list that is added stays
 pub append_get : {A : Type 0} (xs ys : List A) (k : ℕ) (x : A) → k < length xs → slice_get (xs ++ ys) k ≡ Some x → slice_get xs k ≡ Some x

@@ -1,31 +1,28 @@
 -- The world that a run leaves, and what its disks keep.
-use Rattle.std.proofs.Common.{◌≡◌, ℕ, ◌+◌, ◌<◌, ◌≤◌, ◌-◌, ◌⊎◌, inl, inr, ⊎_elim, Bool, true, false, cond, nat_lt, ◌&&◌, List, [], ◌∷◌, ◌++◌, length, length-append, take, drop, map, take_all, length-drop, append-nil, append_assoc, Option, Some, None, refl, sym, ap, ◌∙◌, subst, arith}
+use Rattle.std.proofs.Common.{◌≡◌, ℕ, ◌+◌, ◌≤◌, ◌-◌, ◌⊎◌, inl, inr, ⊎_elim, Bool, List, [], ◌∷◌, ◌++◌, length, length-append, take, drop, map, take_all, length-drop, append-nil, append_assoc, Option, Some, None, refl, sym, ap, ◌∙◌, subst, arith}
 use Rattle.std.specs.Prelude.{slice_get}
 use Rattle.std.specs.Option.{option_map}
-use Rattle.std.proofs.lemmas.Bool.Decides.{nat_tests}
 use Rattle.std.proofs.lemmas.List.{drop_all, length-map}
 use Rattle.std.proofs.lemmas.Option.{slice_get-map}
 use Rattle.fab_base.specs.declared.identities.BrickId.{BrickId}
 use Rattle.fab_disk.specs.MemDisk.{content_of}
 use Rattle.fab_disk.specs.declared.mem_disk.MemDisk.{MemDisk}
-use Rattle.messages.specs.declared.requests.Version.{Version}
 use Rattle.reg_model.specs.declared.marks.Mark.{Mark}
 use Rattle.reg_model.specs.declared.marks.Mark.TheVariants as mark
 use Rattle.lines.specs.declared.forms.Line.{Line}
 use Rattle.lines.specs.declared.forms.Fault.{Fault}
 use Rattle.stripe_code.specs.Codes.{coding}
-use Rattle.fab_base.specs.Layouts.{Layout, Group, group_of}
-use Rattle.protocol.specs.Nodes.{Node, view_at}
+use Rattle.fab_base.specs.Layouts.{Layout}
+use Rattle.protocol.specs.Nodes.{Node}
 use Rattle.protocol.specs.Settings.{Setting}
-use Rattle.protocol.specs.Worlds.{World, Event, Stops, Starts, Before, first_world, is_up, number_of, run}
+use Rattle.protocol.specs.Worlds.{World, Event, Stops, Starts, Before, first_world, number_of, run}
 use Rattle.protocol_laws.proofs.Books.{Books}
 use Rattle.world.specs.Runs.{Run, Step, world_of, all_events, brick_of}
 use Rattle.world.specs.Faults.{IsEventsOf, IsStartOf, StaysDown, IsStarted, IsNoStart}
 use Rattle.world.specs.Disks.{ShowsDiskOf, ShowsDisks, KeepsDisks, LeavesContents}
 use Rattle.world.specs.Shown.{IsNumbered, Shows, ShowsBricks, ShowsPower, ComesTo, Leaves, disk_in, disks_of, came_to}
-use Rattle.calm_laws.specs.Logs.{is_stripe}
 use Rattle.protocol.proofs.Events.{run-append, EventCases, step_on, world_counting, stepped_each, started_each, run_each}
-use Rattle.world.specs.Steps.{Runs, RunsTo, LeavesSome, with_step, log_at}
+use Rattle.world.specs.Steps.{Runs, RunsTo, LeavesSome, with_step}
 use Rattle.world.specs.Texts.{text_of, event_text, marks_text, outcome_text, new_marks, line_text, step_text}
 use Rattle.world.specs.declared.bricks.Brick.{Brick}
 use Rattle.world.specs.declared.bricks.Power.{Power}
@@ -81,32 +78,6 @@ disks_shown layout state steps shows = record {
       disks_kept layout state.bricks.items _ _ _ _ shows.bricks i (slice_get state.bricks.items i) disk refl
       (sym (slice_get-map (λ (brick : Brick). disk_in brick.power) state.bricks.items i) ∙ at);
 }
-
--- the log of a part that there is
-pub log_at_part : (r : Run) (b g s : ℕ) (group : Group) (log : List Version) → group_of r.layout g ≡ Some group → s < group.stripes
-    → is_up r.layout (world_of r) (brick_of b) ≡ true
-    → log ≡ (((world_of r).nodes b).replicas g (view_at ((world_of r).nodes b) g) s).log → Some log ≡ log_at r b g s
-log_at_part r b g s group log found within up is =
-    let there : is_stripe (group_of r.layout g) s && is_up r.layout (world_of r) (brick_of b) ≡ true =
-    ap (λ o. is_stripe o s && is_up r.layout (world_of r) (brick_of b)) found
-    ∙ both (nat_lt s group.stripes) (is_up r.layout (world_of r) (brick_of b))
-    (let e : nat_lt s group.stripes ≡ true = grind (arith, nat_tests) in e) up
-    in
-    ap (λ l. Some l) is ∙ sym (ap (λ x. cond x (Some (((world_of r).nodes b).replicas g (view_at ((world_of r).nodes b) g) s).log) None) there)
-  where
-    both : (x y : Bool) → x ≡ true → y ≡ true → x && y ≡ true
-    both true y first second = second
-    both false y first second = absurd (let e : false ≡ true = first in cc)
-
--- there is no log of a brick that is not up
-pub log_at_down : (r : Run) (b g s : ℕ) → is_up r.layout (world_of r) (brick_of b) ≡ false → None ≡ log_at r b g s
-log_at_down r b g s down =
-    sym (ap (λ x. cond (is_stripe (group_of r.layout g) s && x) (Some (((world_of r).nodes b).replicas g (view_at ((world_of r).nodes b) g) s).log) None) down
-    ∙ ap (λ x. cond x (Some (((world_of r).nodes b).replicas g (view_at ((world_of r).nodes b) g) s).log) None) (never (is_stripe (group_of r.layout g) s)))
-  where
-    never : (x : Bool) → x && false ≡ false
-    never true = refl
-    never false = refl
 
 -- marks are only added
 abbrev HasAtLeast : ℕ → World → Type 0

@@ -1,25 +1,20 @@
 -- What a state shows, line by line.
-use Rattle.std.proofs.Common.{◌≡◌, ℕ, ◌<◌, ◌≤◌, Bool, true, false, ◌&&◌, cond, nat_lt, ◌++◌, Option, Some, None, refl, sym, ap, ◌∙◌, subst, arith}
-use Rattle.std.specs.Prelude.{Result, Ok, Err, IfNone, OnErr, slice_get}
+use Rattle.std.proofs.Common.{◌≡◌, ℕ, ◌<◌, ◌≤◌, Bool, true, false, cond, nat_lt, ◌++◌, Option, Some, None, refl, sym, ap, ◌∙◌, subst, arith}
+use Rattle.std.specs.Prelude.{Result, Ok, Err, IfNone, OnErr}
 use Rattle.std.proofs.lemmas.Bool.Decides.{nat_tests}
 use Rattle.fab_base.specs.declared.asks.Ask.{Ask}
 use Rattle.fab_base.specs.declared.asks.Op.{Op}
 use Rattle.fab_base.specs.declared.identities.BrickId.{BrickId}
 use Rattle.messages.specs.declared.packets.Packet.{Packet}
 use Rattle.stripe_code.specs.Codes.{coding}
-use Rattle.node.specs.Running.{Running, state_of}
 use Rattle.fab_base.specs.Layouts.{Layout}
 use Rattle.protocol.specs.Nodes.{Node, NodeStep, put, refusal_of, invoked, received, ticked, stopped}
 use Rattle.protocol.specs.Worlds.{World, Invokes, Delivers, Sets, Ticks, Stops, is_brick, is_up, packet_of, replies_with, world_began, world_stopped, happens}
-use Rattle.world.specs.Runs.{ask_of, brick_of}
-use Rattle.world.specs.Shown.{Shows, ShowsPower, ShowsBricks, Tells}
+use Rattle.world.specs.Runs.{ask_of}
+use Rattle.world.specs.Shown.{Shows, ShowsBricks, Tells}
 use Rattle.world.specs.Texts.{marks_if, is_deliverable}
 use Rattle.world.specs.declared.simulations.Outcome.TheVariants.{Marks, Idle}
 use Rattle.world.specs.declared.histories.History.{History}
-use Rattle.world.specs.declared.bricks.Brick.{Brick}
-use Rattle.world.specs.declared.bricks.Power.{Power}
-use Rattle.world.specs.declared.bricks.Power.TheVariants.{Up, Down}
-use Rattle.fab_disk.specs.declared.mem_disk.MemDisk.{MemDisk}
 use Rattle.world.specs.declared.simulations.Simulation.{Simulation}
 use Rattle.world.proofs.MachineBegins.{happens_begun, happens_handled, happens_set, happens_ticked, happens_stopped}
 use Rattle.world.proofs.HistoryLemmas.{tells_other, heard_keeps}
@@ -39,23 +34,6 @@ if_none_always (Some x) p = tt
 pub ask_is : (ask : Ask) (g s : ℕ) (op : Op) → ask.group.0 ≡ g → ask.stripe.0 ≡ s → ask.op ≡ op → ask ≡ ask_of g s op
 ask_is ask g s op group stripe same =
     ap (λ x. ask_of x ask.stripe.0 ask.op) group ∙ ap (λ x. ask_of g x ask.op) stripe ∙ ap (λ x. ask_of g s x) same
-
--- a brick of the layout that runs, and what it keeps of stripes
-pub up_shown : (layout : Layout) (state : Simulation) (w : World) (b : ℕ) (brick : Brick) (node : Running MemDisk) → Shows layout state w
-    → slice_get state.bricks.items b ≡ Some brick → brick.power ≡ Up node → b < layout.bricks
-    → (is_up layout w (brick_of b) ≡ true) × (state_of node ≡ w.nodes b)
-up_shown layout state w b brick node shows at on within =
-    let is = subst (λ (power : Power). ShowsPower layout (brick_of b) (w.nodes b) (w.after b) (w.up b) power) on (shows.bricks.each b brick at).power in (
-      ap (λ (x : Bool). x && w.up b) (let e : nat_lt b layout.bricks ≡ true = grind (arith, nat_tests) in e) ∙ is.0,
-      is.1.state_is,
-    )
-
--- one that is down
-pub down_shown : (layout : Layout) (state : Simulation) (w : World) (b : ℕ) (brick : Brick) (disk : MemDisk) → Shows layout state w
-    → slice_get state.bricks.items b ≡ Some brick → brick.power ≡ Down disk → b < layout.bricks → is_up layout w (brick_of b) ≡ false
-down_shown layout state w b brick disk shows at off within =
-    let is = subst (λ (power : Power). ShowsPower layout (brick_of b) (w.nodes b) (w.after b) (w.up b) power) off (shows.bricks.each b brick at).power in
-    ap (λ (x : Bool). x && w.up b) (let e : nat_lt b layout.bricks ≡ true = grind (arith, nat_tests) in e) ∙ is.0
 
 -- an operation that began
 pub shows_begun : (layout : Layout) (state : Simulation) (w : World) (brick : BrickId) (ask : Ask) → is_up layout w brick ≡ true

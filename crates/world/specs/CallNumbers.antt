@@ -1,5 +1,5 @@
 -- The operations of a brick's calls since it started.
-use Rattle.std.specs.Prelude.{◌≡◌, ℕ, zero, suc, ◌+◌, ◌<◌, Bool, true, false, List, [], length, Some, get_or, unwrap_or, slice_get, vec_len, vec_capacity}
+use Rattle.std.specs.Prelude.{◌≡◌, ℕ, zero, suc, ◌+◌, ◌<◌, Bool, true, false, List, [], length, Option, Some, None, get_or, unwrap_or, slice_get, vec_len, vec_capacity}
 use Rattle.std.specs.Option.{option_map}
 use Rattle.world.specs.declared.call_numbers.CallNumbers.{CallNumbers}
 
@@ -7,10 +7,10 @@ use Rattle.world.specs.declared.call_numbers.CallNumbers.{CallNumbers}
 abbrev pub calls_in : CallNumbers → ℕ → List ℕ
 calls_in calls i = unwrap_or (option_map (λ row. row.items) (slice_get calls.rows.items i)) []
 
--- the number of the operation of a call, counted from 1; 0 where there is none
-abbrev pub call_at : List ℕ → ℕ → ℕ
-call_at calls zero = 0
-call_at calls (suc k) = get_or calls k 0
+-- the number of the operation of a call, counted from 1
+abbrev pub call_at : List ℕ → ℕ → Option ℕ
+call_at calls zero = None
+call_at calls (suc k) = slice_get calls k
 
 -- there is room for one call more of a brick
 pub record HasCallRoom (calls : CallNumbers) (i : ℕ) : Type 0 where

@@ -1,11 +1,16 @@
 -- Which messages of an operation were delivered.
-use Rattle.std.specs.Prelude.{◌≡◌, ℕ, ◌<◌, ◌≤◌, ◌&&◌, Bool, true, false, not, nat_eq, List, length, map, Option, Some, None, get_or, slice_get}
+use Rattle.std.specs.Prelude.{◌≡◌, ℕ, zero, suc, ◌<◌, ◌≤◌, ◌&&◌, Bool, true, false, not, nat_eq, List, length, map, Option, Some, None, get_or, slice_get}
 use Rattle.messages.specs.declared.calls.Call.{Call}
 use Rattle.messages.specs.declared.packets.Message.{Message}
 use Rattle.messages.specs.declared.packets.Packet.{Packet}
 use Rattle.protocol.specs.Calms.{goes_among}
 use Rattle.world.specs.Runs.{brick_of}
 use Rattle.world.specs.declared.histories.OperationRecord.{OperationRecord}
+
+-- whether the message of a number, counted from 1, is noted as delivered: there is none of number 0
+abbrev pub is_noted : List Bool → ℕ → Bool
+is_noted reached zero = false
+is_noted reached (suc k) = get_or reached k false
 
 -- a call is the one of this boot and number
 abbrev pub is_call : Call → ℕ → ℕ → Bool

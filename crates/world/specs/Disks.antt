@@ -9,6 +9,7 @@ use Rattle.fab_disk.specs.Changing.{Stands}
 use Rattle.brick_store.specs.Calls.{IsListedAfter}
 use Rattle.brick_store.specs.Images.{IsListed}
 use Rattle.brick_store.specs.Openings.{IsListedOnOpening}
+use Rattle.brick_store.specs.Sizes.{boot_size, framed}
 use Rattle.node.specs.Calls.{packet_append}
 use Rattle.node.specs.Running.{shape_at, ImageShows}
 use Rattle.protocol.specs.Nodes.{Node}
@@ -32,6 +33,19 @@ pub record ShowsDisks (r : Run) : Type 0 where
   pub count : length r.disks ≡ r.layout.bricks
   pub each : (i : ℕ) (disk : MemDisk) → slice_get r.disks i ≡ Some disk
       → ShowsDiskOf ((world_of r).up i) r.layout (brick_of i) ((world_of r).nodes i) ((world_of r).after i) disk
+
+-- how many bytes the list of frames of a fresh brick is: the one frame that counts its first opening
+abbrev pub first_listed : ℕ
+first_listed = framed boot_size
+
+-- the list of each of these disks, by the numbers of their bricks, is that long
+abbrev pub AreFreshDisks : Layout → List MemDisk → Type 0
+AreFreshDisks layout disks = (i : ℕ) (disk : MemDisk) → slice_get disks i ≡ Some disk
+    → IsListed (shape_at layout (brick_of i)) first_listed (content_of disk)
+
+-- so it is of each disk of a run
+abbrev pub HasFreshDisks : Run → Type 0
+HasFreshDisks r = AreFreshDisks r.layout r.disks
 
 -- the receiver of a packet that was sent, where it is up
 abbrev pub receiver_of : Layout → World → Option Packet → Option BrickId

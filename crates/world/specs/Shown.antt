@@ -1,17 +1,23 @@
 -- What a world keeps, and the machine's world that it shows.
-use Rattle.std.specs.Prelude.{◌≡◌, ◌⊎◌, ℕ, zero, suc, ◌+◌, ◌<◌, ◌≤◌, Bool, true, false, not, nat_eq, if◌then◌else◌, List, [], ◌∷◌, length, map, Option, Some, None, is_some, Result, Ok, Err, get_or, slice_get, vec_len, vec_capacity}
+use Rattle.std.specs.Prelude.{◌≡◌, ◌⊎◌, ℕ, zero, suc, ◌+◌, ◌<◌, ◌≤◌, ◌&&◌, Bool, true, false, not, nat_eq, if◌then◌else◌, List, [], ◌∷◌, length, map, set, Option, Some, None, is_some, Result, Ok, Err, option_and_then, unwrap_or, get_or, slice_get, vec_len, vec_capacity}
+use Rattle.std.specs.Bool.{Decides}
 use Rattle.std.specs.declared.cmp.Ordering.{Ordering}
 use Rattle.std.specs.Ordering.{nat_cmp, ordering_then}
 use Rattle.std.specs.List.{AllByRecursion}
 use Rattle.std.specs.Option.{option_map}
+use Rattle.fab_base.specs.declared.asks.Ask.{Ask}
 use Rattle.fab_base.specs.declared.faults.NoMem.{NoMem}
 use Rattle.fab_base.specs.declared.identities.BrickId.{BrickId}
 use Rattle.fab_base.specs.declared.stamps.Stamp.{Stamp}
 use Rattle.fab_disk.specs.MemDisk.{IsSound, content_of}
 use Rattle.fab_disk.specs.declared.mem_disk.MemDisk.{MemDisk}
 use Rattle.brick_store.specs.Calls.{opening_calls}
+use Rattle.brick_store.specs.Images.{IsListed}
 use Rattle.brick_store.specs.Openings.{opens_appendable}
+use Rattle.node.specs.declared.faults.NodeFault.{NodeFault}
+use Rattle.node.specs.declared.outs.Begun.{Begun}
 use Rattle.node.specs.Calls.{packet_calls}
+use Rattle.node.specs.Faults.{RefusesAs}
 use Rattle.node.specs.Running.{Running, state_of, shape_at}
 use Rattle.fab_base.specs.Layouts.{Layout}
 use Rattle.protocol.specs.Coordinators.{Coordinator}
@@ -27,7 +33,7 @@ use Rattle.protocol_laws.specs.Marked.{OwnMarks}
 use Rattle.world.specs.Runs.{Step, brick_of}
 use Rattle.world.specs.CallNumbers.{AreCalls, calls_in}
 use Rattle.world.specs.Faults.{HoldsOne, IsEventsOf, IsStartOf, IsLeft, IsLeftOpening, IsReached, IsReachedOpening, Finds, plan_of, found_of}
-use Rattle.world.specs.Disks.{ShowsDisk, IsUnwritten, AreUnwritten, KeepsDisks, LeavesContents, ListsPacket, ListsOpening, OfDisk}
+use Rattle.world.specs.Disks.{ShowsDisk, first_listed, IsUnwritten, AreUnwritten, KeepsDisks, LeavesContents, ListsPacket, ListsOpening, OfDisk}
 use Rattle.lines.specs.declared.forms.Fault.{Fault}
 use Rattle.lines.specs.declared.forms.Line.{Line}
 use Rattle.lines.specs.declared.forms.Line.TheVariants.{Calm}
@@ -35,7 +41,7 @@ use Rattle.messages.specs.declared.packets.Packet.{Packet}
 use Rattle.coord_phase.specs.Messages.{packets_from}
 use Rattle.node.specs.Outcomes.{Outcome as Sent}
 use Rattle.stripe_code.specs.Codes.{coding}
-use Rattle.protocol.specs.Calms.{IsEarly, RunsAlone, early, open_call}
+use Rattle.protocol.specs.Calms.{IsCalm, IsEarly, RunsAlone, early, open_call}
 use Rattle.world.specs.Calms.{BeginsCalm, BeginsAlone}
 use Rattle.world.specs.Texts.{outcome_of, outcome_text, new_marks, marks_text, line_text, text_of}
 use Rattle.world.specs.declared.simulations.Outcome.{Outcome}
@@ -138,6 +144,11 @@ pub record ShowsBricks (layout : Layout) (bricks : List Brick) (nodes after : �
   pub count : length bricks ≡ layout.bricks
   pub each : (i : ℕ) (brick : Brick) → slice_get bricks i ≡ Some brick → ShowsBrick layout i brick (nodes i) (after i) (up i) (clocks i)
 
+-- A brick as the first world has it: up, its clock at 0, and the list of its disk as long as the first opening left it.
+pub record IsFreshBrick (layout : Layout) (i : ℕ) (brick : Brick) : Type 0 where
+  pub shows : ShowsBrick layout i brick (machine.first_node layout) (machine.first_node layout) true 0
+  pub listed : IsListed (shape_at layout (brick_of i)) first_listed (content_of (disk_in brick.power))
+
 -- the power of a brick shows one of the machine's
 pub record IsNodeOf (layout : Layout) (i : ℕ) (power : Power) : Type 0 where
   pub state : machine.Node
@@ -154,17 +165,31 @@ abbrev pub IsOn : Power → Type 0
 IsOn (Up node) = (node.brick.halted ≡ false) × IsSound node.brick.disk
 IsOn (Down disk) = ⊥
 
--- a brick of the layout that is up
-pub record IsUp (layout : Layout) (bricks : List Brick) (brick : BrickId) : Type 0 where
+-- a brick that is up
+pub record IsUp (bricks : List Brick) (brick : BrickId) : Type 0 where
   pub within : brick.0 < length bricks
   pub on : (x : Brick) → slice_get bricks brick.0 ≡ Some x → IsOn x.power
-  pub up : (w : World) → ShowsBricks layout bricks w.nodes w.after w.up w.clocks → is_up layout w brick ≡ true
+
+-- what runs as the brick of a number, where there is one and it is up
+abbrev pub node_in : Power → Option (Running MemDisk)
+node_in (Up node) = Some node
+node_in (Down disk) = None
+
+abbrev pub running_at : List Brick → ℕ → Option (Running MemDisk)
+running_at bricks number = option_and_then (λ brick. node_in brick.power) (slice_get bricks number)
 
 -- the brick of a number was found up, or there is none that is
-abbrev pub FindsUp : Layout → List Brick → ℕ → Option BrickId → Type 0
-FindsUp layout bricks number None =
-    (w : World) → ShowsBricks layout bricks w.nodes w.after w.up w.clocks → is_up layout w (brick_of number) ≡ false
-FindsUp layout bricks number (Some brick) = (brick ≡ brick_of number) × IsUp layout bricks brick
+abbrev pub FindsUp : List Brick → ℕ → Option BrickId → Type 0
+FindsUp bricks number None = running_at bricks number ≡ None
+FindsUp bricks number (Some brick) = (brick ≡ brick_of number) × IsUp bricks brick
+
+-- a brick once it stopped: its disk is all that is left of it
+abbrev pub stopped_brick : Brick → Brick
+stopped_brick brick = record brick { power = Down (disk_in brick.power) }
+
+-- the brick of a number stopped, and no other
+abbrev pub StopsBrick : List Brick → List Brick → BrickId → Type 0
+StopsBrick old new number = (brick : Brick) → slice_get old number.0 ≡ Some brick → new ≡ set old number.0 (stopped_brick brick)
 
 -- A brick that runs took a message whole: what it answered is the machine's, and it runs on.
 pub record TookWhole (layout : Layout) (me : BrickId) (state : machine.Node) (time : ℕ) (packet : Packet) (disk : MemDisk) (fault : Option Fault)
@@ -251,6 +276,28 @@ HandledAs layout w number packet fault old new (Ok (Some outs)) = HandledWhole l
 HandledAs layout w number packet fault old new (Ok None) = HandledPart layout w number packet fault old new
 HandledAs layout w number packet fault old new (Err refused) = ShowsBricks layout new w.nodes w.after w.up w.clocks
 
+-- so it did in each world that the bricks show
+abbrev pub HandsOver : List Brick → List Brick → BrickId → Packet → Option Fault → Result (Option Sent) NoMem → Type 0
+HandsOver old new number packet fault result = (layout : Layout) (w : World) → ShowsBricks layout old w.nodes w.after w.up w.clocks
+    → HandledAs layout w number packet fault old new result
+
+-- a brick was asked, and refused it or not as the machine's does
+abbrev pub RefusesBrick : List Brick → BrickId → Ask → Result Begun NodeFault → Type 0
+RefusesBrick old number ask result = (layout : Layout) (w : World) → ShowsBricks layout old w.nodes w.after w.up w.clocks
+    → RefusesAs result (machine.refusal_of layout (w.nodes number.0) ask)
+
+-- it began the operation as the machine's does
+abbrev pub BeginsBrick : List Brick → List Brick → BrickId → Ask → Begun → Type 0
+BeginsBrick old new number ask begun = (layout : Layout) (w : World) → ShowsBricks layout old w.nodes w.after w.up w.clocks
+    → (let step = machine.invoked (coding layout) number (w.clocks number.0) (w.nodes number.0) ask in
+    (packets_from number begun.messages.items ≡ step.packets) × (begun.seq ≡ step.node.seq)
+    × ShowsBricks layout new (machine.put w.nodes number.0 step.node) w.after w.up w.clocks)
+
+-- the bricks show what they showed
+abbrev pub BricksStay : Layout → List Brick → List Brick → Type 0
+BricksStay layout old new = (w : World) → ShowsBricks layout old w.nodes w.after w.up w.clocks
+    → ShowsBricks layout new w.nodes w.after w.up w.clocks
+
 -- The history tells the machine's world: every message, and which were delivered, every mark, each operation, whose marks have its number, and
 -- the operations of the calls so far of each brick that is up.
 pub record Tells (history : History) (w : World) : Type 0 where
@@ -297,6 +344,30 @@ AreTold node told = AllByRecursion (λ one. IsOfCall node (told_call one)) told
 abbrev pub AreAnswered : machine.Node → List Answered → Type 0
 AreAnswered node answers = AllByRecursion (λ one. IsOfCall node one.seq) answers
 
+-- the step of a brick opens no call, and tells and answers of the calls so far
+pub record OpensNone (node : machine.Node) (step : machine.NodeStep) : Type 0 where
+  pub boot : step.node.boot ≡ node.boot
+  pub seq : step.node.seq ≡ node.seq
+  pub told : AreTold node step.told
+  pub answers : AreAnswered node step.answers
+
+-- the step opens the next call
+pub record OpensNext (node : machine.Node) (step : machine.NodeStep) : Type 0 where
+  pub boot : step.node.boot ≡ node.boot
+  pub seq : step.node.seq ≡ node.seq + 1
+
+-- a history tells what it told
+abbrev pub HistoryStays : History → History → Type 0
+HistoryStays old new = (w : World) → Tells old w → Tells new w
+
+-- it tells what this makes of the world that it told
+abbrev pub HistoryBecomes : (World → World) → History → History → Type 0
+HistoryBecomes next old new = (w : World) → Tells old w → Tells new (next w)
+
+-- so it does where the brick is up in that world, and this holds of its state
+abbrev pub HistoryNotes : BrickId → (machine.Node → Type 0) → (World → World) → History → History → Type 0
+HistoryNotes brick Holds next old new = (w : World) → Tells old w → w.up brick.0 ≡ true → Holds (w.nodes brick.0) → Tells new (next w)
+
 -- what events that are none or one come to
 abbrev pub came_to : Setting → World → List Event → Outcome
 came_to setting w [] = Marks
@@ -312,6 +383,11 @@ pub record StartsAs (layout : Layout) (w : World) (brick : BrickId) (fault : Opt
   pub comes : (if started then Marks else Idle) ≡ came_to (coding layout) w events
   pub tells : (history : History) → Tells history w → Tells history (run (coding layout) events w)
   pub kept : KeepsDisks (coding layout) w events (disks_of old) (disks_of new)
+
+-- so it started, or not, in each world that the bricks show
+abbrev pub StartsBrick : Layout → List Brick → List Brick → BrickId → Option Fault → Bool → Type 0
+StartsBrick layout old new number fault started = (w : World) → ShowsBricks layout old w.nodes w.after w.up w.clocks
+    → (events : List Event) × StartsAs layout w number fault old new started events
 
 -- A line came to this outcome, and is these events: the state shows the world after them, and no disk has changed but theirs.
 pub record ComesTo (layout : Layout) (w : World) (disks : List MemDisk) (state : Simulation) (line : Line) (outcome : Outcome)
@@ -374,19 +450,32 @@ pub record StaysAs (layout : Layout) (old new : Simulation) : Type 0 where
   pub shows : (w : World) → Shows layout old w → Shows layout new w
   pub contents : map content_of (disks_of new.bricks.items) ≡ map content_of (disks_of old.bricks.items)
 
--- the brick of a number was found running, or there is none that is up
-abbrev pub FindsRunning : List Brick → ℕ → Option (Running MemDisk) → Type 0
-FindsRunning bricks number None =
-    (layout : Layout) (w : World) → ShowsBricks layout bricks w.nodes w.after w.up w.clocks → is_up layout w (brick_of number) ≡ false
-FindsRunning bricks number (Some node) =
-    (layout : Layout) (w : World) → ShowsBricks layout bricks w.nodes w.after w.up w.clocks
-    → (is_up layout w (brick_of number) ≡ true) × IsRunning layout (brick_of number) (w.nodes number) node
+-- what the clock of the brick of a number reads, 0 where there is none
+abbrev pub clock_at : List Brick → ℕ → ℕ
+clock_at bricks number = unwrap_or (option_map (λ brick. brick.clock) (slice_get bricks number)) 0
 
--- what the clock of the brick of a number reads
-abbrev pub ClockIs : List Brick → ℕ → ℕ → Type 0
-ClockIs bricks number time =
-    (layout : Layout) (w : World) → ShowsBricks layout bricks w.nodes w.after w.up w.clocks → is_up layout w (brick_of number) ≡ true
-    → time ≡ w.clocks number
+-- a brick runs that has room for two records more, and its times are early
+abbrev pub NodeIsAble : Layout → Option (Running MemDisk) → Type 0
+NodeIsAble layout None = ⊥
+NodeIsAble layout (Some node) = ((state_of node).live + 2 ≤ layout.records) × IsEarly (state_of node)
+
+-- a brick runs whose clock reads this, and that and its times are early
+abbrev pub NodeIsInTime : ℕ → Option (Running MemDisk) → Type 0
+NodeIsInTime time None = ⊥
+NodeIsInTime time (Some node) = (time < early) × IsEarly (state_of node)
+
+-- a brick runs that was opened as often as where this was kept of an operation, and the operation is open there
+abbrev pub node_has_open : OperationRecord → Option (Running MemDisk) → Bool
+node_has_open kept None = false
+node_has_open kept (Some node) = nat_eq (state_of node).boot kept.boot && is_some ((state_of node).calls kept.seq)
+
+-- what is kept of an operation, if it is open
+abbrev pub if_open : List Brick → Option OperationRecord → Option OperationRecord
+if_open bricks None = None
+if_open bricks (Some kept) = if node_has_open kept (running_at bricks kept.brick.0) then Some kept else None
+
+abbrev pub open_record : Simulation → ℕ → Option OperationRecord
+open_record state n = if_open state.bricks.items (record_at state.history.operations.items n)
 
 -- the brick of a number is up, has room for two records more, and its times are early
 pub record IsAble (layout : Layout) (w : World) (number : ℕ) : Type 0 where
@@ -427,3 +516,17 @@ pub record HasBegun (layout : Layout) (w : World) (n : ℕ) (bricks : List Brick
   pub begins : BeginsAlone (coding layout) n bricks w events last
   pub shows : Shows layout state last
   pub kept : LeavesContents (coding layout) w events disks (disks_of state.bricks.items)
+
+-- it is said whether an operation may run alone among these bricks, in the world that the state shows
+abbrev pub DecidesCalm : Layout → Simulation → ℕ → List ℕ → Bool → Type 0
+DecidesCalm layout state n bricks may =
+    (w : World) → IsReachedBy layout w → Shows layout state w → Decides may (IsCalm (coding layout) w n (map brick_of bricks))
+
+-- one that may did, from one state to another; or it began to
+abbrev pub RunsAloneTo : Layout → Simulation → Simulation → ℕ → List ℕ → Bool → Type 0
+RunsAloneTo layout old new n bricks some = (w : World) → IsReachedBy layout w → Shows layout old w → IsCalm (coding layout) w n (map brick_of bricks)
+    → HasRun layout w n (map brick_of bricks) (disks_of old.bricks.items) new some
+
+abbrev pub BeginsAloneTo : Layout → Simulation → Simulation → ℕ → List ℕ → Type 0
+BeginsAloneTo layout old new n bricks = (w : World) → IsReachedBy layout w → Shows layout old w → IsCalm (coding layout) w n (map brick_of bricks)
+    → HasBegun layout w n (map brick_of bricks) (disks_of old.bricks.items) new

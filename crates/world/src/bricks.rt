@@ -2,18 +2,16 @@
 
 ghost use Rattle.std.specs.Prelude.{◌≡◌, ◌≢◌, ◌+◌, ◌^◌, ◌<◌, ◌≤◌, true, false, List, Some, Err, IfOk, IfSome, OnErr, vec_len, length, map};
 ghost use Rattle.protocol.specs.Nodes as machine;
-ghost use Rattle.protocol.specs.Nodes.{first_node, refusal_of, invoked, ticked, stopped};
-ghost use Rattle.protocol.specs.Nodes.{put as changed};
-ghost use Rattle.protocol.specs.Worlds.{World, Event, first_world};
+ghost use Rattle.protocol.specs.Nodes.{ticked};
+ghost use Rattle.protocol.specs.Worlds.{first_world};
 ghost use Rattle.stripe_code.specs.Codes.{coding};
 ghost use Rattle.coord_phase.specs.Messages.{packets_from};
 ghost use Rattle.fab_disk.specs.MemDisk.{content_of, may_be_left, IsSound};
 ghost use Rattle.brick_store.specs.Images.{IsListed};
-ghost use Rattle.node.specs.Faults.{RefusesAs};
-ghost use Rattle.node.specs.Running.{shape_at};
+ghost use Rattle.node.specs.Running.{shape_at, state_of};
 ghost use Rattle.world.specs.Faults.{LeftBy, plan_of};
-ghost use Rattle.world.specs.Disks.{ShowsDisk, KeepsOthers};
-ghost use Rattle.world.specs.Shown.{Rests, IsRunning, ShowsBrick, ShowsBricks, StartsAs, Takes, HandledAs, TurnsOn, FindsUp, IsUp, AreNodesOf, disk_in, disks_of, unopened};
+ghost use Rattle.world.specs.Disks.{ShowsDisk, AreFreshDisks, KeepsOthers};
+ghost use Rattle.world.specs.Shown.{Rests, IsRunning, IsFreshBrick, ShowsBricks, Takes, TurnsOn, FindsUp, IsUp, AreNodesOf, HandsOver, RefusesBrick, BeginsBrick, BricksStay, StopsBrick, StartsBrick, disk_in, disks_of, running_at, unopened};
 
 use brick_store::OpenFault;
 use fab_base::{Ask, BrickId, IoFault, NoMem};
@@ -108,15 +106,13 @@ fn take_message(
 }
 
 impl Power {
-    ghost use Rattle.std.specs.Prelude.{◌≡◌, true, false};
-    ghost use Rattle.protocol.specs.Nodes.{stopped};
-    ghost use Rattle.world.specs.Shown.{ShowsPower, disk_in};
+    ghost use Rattle.std.specs.Prelude.{◌≡◌};
+    ghost use Rattle.world.specs.Shown.{disk_in};
+    ghost use Rattle.world.specs.declared.bricks.Power.TheVariants.{Down};
 
     /// What is left where a brick that is up stops.
     pub fn off(self) -> Power
-        ensures shows { (layout : _) (me : _) (state : _) (after : _) → ShowsPower layout me state after true self
-            → ShowsPower layout me (stopped state) (stopped state) false result }
-        ensures disk { disk_in result ≡ disk_in self }
+        ensures { result ≡ Down (disk_in self) }
     {
         match self {
             Power::Up(node) => Power::Down(node.into_disk()),
@@ -180,7 +176,8 @@ fn open_over(
 
 /// A disk with a store that was made for a brick, and not opened yet.
 fn fresh_disk(alloc: Global, layout: &Layout, me: BrickId) -> Result<MemDisk, NoMem>
-    ensures { IfOk result (λ disk. ShowsDisk layout.now me (unopened layout.now) disk × IsSound disk) }
+    ensures kept { IfOk result (λ disk. ShowsDisk layout.now me (unopened layout.now) disk × IsSound disk) }
+    ensures listed { IfOk result (λ disk. IsListed (shape_at layout.now me) 0 (content_of disk)) }
 {
     let mut disk = MemDisk::new(alloc, Vec::new(alloc));
     match brick_store::format(alloc, &mut disk, me, layout.block(), layout.records()) {
@@ -192,7 +189,7 @@ fn fresh_disk(alloc: Global, layout: &Layout, me: BrickId) -> Result<MemDisk, No
 
 /// A brick that is up, its store fresh and its clock at 0.
 fn fresh_brick(alloc: Global, layout: &Layout, me: BrickId) -> Result<Brick, NoMem>
-    ensures { IfOk result (λ brick. ShowsBrick layout.now me.0 brick (first_node layout.now) (first_node layout.now) true 0) }
+    ensures { IfOk result (IsFreshBrick layout.now me.0) }
 {
     let disk = fresh_disk(alloc, layout, me)?;
     let (power, started) = start_over(alloc, layout, me, disk, None);
@@ -211,8 +208,9 @@ fn with_clock(power: Power, started: Result<bool, NoMem>) -> Result<Brick, NoMem
 
 /// All bricks of a layout, their stores fresh, their clocks at 0.
 pub fn fresh_bricks(alloc: Global, layout: &Layout) -> Result<Vec<Brick>, NoMem>
-    ensures { IfOk result (λ bricks. ShowsBricks layout.now bricks.items (first_world layout.now).nodes (first_world layout.now).after (first_world layout.now).up
-        (first_world layout.now).clocks) }
+    ensures shows { IfOk result (λ bricks. ShowsBricks layout.now bricks.items (first_world layout.now).nodes (first_world layout.now).after
+        (first_world layout.now).up (first_world layout.now).clocks) }
+    ensures listed { IfOk result (λ bricks. AreFreshDisks layout.now (disks_of bricks.items)) }
 {
     let mut bricks = Vec::new(alloc);
     for number in 0..layout.bricks() {
@@ -225,7 +223,7 @@ pub fn fresh_bricks(alloc: Global, layout: &Layout) -> Result<Vec<Brick>, NoMem>
 pub fn find_up(bricks: &[Brick], layout: &Layout, number: u64) -> Option<BrickId>
     requires nodes { AreNodesOf layout.now bricks.now }
     requires bricks { length bricks.now ≡ layout.now.bricks }
-    ensures { FindsUp layout.now bricks.now number result }
+    ensures { FindsUp bricks.now number result }
 {
     if number >= u64::from(layout.bricks()) {
         return None;
@@ -238,8 +236,8 @@ pub fn find_up(bricks: &[Brick], layout: &Layout, number: u64) -> Option<BrickId
 
 /// How often the store of a brick that is up was opened.
 pub fn boot_of(bricks: &[Brick], number: BrickId) -> u32
-    requires { (layout : _) × IsUp layout bricks.now number }
-    ensures { (layout : _) (w : World) → ShowsBricks layout bricks.now w.nodes w.after w.up w.clocks → result ≡ (w.nodes number.0).boot }
+    requires { IsUp bricks.now number }
+    ensures { IfSome (running_at bricks.now number.0) (λ node. result ≡ (state_of node).boot) }
 {
     match &bricks[number.0 as usize].power {
         Power::Up(node) => node.boot(),
@@ -249,16 +247,11 @@ pub fn boot_of(bricks: &[Brick], number: BrickId) -> u32
 
 /// A brick that is up is asked for an operation. After a refusal of any kind no brick has changed.
 pub fn ask_brick(bricks: &mut Vec<Brick>, number: BrickId, ask: &Ask) -> Result<Begun, NodeFault>
-    requires { (layout : _) × IsUp layout bricks.old.items number }
-    ensures refused { (layout : _) (w : World) → ShowsBricks layout bricks.old.items w.nodes w.after w.up w.clocks
-        → RefusesAs result (refusal_of layout (w.nodes number.0) ask.now) }
-    ensures begun { IfOk result (λ begun. (layout : _) (w : World) → ShowsBricks layout bricks.old.items w.nodes w.after w.up w.clocks
-        → (let step = invoked (coding layout) number (w.clocks number.0) (w.nodes number.0) ask.now in
-        (packets_from number begun.messages.items ≡ step.packets) × (begun.seq ≡ step.node.seq)
-        × ShowsBricks layout bricks.new.items (changed w.nodes number.0 step.node) w.after w.up w.clocks)) }
+    requires { IsUp bricks.old.items number }
+    ensures refused { RefusesBrick bricks.old.items number ask.now result }
+    ensures begun { IfOk result (BeginsBrick bricks.old.items bricks.new.items number ask.now) }
     ensures few { IfOk result (λ begun. vec_len begun.messages ≤ 32) }
-    ensures err { OnErr result ((layout : _) (w : World) → ShowsBricks layout bricks.old.items w.nodes w.after w.up w.clocks
-        → ShowsBricks layout bricks.new.items w.nodes w.after w.up w.clocks) }
+    ensures err { OnErr result ((layout : _) → BricksStay layout bricks.old.items bricks.new.items) }
     ensures disks { disks_of bricks.new.items ≡ disks_of bricks.old.items }
     ensures not_halted { result ≢ Err NodeFault.Halted }
     ensures not_disk { result ≢ Err NodeFault.Disk }
@@ -279,9 +272,8 @@ pub fn hand_over(
     packet: &Packet,
     fault: Option<Fault>,
 ) -> Result<Option<Outs>, NoMem>
-    requires { (layout : _) × IsUp layout bricks.old.items number }
-    ensures handled { (layout : _) (w : World) → ShowsBricks layout bricks.old.items w.nodes w.after w.up w.clocks
-        → HandledAs layout w number packet.now fault bricks.old.items bricks.new.items result }
+    requires { IsUp bricks.old.items number }
+    ensures handled { HandsOver bricks.old.items bricks.new.items number packet.now fault result }
     ensures few { IfOk result (λ outs. IfSome outs (λ sent. length sent.messages ≤ 32)) }
     ensures others { KeepsOthers (Some number) (disks_of bricks.old.items) (disks_of bricks.new.items) }
     ensures contents { OnErr result (map content_of (disks_of bricks.new.items) ≡ map content_of (disks_of bricks.old.items)) }
@@ -310,9 +302,9 @@ fn memory_refused(fault: NodeFault) -> NoMem
 
 /// What a brick that is up sends at a tick of its clock.
 pub fn tick_brick(bricks: &[Brick], number: BrickId) -> Result<Messages, NoMem>
-    requires { (layout : _) × IsUp layout bricks.now number }
-    ensures { IfOk result (λ messages. (layout : _) (w : World) → ShowsBricks layout bricks.now w.nodes w.after w.up w.clocks
-        → packets_from number messages.items ≡ ticked (coding layout) number (w.nodes number.0)) }
+    requires { IsUp bricks.now number }
+    ensures { IfOk result (λ messages. IfSome (running_at bricks.now number.0) (λ node.
+        packets_from node.me messages.items ≡ ticked (coding node.layout) node.me (state_of node))) }
 {
     match &bricks[number.0 as usize].power {
         Power::Up(node) => match node.on_tick() {
@@ -326,9 +318,7 @@ pub fn tick_brick(bricks: &[Brick], number: BrickId) -> Result<Messages, NoMem>
 /// A brick stops: its disk is all that is left of it.
 pub fn stop_brick(bricks: &mut Vec<Brick>, alloc: Global, number: BrickId)
     requires { number.0 < vec_len bricks.old }
-    ensures shows { (layout : _) (w : World) → ShowsBricks layout bricks.old.items w.nodes w.after w.up w.clocks
-        → w.up number.0 ≡ true → ShowsBricks layout bricks.new.items (changed w.nodes number.0 (stopped (w.nodes number.0)))
-        (changed w.after number.0 (stopped (w.nodes number.0))) (changed w.up number.0 false) w.clocks }
+    ensures stops { StopsBrick bricks.old.items bricks.new.items number }
     ensures disks { disks_of bricks.new.items ≡ disks_of bricks.old.items }
 {
     let brick = &mut bricks[number.0 as usize];
@@ -348,10 +338,8 @@ pub fn start_brick(
 ) -> Result<bool, NoMem>
     requires nodes { AreNodesOf layout.now bricks.old.items }
     requires brick { number.0 < vec_len bricks.old }
-    ensures started { IfOk result (λ started. (w : World) → ShowsBricks layout.now bricks.old.items w.nodes w.after w.up w.clocks
-        → (events : List Event) × StartsAs layout.now w number fault bricks.old.items bricks.new.items started events) }
-    ensures err { OnErr result ((w : World) → ShowsBricks layout.now bricks.old.items w.nodes w.after w.up w.clocks
-        → ShowsBricks layout.now bricks.new.items w.nodes w.after w.up w.clocks) }
+    ensures started { IfOk result (StartsBrick layout.now bricks.old.items bricks.new.items number fault) }
+    ensures err { OnErr result (BricksStay layout.now bricks.old.items bricks.new.items) }
     ensures others { KeepsOthers (Some number) (disks_of bricks.old.items) (disks_of bricks.new.items) }
     ensures contents { OnErr result (map content_of (disks_of bricks.new.items) ≡ map content_of (disks_of bricks.old.items)) }
 {

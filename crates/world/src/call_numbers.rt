@@ -60,16 +60,16 @@ impl CallNumbers {
         }
     }
 
-    /// The number of the operation of a brick's call; 0 where there is none.
-    pub fn number(&self, brick: BrickId, seq: u64) -> u64
+    /// The number of the operation of a brick's call. None where there is no such call.
+    pub fn number(&self, brick: BrickId, seq: u64) -> Option<u64>
         ensures { result ≡ call_at (calls_in self.now brick.0) seq }
     {
         let place = brick.0 as usize;
         if place < self.rows.len() && seq > 0 {
             let row = &self.rows[place];
-            row.get((seq - 1) as usize).copied().unwrap_or(0)
+            row.get((seq - 1) as usize).copied()
         } else {
-            0
+            None
         }
     }
 }

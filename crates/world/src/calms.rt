@@ -6,10 +6,9 @@ ghost use Rattle.std.specs.Bool.{Decides};
 ghost use Rattle.std.specs.Option.{option_copied};
 ghost use Rattle.quorum.specs.Quorums.{quorum_of};
 ghost use Rattle.fab_base.specs.Layouts.{seat_in};
-ghost use Rattle.protocol.specs.Worlds.{World};
 ghost use Rattle.protocol.specs.Calms.{IsEarly};
 ghost use Rattle.node.specs.Running.{state_of};
-ghost use Rattle.world.specs.Shown.{ShowsBricks, FindsRunning, ClockIs, IsAble, IsInTime, AreNodesOf};
+ghost use Rattle.world.specs.Shown.{NodeIsAble, NodeIsInTime, running_at, clock_at};
 
 use crate::bricks::{Brick, Power};
 use crate::histories::{OperationRecord, record_at};
@@ -24,7 +23,7 @@ const LATE: u64 = 1 << 63;
 
 /// A brick that runs, by its number. None where there is none.
 pub fn running<'b>(bricks: &'b [Brick], number: u64) -> Option<&'b Node<MemDisk>>
-    ensures { FindsRunning bricks.now number (option_copied result) }
+    ensures { option_copied result ≡ running_at bricks.now number }
 {
     if number >= bricks.len() as u64 {
         return None;
@@ -48,7 +47,7 @@ fn is_early(node: &Node<MemDisk>) -> bool
 
 /// Whether a brick is up, has room for two records more, and its times are early.
 fn is_able(bricks: &[Brick], layout: &Layout, number: u64) -> bool
-    ensures { (w : World) → ShowsBricks layout.now bricks.now w.nodes w.after w.up w.clocks → Decides result (IsAble layout.now w number) }
+    ensures { Decides result (NodeIsAble layout.now (running_at bricks.now number)) }
 {
     match running(bricks, number) {
         Some(node) => {
@@ -60,8 +59,8 @@ fn is_able(bricks: &[Brick], layout: &Layout, number: u64) -> bool
 
 /// Whether all these bricks are up, have room, and their times are early.
 fn are_able(bricks: &[Brick], layout: &Layout, numbers: &[u64]) -> bool
-    ensures { (w : World) → ShowsBricks layout.now bricks.now w.nodes w.after w.up w.clocks
-        → Decides result ((k number : ℕ) → slice_get numbers.now k ≡ Some number → IsAble layout.now w number) }
+    ensures { Decides result ((k number : ℕ) → slice_get numbers.now k ≡ Some number
+        → NodeIsAble layout.now (running_at bricks.now number)) }
 {
     for number in numbers {
         if !is_able(bricks, layout, *number) {
@@ -73,7 +72,7 @@ fn are_able(bricks: &[Brick], layout: &Layout, numbers: &[u64]) -> bool
 
 /// What the clock of a brick reads, 0 where there is none.
 fn clock_of(bricks: &[Brick], number: u64) -> u64
-    ensures { ClockIs bricks.now number result }
+    ensures { result ≡ clock_at bricks.now number }
 {
     if number >= bricks.len() as u64 {
         return 0;
@@ -83,7 +82,7 @@ fn clock_of(bricks: &[Brick], number: u64) -> u64
 
 /// Whether the clock of a brick that is up, and all its times, are early.
 fn is_in_time(bricks: &[Brick], number: u64) -> bool
-    ensures { (layout : _) (w : World) → ShowsBricks layout bricks.now w.nodes w.after w.up w.clocks → Decides result (IsInTime layout w number) }
+    ensures { Decides result (NodeIsInTime (clock_at bricks.now number) (running_at bricks.now number)) }
 {
     match running(bricks, number) {
         Some(node) => clock_of(bricks, number) < LATE && is_early(node),
@@ -123,37 +122,25 @@ fn members_among(group: &Group, numbers: &[u64]) -> usize
 }
 
 impl Simulation {
-    ghost use Rattle.std.specs.Prelude.{map};
-    ghost use Rattle.std.specs.Bool.{Decides};
-    ghost use Rattle.protocol.specs.Worlds.{World};
-    ghost use Rattle.protocol.specs.Calms.{IsCalm};
-    ghost use Rattle.stripe_code.specs.Codes.{coding};
-    ghost use Rattle.world.specs.Runs.{brick_of};
-    ghost use Rattle.world.specs.Shown.{Shows, IsReachedBy, OpensAs};
+    ghost use Rattle.std.specs.Prelude.{◌≡◌};
+    ghost use Rattle.world.specs.Shown.{DecidesCalm, open_record};
 
     /// What is kept of an operation, if it is open.
     pub fn open_record(&self, operation: u64) -> Option<OperationRecord>
-        ensures { (layout : _) (w : World) → IsReachedBy layout w → Shows layout self.now w → OpensAs self.now w operation result }
+        ensures { result ≡ open_record self.now operation }
     {
-        let Some(record) = record_at(&self.history.operations, operation) else {
-            return None;
-        };
-        let Some(node) = running(&self.bricks, u64::from(record.brick.0)) else {
-            return None;
-        };
-        if node.boot() != record.boot {
-            return None;
+        let record = record_at(&self.history.operations, operation)?;
+        let node = running(&self.bricks, u64::from(record.brick.0))?;
+        if node.boot() == record.boot && node.is_open(record.seq) {
+            Some(record)
+        } else {
+            None
         }
-        if !node.is_open(record.seq) {
-            return None;
-        }
-        Some(record)
     }
 
     /// Whether an operation may run alone among these bricks.
     pub fn is_calm(&self, layout: &Layout, operation: u64, bricks: &[u64]) -> bool
-        ensures { (w : World) → IsReachedBy layout.now w → Shows layout.now self.now w
-            → Decides result (IsCalm (coding layout.now) w operation (map brick_of bricks.now)) }
+        ensures { DecidesCalm layout.now self.now operation bricks.now result }
     {
         let Some(record) = self.open_record(operation) else {
             return false;

@@ -91,8 +91,7 @@ fn end_before(sent: &Sendings, operation: OperationRecord, place: usize) -> usiz
 
 impl Deliveries {
     ghost use Rattle.std.specs.Prelude.{◌≡◌, ◌+◌, ◌≤◌, ℕ, OnOk, Some, false, vec_len, get_or, if◌then◌else◌, nat_eq};
-    ghost use Rattle.protocol.specs.Worlds.{World};
-    ghost use Rattle.world.specs.Deliveries.{IsUntouchedAt, FindsLeft, is_left_at};
+    ghost use Rattle.world.specs.Deliveries.{IsUntouchedAt, FindsLeft, is_left_at, is_noted};
 
     /// None yet.
     pub fn new(alloc: Global) -> Deliveries
@@ -137,8 +136,7 @@ impl Deliveries {
 
     /// Whether the message of a number was delivered. There is none of number 0.
     pub fn was_delivered(&self, number: u64) -> bool
-        ensures { (w : World) → ((k : ℕ) → get_or self.now.reached.items k false ≡ w.reached (k + 1)) → w.reached 0 ≡ false
-            → result ≡ w.reached number }
+        ensures { result ≡ is_noted self.now.reached.items number }
     {
         if number == 0 {
             return false;

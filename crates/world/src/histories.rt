@@ -165,9 +165,9 @@ impl History {
     ghost use Rattle.protocol.specs.Settings.{Setting};
     ghost use Rattle.protocol.specs.Nodes.{NodeStep};
     ghost use Rattle.protocol.specs.Nodes.{put as changed};
-    ghost use Rattle.protocol.specs.Worlds.{World, first_world, number_of, world_began, world_stepped, world_stopped, world_tells, world_answers, with_made, with_seen};
+    ghost use Rattle.protocol.specs.Worlds.{first_world, number_of, world_began, world_stepped, world_stopped, world_tells, world_answers, with_made, with_seen};
     ghost use Rattle.world.specs.CallNumbers.{HasCallRoom, calls_in, call_at};
-    ghost use Rattle.world.specs.Shown.{Tells, HasStepRoom, AreTold, AreAnswered};
+    ghost use Rattle.world.specs.Shown.{Tells, HasStepRoom, IsOfCall, AreTold, AreAnswered, OpensNone, OpensNext, HistoryStays, HistoryBecomes, HistoryNotes};
 
     /// Nothing yet.
     pub fn new(alloc: Global) -> History
@@ -185,7 +185,7 @@ impl History {
     /// Makes room for what one step of a brick adds.
     pub fn make_room(&mut self) -> Result<(), NoMem>
         ensures room { OnOk result (HasStepRoom self.new) }
-        ensures same { (w : World) → Tells self.old w → Tells self.new w }
+        ensures same { HistoryStays self.old self.new }
     {
         self.sent.reserve(MOST_PACKETS)?;
         self.marks.reserve(1)?;
@@ -197,7 +197,7 @@ impl History {
     pub fn expect_call(&mut self, alloc: Global, brick: BrickId) -> Result<(), NoMem>
         ensures room { OnOk result (HasStepRoom self.new) }
         ensures call { OnOk result (HasCallRoom self.new.calls brick.0) }
-        ensures same { (w : World) → Tells self.old w → Tells self.new w }
+        ensures same { HistoryStays self.old self.new }
     {
         self.make_room()?;
         self.calls.reserve(alloc, brick)?;
@@ -209,14 +209,14 @@ impl History {
         requires some { 1 ≤ number }
         requires delivery { number ≤ vec_len self.old.delivered.reached }
         requires room { HasStepRoom self.old }
-        ensures delivered { (w : World) → Tells self.old w → Tells self.new (record w { reached = changed w.reached number true }) }
+        ensures delivered { HistoryBecomes (λ w. record w { reached = changed w.reached number true }) self.old self.new }
         ensures room { HasStepRoom self.new }
     {
         self.delivered.note(number);
     }
 
-    /// The number of the operation of a brick's call; 0 where there is none.
-    fn number(&self, brick: BrickId, seq: u64) -> u64
+    /// The number of the operation of a brick's call. None where there is no such call.
+    fn number(&self, brick: BrickId, seq: u64) -> Option<u64>
         ensures { result ≡ call_at (calls_in self.now.calls brick.0) seq }
     {
         self.calls.number(brick, seq)
@@ -226,8 +226,7 @@ impl History {
     fn send(&mut self, brick: BrickId, messages: Messages)
         requires { vec_len self.old.sent.packets + vec_len messages ≤ vec_capacity self.old.sent.packets }
         ensures items { self.new.sent.packets.items ≡ self.old.sent.packets.items ++ packets_from brick messages.items }
-        ensures sent { (w : World) → Tells self.old w
-            → Tells self.new (record w { packets = w.packets ++ packets_from brick messages.items }) }
+        ensures sent { HistoryBecomes (λ w. record w { packets = w.packets ++ packets_from brick messages.items }) self.old self.new }
         ensures rest { self.new ≡ record self.old { sent = self.new.sent } }
     {
         put_packets(&mut self.sent, brick, messages);
@@ -235,9 +234,8 @@ impl History {
 
     /// Makes room for messages, and notes that a brick sends them.
     pub fn send_more(&mut self, brick: BrickId, messages: Messages) -> Result<(), NoMem>
-        ensures sent { OnOk result ((w : World) → Tells self.old w
-            → Tells self.new (record w { packets = w.packets ++ packets_from brick messages.items })) }
-        ensures err { OnErr result ((w : World) → Tells self.old w → Tells self.new w) }
+        ensures sent { OnOk result (HistoryBecomes (λ w. record w { packets = w.packets ++ packets_from brick messages.items }) self.old self.new) }
+        ensures err { OnErr result (HistoryStays self.old self.new) }
     {
         self.sent.reserve(messages.len())?;
         self.send(brick, messages);
@@ -247,7 +245,7 @@ impl History {
     /// Notes that a brick stops.
     pub fn crash(&mut self, brick: BrickId)
         requires { HasStepRoom self.old }
-        ensures { (setting : Setting) (w : World) → Tells self.old w → Tells self.new (world_stopped setting w brick None) }
+        ensures { (setting : Setting) → HistoryBecomes (λ w. world_stopped setting w brick None) self.old self.new }
     {
         let position = self.marks.len() as u64;
         self.marks.push_reserved(Mark::Crash { position, brick });
@@ -259,9 +257,8 @@ impl History {
         requires room { HasStepRoom self.old }
         requires call { HasCallRoom self.old.calls brick.0 }
         requires few { vec_len begun.messages ≤ 32 }
-        ensures { (w : World) (step : NodeStep) → Tells self.old w → w.up brick.0 ≡ true
-            → packets_from brick begun.messages.items ≡ step.packets → boot ≡ step.node.boot → begun.seq ≡ step.node.seq
-            → step.node.boot ≡ (w.nodes brick.0).boot → step.node.seq ≡ (w.nodes brick.0).seq + 1 → Tells self.new (world_began w brick ask step) }
+        ensures { (step : NodeStep) → packets_from brick begun.messages.items ≡ step.packets → boot ≡ step.node.boot → begun.seq ≡ step.node.seq
+            → HistoryNotes brick (λ node. OpensNext node step) (λ w. world_began w brick ask step) self.old self.new }
     {
         let Begun { seq, messages } = begun;
         let position = self.marks.len() as u64;
@@ -291,32 +288,32 @@ impl History {
 
     /// The operation of a brick's call made a version, on this base.
     fn made(&mut self, brick: BrickId, seq: u64, stamp: Stamp, base: Option<Stamp>)
-        ensures made { (w : World) → Tells self.old w → w.up brick.0 ≡ true → 1 ≤ seq → seq ≤ (w.nodes brick.0).seq
-            → (let n = number_of w brick.0 seq in Tells self.new
-            (record w { operations = changed w.operations n (with_made stamp base (w.operations n)) })) }
+        ensures made { HistoryNotes brick (λ node. IsOfCall node seq) (λ w. let n = number_of w brick.0 seq in
+            record w { operations = changed w.operations n (with_made stamp base (w.operations n)) }) self.old self.new }
         ensures marks { self.new.marks ≡ self.old.marks }
         ensures sent { self.new.sent ≡ self.old.sent }
     {
-        let number = self.number(brick, seq);
-        note_made(&mut self.operations, number, stamp, base);
+        if let Some(number) = self.number(brick, seq) {
+            note_made(&mut self.operations, number, stamp, base);
+        }
     }
 
     /// The operation of a brick's call read a version at once.
     fn seen(&mut self, brick: BrickId, seq: u64, stamp: Stamp)
-        ensures seen { (w : World) → Tells self.old w → w.up brick.0 ≡ true → 1 ≤ seq → seq ≤ (w.nodes brick.0).seq
-            → (let n = number_of w brick.0 seq in Tells self.new
-            (record w { operations = changed w.operations n (with_seen stamp (w.operations n)) })) }
+        ensures seen { HistoryNotes brick (λ node. IsOfCall node seq) (λ w. let n = number_of w brick.0 seq in
+            record w { operations = changed w.operations n (with_seen stamp (w.operations n)) }) self.old self.new }
         ensures marks { self.new.marks ≡ self.old.marks }
         ensures sent { self.new.sent ≡ self.old.sent }
     {
-        let number = self.number(brick, seq);
-        note_seen(&mut self.operations, number, stamp);
+        if let Some(number) = self.number(brick, seq) {
+            note_seen(&mut self.operations, number, stamp);
+        }
     }
 
     /// Notes what a step told, if anything.
     fn tell(&mut self, brick: BrickId, told: Option<Told>)
-        ensures told { (setting : Setting) (w : World) → Tells self.old w → w.up brick.0 ≡ true → AreTold (w.nodes brick.0) (option_to_list told)
-            → Tells self.new (world_tells setting w brick (option_to_list told)) }
+        ensures told { (setting : Setting) → HistoryNotes brick (λ node. AreTold node (option_to_list told))
+            (λ w. world_tells setting w brick (option_to_list told)) self.old self.new }
         ensures marks { self.new.marks ≡ self.old.marks }
         ensures sent { self.new.sent ≡ self.old.sent }
     {
@@ -330,14 +327,16 @@ impl History {
     /// Notes the answer that a step gave, if one.
     fn answer(&mut self, brick: BrickId, answer: Option<Answered>)
         requires { vec_len self.old.marks < vec_capacity self.old.marks }
-        ensures answered { (w : World) → Tells self.old w → w.up brick.0 ≡ true → AreAnswered (w.nodes brick.0) (option_to_list answer)
-            → Tells self.new (world_answers w brick (option_to_list answer)) }
+        ensures answered { HistoryNotes brick (λ node. AreAnswered node (option_to_list answer))
+            (λ w. world_answers w brick (option_to_list answer)) self.old self.new }
         ensures sent { self.new.sent ≡ self.old.sent }
     {
         let Some(Answered { seq, answer }) = answer else {
             return;
         };
-        let operation = self.number(brick, seq);
+        let Some(operation) = self.number(brick, seq) else {
+            return;
+        };
         note_answer(&mut self.operations, operation, is_answer(&answer));
         let position = self.marks.len() as u64;
         self.marks.push_reserved(Mark::End {
@@ -351,11 +350,9 @@ impl History {
     pub fn step(&mut self, brick: BrickId, outs: Outs)
         requires room { HasStepRoom self.old }
         requires few { length outs.messages ≤ 32 }
-        ensures { (setting : Setting) (w : World) (step : NodeStep) → Tells self.old w → w.up brick.0 ≡ true
-            → packets_from brick outs.messages ≡ step.packets → outs.told ≡ step.told → outs.answers ≡ step.answers
-            → step.node.boot ≡ (w.nodes brick.0).boot → step.node.seq ≡ (w.nodes brick.0).seq
-            → AreTold (w.nodes brick.0) step.told → AreAnswered (w.nodes brick.0) step.answers
-            → Tells self.new (world_stepped setting w brick step) }
+        ensures { (setting : Setting) (step : NodeStep) → packets_from brick outs.messages ≡ step.packets → outs.told ≡ step.told
+            → outs.answers ≡ step.answers
+            → HistoryNotes brick (λ node. OpensNone node step) (λ w. world_stepped setting w brick step) self.old self.new }
     {
         let (messages, told, answer) = outs.into_parts();
         self.tell(brick, told);

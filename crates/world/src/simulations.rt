@@ -73,18 +73,18 @@ fn op_of(alloc: Global, access: &Access) -> Result<Op, NoMem>
 }
 
 impl Simulation {
-    ghost use Rattle.std.specs.Prelude.{◌≡◌, None, map, vec_len, IfOk, OnErr};
-    ghost use Rattle.protocol.specs.Worlds.{World, first_world};
+    ghost use Rattle.std.specs.Prelude.{◌≡◌, None, vec_len, IfOk, OnErr};
+    ghost use Rattle.protocol.specs.Worlds.{first_world};
     ghost use Rattle.protocol.specs.Worlds.Event.{Invokes, Sets, Ticks, Stops};
-    ghost use Rattle.protocol.specs.Calms.{IsCalm};
     ghost use Rattle.lines.specs.declared.forms.Line.TheVariants.{Deliver, Start, Calm};
-    ghost use Rattle.stripe_code.specs.Codes.{coding};
     ghost use Rattle.world.specs.Runs.{brick_of, ask_of, op_of};
-    ghost use Rattle.world.specs.Shown.{AreNodesOf, Shows, HasRun, HasBegun, IsUp, IsReachedBy, IsReachable, RunsLine, RefusesLine, TakesEvent, StaysAs, disks_of};
+    ghost use Rattle.world.specs.Disks.{AreFreshDisks};
+    ghost use Rattle.world.specs.Shown.{AreNodesOf, Shows, IsUp, IsReachable, RunsAloneTo, BeginsAloneTo, RunsLine, RefusesLine, TakesEvent, StaysAs, disks_of};
 
     /// All bricks up, their stores fresh, their clocks at 0, and nothing sent.
     pub fn new(alloc: Global, layout: &Layout) -> Result<Simulation, NoMem>
         ensures shows { IfOk result (λ state. Shows layout.now state (first_world layout.now)) }
+        ensures listed { IfOk result (λ state. AreFreshDisks layout.now (disks_of state.bricks.items)) }
     {
         Ok(Simulation {
             bricks: fresh_bricks(alloc, layout)?,
@@ -155,7 +155,7 @@ impl Simulation {
         brick: BrickId,
         ask: Ask,
     ) -> Result<Outcome, NoMem>
-        requires { IsUp layout.now self.old.bricks.items brick }
+        requires { IsUp self.old.bricks.items brick }
         ensures ok { IfOk result (TakesEvent layout.now self.old self.new (Invokes brick ask)) }
         ensures err { OnErr result (StaysAs layout.now self.old self.new) }
     {
@@ -318,12 +318,8 @@ impl Simulation {
         bricks: &[u64],
     ) -> Result<bool, NoMem>
         requires { IsReachable layout.now self.old }
-        ensures run { IfOk result (λ some. (w : World) → IsReachedBy layout.now w → Shows layout.now self.old w
-            → IsCalm (coding layout.now) w operation (map brick_of bricks.now)
-            → HasRun layout.now w operation (map brick_of bricks.now) (disks_of self.old.bricks.items) self.new some) }
-        ensures cut { OnErr result ((w : World) → IsReachedBy layout.now w → Shows layout.now self.old w
-            → IsCalm (coding layout.now) w operation (map brick_of bricks.now)
-            → HasBegun layout.now w operation (map brick_of bricks.now) (disks_of self.old.bricks.items) self.new) }
+        ensures run { IfOk result (RunsAloneTo layout.now self.old self.new operation bricks.now) }
+        ensures cut { OnErr result (BeginsAloneTo layout.now self.old self.new operation bricks.now) }
     {
         let mut from: usize = 0;
         let mut some = false;

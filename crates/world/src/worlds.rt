@@ -95,7 +95,7 @@ impl World {
     ghost use Rattle.stripe_code.specs.Codes.{coding};
     ghost use Rattle.protocol.specs.Happenings.{happenings_of};
     ghost use Rattle.world.specs.Runs.{world_of};
-    ghost use Rattle.world.specs.Disks.{ShowsDisks};
+    ghost use Rattle.world.specs.Disks.{ShowsDisks, HasFreshDisks};
     ghost use Rattle.world.specs.Steps.{Ran, RunsTo, LeavesSome, Stands, log_at};
     ghost use Rattle.world.specs.Walks.{AreEntriesOf};
 
@@ -103,6 +103,8 @@ impl World {
     pub fn new(alloc: Global, layout: Layout) -> Result<World, NoMem>
         ensures first { IfOk result (λ world. world ≡ record { layout = layout; steps = []; disks = world.disks }) }
         ensures disks { IfOk result ShowsDisks }
+        // Each store was opened once: its list of frames is as long as that leaves it.
+        ensures fresh { IfOk result HasFreshDisks }
     {
         let simulation = Simulation::new(alloc, &layout)?;
         Ok(World {

@@ -26,9 +26,7 @@ write_both_gated-requires-clause-room g c =
 
 pub returns-clause-change : goal.returns-clause-change
 returns-clause-change g c =
-    let d = g.D.Disk in
-    let old = c.args.disk.now in
-    let content = d.seen old in
+    let content = g.D.Disk.seen c.args.disk.now in
     let C : List ℕ → Type 0 = Torn c.args.gate (length c.args.shut.now) content in
     let P : List ℕ → Type 0 = IsShutFirst c.args.gate c.args.shut.now c.args.rest.now c.args.at c.args.list.now content in
     let W : List ℕ → Type 0 = IsRewritten c.args.gate c.args.shut.now c.args.rest.now c.args.at c.args.list.now content in
@@ -36,9 +34,9 @@ returns-clause-change g c =
     let shut_torn : C shut = written_torn c.args.gate c.args.shut.now content in
     let n = length c.args.rest.now in
     let k = length c.args.list.now in
-    then_on d 2 5 7 (λ image. image ≡ content) C shut (IsStaged (c.args.gate + 1) n c.args.at k)
+    then_on g.D.Disk 2 5 7 (λ image. image ≡ content) C shut (IsStaged (c.args.gate + 1) n c.args.at k)
     (IsBothGated (c.args.gate + 1) c.args.rest.now c.args.at c.args.list.now c.args.gate)
-    (λ x. written c.args.gate (165 ∷ []) (both_written (c.args.gate + 1) c.args.rest.now c.args.at c.args.list.now x)) P W old
+    (λ x. written c.args.gate (165 ∷ []) (both_written (c.args.gate + 1) c.args.rest.now c.args.at c.args.list.now x)) P W c.args.disk.now
     c.write_synced.new.disk c.write_both_gated.new.disk (end_of c.write_both_gated.result) refl
     (begun c.write_both_gated.result c.write_both_gated.ensures.only) refl
     (λ image is. inl (subst C (sym is) (torn_same c.args.gate (length c.args.shut.now) content))) (λ image is. inl is) (inl shut_torn)
@@ -47,9 +45,7 @@ returns-clause-change g c =
 
 pub returns-in_err-write_synced-clause-change : goal.returns-in_err-write_synced-clause-change
 returns-in_err-write_synced-clause-change g c =
-    let d = g.D.Disk in
-    let old = c.args.disk.now in
-    let content = d.seen old in
+    let content = g.D.Disk.seen c.args.disk.now in
     let C : List ℕ → Type 0 = Torn c.args.gate (length c.args.shut.now) content in
     let P : List ℕ → Type 0 = IsShutFirst c.args.gate c.args.shut.now c.args.rest.now c.args.at c.args.list.now content in
     let W : List ℕ → Type 0 = IsRewritten c.args.gate c.args.shut.now c.args.rest.now c.args.at c.args.list.now content in
@@ -59,7 +55,7 @@ returns-in_err-write_synced-clause-change g c =
     (both_written (c.args.gate + 1) c.args.rest.now c.args.at c.args.list.now shut) in
     let failed : c.write_synced.result ≡ Err Disk = search rules in
     let is : c.from_residual.result ≡ Err Disk = search rules in
-    cut_on d 2 7 (λ image. image ≡ content) C shut P W R old c.write_synced.new.disk c.write_synced.result c.from_residual.result failed is
+    cut_on g.D.Disk 2 7 (λ image. image ≡ content) C shut P W R c.args.disk.now c.write_synced.new.disk c.write_synced.result c.from_residual.result failed is
     (omega arith) refl
     (λ image is. inl (subst C (sym is) (torn_same c.args.gate (length c.args.shut.now) content))) (λ image is. inl is) (inl shut_torn)
     c.write_synced.ensures.change

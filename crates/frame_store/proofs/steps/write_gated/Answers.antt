@@ -20,12 +20,11 @@ write_synced-requires-2-clause-room g c =
 
 pub returns-clause-change : goal.returns-clause-change
 returns-clause-change g c =
-    let d = g.D.Disk in
     let old = c.args.disk.now in
-    let content = d.seen old in
+    let content = g.D.Disk.seen old in
     let n = length c.args.bytes.now in
     let P : List ℕ → Type 0 = Torn c.args.at n content in
-    then_on d 2 2 4 (λ image. image ≡ content) P (written c.args.at c.args.bytes.now content) (λ x image. image ≡ x) (Torn c.args.gate 1)
+    then_on g.D.Disk 2 2 4 (λ image. image ≡ content) P (written c.args.at c.args.bytes.now content) (λ x image. image ≡ x) (Torn c.args.gate 1)
     (written c.args.gate (165 ∷ [])) P (IsGated c.args.at c.args.bytes.now c.args.gate content) old c.write_synced.new.disk c.write_synced-2.new.disk
     (end_of c.write_synced-2.result) refl (begun c.write_synced-2.result c.write_synced-2.ensures.only) refl
     (λ image is. subst P (sym is) (torn_same c.args.at n content)) (λ image is. inl is) (written_torn c.args.at c.args.bytes.now content) refl

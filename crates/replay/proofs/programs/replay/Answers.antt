@@ -11,7 +11,7 @@ use Rattle.replay.specs.Audits.{AuditGoesOn, IsAuditDecided}
 use Rattle.replay.proofs.Linearity.{linearizable, stays_strict}
 use Rattle.replay.proofs.OpenEnds.{reads_as_needed, failed_source}
 use Rattle.replay.proofs.Statuses.{decided, of_write}
-use Rattle.replay.proofs.Auditing.{one_word, audit_decided}
+use Rattle.replay.proofs.Auditing.{run_or_audit, audit_decided}
 use Rattle.replay.proofs.programs.replay.Goals as goal
 
 pub returns-then-is_word-clause-run : goal.returns-then-is_word-clause-run
@@ -30,7 +30,7 @@ returns-then-is_word-clause-run g c = λ _.
       read = c.run.ensures.read;
       linearizable = λ whole. linearizable run.input run.steps c.run.result whole run.steps_are
           (subst (λ (r : Result RunResult Halt). Prints (g.K.Sink.told c.args.sink.now) (g.K.Sink.told c.run.new.sink)
-          (output_of run.steps run.input) r) whole run.printed).0;
+          (output_of run.steps run.input) r) whole run.printed).0 (run.told whole);
       stays_strict = stays_strict run.input;
     }
 
@@ -42,10 +42,10 @@ returns-then-is_word-clause-decided g c = λ asks source sink.
     (λ e. c.run.ensures.sink.never sink e))
 
 pub returns-then-is_word-clause-audit : goal.returns-then-is_word-clause-audit
-returns-then-is_word-clause-audit g c = λ audit. absurd (one_word (map string_bytes c.args.words.now) (sym c.is_word.ensures ∙ c.if-is_word.true) audit)
+returns-then-is_word-clause-audit g c = λ audit. absurd (run_or_audit (map string_bytes c.args.words.now) (sym c.is_word.ensures ∙ c.if-is_word.true) audit)
 
 pub returns-then-is_word-clause-audit_decided : goal.returns-then-is_word-clause-audit_decided
-returns-then-is_word-clause-audit_decided g c = λ audit source sink. absurd (one_word (map string_bytes c.args.words.now) (sym c.is_word.ensures ∙ c.if-is_word.true) audit)
+returns-then-is_word-clause-audit_decided g c = λ audit source sink. absurd (run_or_audit (map string_bytes c.args.words.now) (sym c.is_word.ensures ∙ c.if-is_word.true) audit)
 
 pub returns-then-is_word-2-clause-audit : goal.returns-then-is_word-2-clause-audit
 returns-then-is_word-2-clause-audit g c = λ _. record {

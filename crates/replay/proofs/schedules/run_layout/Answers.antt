@@ -15,7 +15,7 @@ returns-in_err-world-in-Ok-clause-output g c =
 
 pub returns-else-is_alone-clause-output : goal.returns-else-is_alone-clause-output
 returns-else-is_alone-clause-output g c =
-    PrintsHeaded-lines _ _ _ _ _ _ _ c.in-Ok.ensures.read c.in_ok-world-in-Ok.ensures.first c.in_ok-world-in-Ok.ensures.disks c.run_lines.ensures.rest
+    PrintsHeaded-lines _ _ _ _ _ _ _ c.in-Ok.ensures.read c.in_ok-world-in-Ok.ensures.first (c.in_ok-world-in-Ok.ensures.disks, c.in_ok-world-in-Ok.ensures.fresh) c.run_lines.ensures.rest
 
 pub returns-then-is_memory-clause-output : goal.returns-then-is_memory-clause-output
 returns-then-is_memory-clause-output g c = PrintsHeaded-stopped _ _ _ _
@@ -28,8 +28,8 @@ returns-else-is_memory-clause-output g c =
 
 pub returns-then-is_alone-clause-output : goal.returns-then-is_alone-clause-output
 returns-then-is_alone-clause-output g c =
-    PrintsHeaded-lines _ _ _ _ _ _ _ c.in-Ok.ensures.read c.in_ok-world-in-Ok.ensures.first c.in_ok-world-in-Ok.ensures.disks
-    (PrintsRest-ended _ _ _ _ _ _ (omega arith) (c.requires c.if-is_alone.true) c.finish.ensures.content)
+    PrintsHeaded-lines _ _ _ _ _ _ _ c.in-Ok.ensures.read c.in_ok-world-in-Ok.ensures.first (c.in_ok-world-in-Ok.ensures.disks, c.in_ok-world-in-Ok.ensures.fresh)
+    (PrintsRest-ended _ _ _ _ _ _ (omega arith) (c.requires c.if-is_alone.true) c.finish.ensures.told c.finish.ensures.content)
 
 pub returns-in_err-world-in-Ok-clause-reads : goal.returns-in_err-world-in-Ok-clause-reads
 returns-in_err-world-in-Ok-clause-reads g c =
@@ -52,7 +52,7 @@ returns-then-is_alone-clause-read g c = λ _. c.requires c.if-is_alone.true
 
 pub returns-else-is_alone-clause-reads : goal.returns-else-is_alone-clause-reads
 returns-else-is_alone-clause-reads g c =
-    ReadsPart-schedule _ _ _ _ _ _ _ _ _ _ _ c.in-Ok.ensures.read c.in_ok-world-in-Ok.ensures.first c.in_ok-world-in-Ok.ensures.disks c.run_lines.ensures.reads
+    ReadsPart-schedule _ _ _ _ _ _ _ _ _ _ _ c.in-Ok.ensures.read c.in_ok-world-in-Ok.ensures.first (c.in_ok-world-in-Ok.ensures.disks, c.in_ok-world-in-Ok.ensures.fresh) c.run_lines.ensures.reads
 
 pub returns-else-is_alone-clause-alone : goal.returns-else-is_alone-clause-alone
 returns-else-is_alone-clause-alone g c = λ t. absurd (let never : false ≡ true = sym c.if-is_alone.false ∙ t in cc)

@@ -6,7 +6,7 @@ use Rattle.replay.proofs.turns.take_last_turn.Goals as goal
 pub returns-in-Ended-clause-rest : goal.returns-in-Ended-clause-rest
 returns-in-Ended-clause-rest g c = λ left rest given.
     let says = rw c.in-Ended.is at given in
-    PrintsRest-ended _ _ _ _ _ _ (omega arith) says.0 c.finish.ensures.content
+    PrintsRest-ended _ _ _ _ _ _ (omega arith) says.0 c.finish.ensures.told c.finish.ensures.content
 
 pub returns-clause-rest : goal.returns-clause-rest
 returns-clause-rest g c = λ left rest says.

@@ -1,7 +1,7 @@
 use Rattle.std.proofs.Common.{List, ℕ, Ok, Err, Some, inr, subst, arith}
 use Rattle.lines.specs.Lines.{content}
 use Rattle.replay.specs.Turns.{LineRuns, LineTurnMeans, TurnMeans}
-use Rattle.replay.proofs.Printing.{at_err}
+use Rattle.replay.proofs.Printing.{at_err, stops_not}
 use Rattle.replay.proofs.Rests.{PrintsRest-ended, PrintsRest-long, PieceMeans-line, PieceMeans-last, TurnMeans-line, line_halt}
 use Rattle.replay.proofs.turns.take_turn.Goals as goal
 
@@ -45,7 +45,7 @@ returns-in_err-finish-in-None-clause-means g c =
     let ran = subst (λ (l : List ℕ). LineRuns w after (content l) old mid) c.as_slice-in-Last.ensures.value turn in
     at_err c.from_residual-in_err-finish-in-None.result (TurnMeans w after c.args.count c.args.piece.now old new)
     (λ halt. PieceMeans-last w after c.args.count c.args.piece.now c.in-Last.line old mid new (Err halt) c.requires c.in-Last.is ran
-    c.in_err-finish-in-None.ensures.content)
+    (λ e. absurd (stops_not halt e)) c.in_err-finish-in-None.ensures.content)
     c.from_residual-in_err-finish-in-None.ensures.0
 
 pub returns-in_ok-finish-in-None-clause-means : goal.returns-in_ok-finish-in-None-clause-means
@@ -58,7 +58,7 @@ returns-in_ok-finish-in-None-clause-means g c =
     let turn = rw c.in-None.is at c.in_ok-run_or_refuse-in-Last.ensures.means in
     let ran = subst (λ (l : List ℕ). LineRuns w after (content l) old mid) c.as_slice-in-Last.ensures.value turn in
     PieceMeans-last w after c.args.count c.args.piece.now c.in-Last.line old mid new (Ok c.in_ok-finish-in-None.field-0) c.requires c.in-Last.is ran
-    c.in_ok-finish-in-None.ensures.content
+    c.in_ok-finish-in-None.ensures.told c.in_ok-finish-in-None.ensures.content
 
 pub returns-in_err-refuse_line-in-Long-clause-means : goal.returns-in_err-refuse_line-in-Long-clause-means
 returns-in_err-refuse_line-in-Long-clause-means g c =
@@ -83,11 +83,11 @@ returns-in_err-finish-in-Ended-clause-means g c =
     (λ halt left rest given.
     let says = rw c.in-Ended.is at given in
     PrintsRest-ended c.args.world.now c.args.count left (g.K.Sink.told c.args.sink.now) (g.K.Sink.told c.finish-in-Ended.new.sink) (Err halt)
-    (omega (arith, c.requires)) says.0 c.in_err-finish-in-Ended.ensures.content)
+    (omega (arith, c.requires)) says.0 (λ e. absurd (stops_not halt e)) c.in_err-finish-in-Ended.ensures.content)
     c.from_residual-in_err-finish-in-Ended.ensures.0
 
 pub returns-in_ok-finish-in-Ended-clause-means : goal.returns-in_ok-finish-in-Ended-clause-means
 returns-in_ok-finish-in-Ended-clause-means g c = λ left rest given.
     let says = rw c.in-Ended.is at given in
     PrintsRest-ended c.args.world.now c.args.count left (g.K.Sink.told c.args.sink.now) (g.K.Sink.told c.finish-in-Ended.new.sink)
-    (Ok c.in_ok-finish-in-Ended.field-0) (omega (arith, c.requires)) says.0 c.in_ok-finish-in-Ended.ensures.content
+    (Ok c.in_ok-finish-in-Ended.field-0) (omega (arith, c.requires)) says.0 c.in_ok-finish-in-Ended.ensures.told c.in_ok-finish-in-Ended.ensures.content

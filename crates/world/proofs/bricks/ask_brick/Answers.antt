@@ -9,22 +9,22 @@ use Rattle.world.proofs.bricks.ask_brick.Goals as goal
 
 pub unreachable-requires : goal.unreachable-requires
 unreachable-requires c =
-    on_at c.requires.0 c.args.bricks.now.items c.args.number c.index_mut-brick.result.now _ c.index_mut-brick.ensures.value c.in-Down.is c.requires.1
+    on_at c.args.bricks.now.items c.args.number c.index_mut-brick.result.now _ c.index_mut-brick.ensures.value c.in-Down.is c.requires
 
 pub returns-clause-refused : goal.returns-clause-refused
 returns-clause-refused c layout =
     asked_refused layout c.args.bricks.now.items c.args.number.0 c.index_mut-brick.result.now c.in-Up.node c.args.ask.now c.invoke.result
-    c.requires.1.within c.index_mut-brick.ensures.value c.in-Up.is c.invoke.ensures.refused
+    c.requires.within c.index_mut-brick.ensures.value c.in-Up.is c.invoke.ensures.refused
 
 pub returns-clause-begun : goal.returns-clause-begun
 returns-clause-begun c =
     asked_begun c.args.bricks.now.items c.args.number.0 c.index_mut-brick.result.now c.in-Up.node c.invoke.new.self c.args.ask.now c.invoke.result
-    c.requires.1.within c.index_mut-brick.ensures.value c.in-Up.is c.invoke.ensures.same c.invoke.ensures.brick c.invoke.ensures.begun
+    c.requires.within c.index_mut-brick.ensures.value c.in-Up.is c.invoke.ensures.same c.invoke.ensures.brick c.invoke.ensures.begun
 
 pub returns-clause-err : goal.returns-clause-err
 returns-clause-err c =
     asked_same c.args.bricks.now.items c.args.number.0 c.index_mut-brick.result.now c.in-Up.node c.invoke.new.self c.invoke.result
-    c.requires.1.within c.index_mut-brick.ensures.value c.in-Up.is c.invoke.ensures.same c.invoke.ensures.brick c.invoke.ensures.err
+    c.requires.within c.index_mut-brick.ensures.value c.in-Up.is c.invoke.ensures.same c.invoke.ensures.brick c.invoke.ensures.err
 
 pub returns-clause-disks : goal.returns-clause-disks
 returns-clause-disks c =
@@ -34,7 +34,7 @@ returns-clause-disks c =
 pub returns-clause-not_halted : goal.returns-clause-not_halted
 returns-clause-not_halted c = λ halted.
     let on =
-    on_at c.requires.0 c.args.bricks.now.items c.args.number c.index_mut-brick.result.now _ c.index_mut-brick.ensures.value c.in-Up.is c.requires.1
+    on_at c.args.bricks.now.items c.args.number c.index_mut-brick.result.now _ c.index_mut-brick.ensures.value c.in-Up.is c.requires
     in
     let never : true ≡ false = sym (c.invoke.ensures.only_halted halted) ∙ on.0 in
     cc

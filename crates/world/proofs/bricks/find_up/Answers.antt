@@ -1,11 +1,11 @@
 -- The brick of the number says whether it is up.
 use Rattle.std.proofs.Common.{arith, ap, ◌∙◌}
 use Rattle.world.specs.declared.bricks.Brick.{Brick}
-use Rattle.world.proofs.BrickListLemmas.{found_up, found_down, found_none}
+use Rattle.world.proofs.BrickListLemmas.{found_up, running_down, running_past}
 use Rattle.world.proofs.bricks.find_up.Goals as goal
 
 pub returns-then-number-from : goal.returns-then-number-from
-returns-then-number-from c = found_none c.args.layout.now c.args.bricks.now c.args.number (omega arith)
+returns-then-number-from c = running_past c.args.bricks.now c.args.number (omega (arith, c.requires.bricks))
 
 pub returns-in-Up : goal.returns-in-Up
 returns-in-Up c =
@@ -15,6 +15,6 @@ returns-in-Up c =
 
 pub returns-in-Down : goal.returns-in-Down
 returns-in-Down c =
-    found_down c.args.layout.now c.args.bricks.now c.args.number c.index-bricks-number.result _
+    running_down c.args.bricks.now c.args.number c.index-bricks-number.result _
     (omega (arith, c.requires.bricks)) c.index-bricks-number.is
     (ap (λ (x : Brick). x.power) c.index-bricks-number.is ∙ c.in-Down.is)

@@ -3,8 +3,8 @@ use Rattle.std.proofs.Common.{refl}
 use Rattle.world.proofs.BrickLemmas.{empty_shows}
 use Rattle.world.proofs.bricks.fresh_disk.Goals as goal
 
-pub returns-in-Ok : goal.returns-in-Ok
-returns-in-Ok c =
+pub returns-in-Ok-clause-kept : goal.returns-in-Ok-clause-kept
+returns-in-Ok-clause-kept c =
     let made = c.in-Ok.ensures.change.whole refl tt in (
       record {
         only = made.only;

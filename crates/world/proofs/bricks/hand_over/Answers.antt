@@ -10,18 +10,18 @@ use Rattle.world.proofs.bricks.hand_over.Goals as goal
 
 pub take_message-power-requires : goal.take_message-power-requires
 take_message-power-requires c =
-    (on_at c.requires.0 c.args.bricks.now.items c.args.number c.index_mut-brick.result.now _ c.index_mut-brick.ensures.value
-    (sym c.replace.ensures.value ∙ c.in-Up.is) c.requires.1).0
+    (on_at c.args.bricks.now.items c.args.number c.index_mut-brick.result.now _ c.index_mut-brick.ensures.value
+    (sym c.replace.ensures.value ∙ c.in-Up.is) c.requires).0
 
 pub unreachable-requires : goal.unreachable-requires
 unreachable-requires c =
-    on_at c.requires.0 c.args.bricks.now.items c.args.number c.index_mut-brick.result.now _ c.index_mut-brick.ensures.value
-    (sym c.replace.ensures.value ∙ c.in-Down.is) c.requires.1
+    on_at c.args.bricks.now.items c.args.number c.index_mut-brick.result.now _ c.index_mut-brick.ensures.value
+    (sym c.replace.ensures.value ∙ c.in-Down.is) c.requires
 
 pub returns-clause-handled : goal.returns-clause-handled
 returns-clause-handled c layout w shows =
     handled_as layout c.args.bricks.now.items c.args.number c.index_mut-brick.result.now c.in-Up.node c.take_message-power.result.0 c.args.packet.now
-    c.args.fault w c.requires.1.within c.index_mut-brick.ensures.value (sym c.replace.ensures.value ∙ c.in-Up.is) shows c.take_message-power.result.1
+    c.args.fault w c.requires.within c.index_mut-brick.ensures.value (sym c.replace.ensures.value ∙ c.in-Up.is) shows c.take_message-power.result.1
     (λ state runs. c.take_message-power.ensures.takes layout c.args.number state runs)
 
 pub returns-clause-others : goal.returns-clause-others

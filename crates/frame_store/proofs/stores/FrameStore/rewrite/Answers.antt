@@ -1,9 +1,9 @@
-use Rattle.std.proofs.Common.{rules, ◌≡◌, ◌+◌, ◌-◌, ◌^◌, ◌<◌, ◌≤◌, max, length, ℕ, List, true, false, None, refl, sym, ap, subst, arith, ◌∙◌}
+use Rattle.std.proofs.Common.{rules, ◌≡◌, ◌+◌, ◌-◌, max, length, ℕ, List, true, false, None, refl, sym, ap, subst, arith, ◌∙◌}
 use Rattle.fab_disk.specs.Changing.{Whole, Still}
 use Rattle.frame_store.specs.declared.frames.Frame.{Frame}
 use Rattle.frame_store.specs.declared.shapes.Half.{Half}
 use Rattle.frame_store.specs.Ends.{ListChange}
-use Rattle.frame_store.specs.Layouts.{half_at, half_size, header_at, header_rest, store_end}
+use Rattle.frame_store.specs.Layouts.{half_at, header_at, store_end}
 use Rattle.frame_store.specs.Listed.{closed_list, size_of}
 use Rattle.frame_store.specs.Images.{InForce, generation_at}
 use Rattle.frame_store.specs.Laid.{other, Laid, IsCounted, IsRenewed}
@@ -11,11 +11,36 @@ use Rattle.frame_store.specs.Steps.{next_of}
 use Rattle.frame_store.specs.Stores.{Held, HasRoom}
 use Rattle.frame_store.proofs.Changes.{laid_opens}
 use Rattle.frame_store.proofs.Ends.{of_refused}
-use Rattle.frame_store.proofs.Exits.{end_small, half_within, closing_short, still_change}
+use Rattle.frame_store.proofs.Exits.{end_small, list_within, closing_short, still_change}
 use Rattle.frame_store.proofs.Writes.{rewritten}
 use Rattle.frame_store.proofs.Headers.{renewed}
 use Rattle.frame_store.proofs.Rewriting.{length-closed_list}
 use Rattle.frame_store.proofs.stores.FrameStore.rewrite.Goals as goal
+
+-- the new list is laid in the other half, and counted
+pub invariant_of-self-in-Ok : goal.invariant_of-self-in-Ok
+invariant_of-self-in-Ok g c =
+    let x = c.self.inside in
+    let made = rewritten g.D.Disk g.met.D.Disk.only_now g.met.D.Disk.counts_now x.half x.generation x.other_shut x.used _ c.args.self.now
+    c.stage_list.new.disk c.rewrite_gated.new.disk Whole c.self.view_is c.self.invariant.0 c.self.invariant.1 c.if-self.false c.stage_list.ensures.still
+    c.args.frames.items c.header_at-gate.result c.half_at-at.result c.closing-shut.result.now c.header_rest-rest.result c.deref-2.result.now
+    c.requires.fits (omega arith) (c.header_at-gate.ensures ∙ ap header_at c.other-other.ensures)
+    (c.half_at-at.ensures ∙ ap (half_at x.shape) c.other-other.ensures) c.closing-shut.ensures c.header_rest-rest.ensures
+    (c.deref-2.ensures.value ∙ c.in_ok-stage_list.ensures.line ∙ ap closed_list c.deref.ensures.value) c.in-Ok.ensures.change in
+    let line = c.deref-2.result.now in
+    let new = g.D.Disk.seen c.rewrite_gated.new.disk in
+    let bytes : c.len-bytes.result ≡ length line = omega arith in
+    let items : c.listing_of-self-inside.result.frames ≡ c.args.frames.items = c.listing_of-self-inside.ensures ∙ c.deref-in-Ok.ensures.value in
+    let size : c.max-self-inside.result ≡ max x.size (c.half_at-at.result + length line) = omega (arith, bytes, c.max-self-inside.ensures) in
+    let used : length line - 1 ≡ c.len-bytes.result - 1 = omega (arith, bytes) in (
+      subst (λ (n : ℕ). IsCounted x.shape c.listing_of-self-inside.result.frames n) used (subst (λ (l : List Frame). IsCounted x.shape l (length line - 1))
+          (sym items) made.counted),
+      λ told runs_now. (
+        subst (λ (h : Half). Laid x.shape h (next_of x.generation) false c.listing_of-self-inside.result.frames true new) (sym c.other-other.ensures)
+            (subst (λ (l : List Frame). Laid x.shape (other x.half) (next_of x.generation) false l true new) (sym items) (made.laid refl told).0),
+        (made.laid refl told).1 ∙ sym size,
+      ),
+    )
 
 pub returns-in-Ok-clause-change : goal.returns-in-Ok-clause-change
 returns-in-Ok-clause-change g c =
@@ -28,38 +53,11 @@ returns-in-Ok-clause-change g c =
     (c.deref-2.ensures.value ∙ c.in_ok-stage_list.ensures.line ∙ ap closed_list c.deref.ensures.value) c.in-Ok.ensures.change in
     made.change
 
--- the new list is laid in the other half, and counted
-pub invariant_of-self-in-Ok : goal.invariant_of-self-in-Ok
-invariant_of-self-in-Ok g c =
-    let x = c.self.inside in
-    let made = rewritten g.D.Disk g.met.D.Disk.only_now g.met.D.Disk.counts_now x.half x.generation x.other_shut x.used _ c.args.self.now
-    c.stage_list.new.disk c.rewrite_gated.new.disk Whole c.self.view_is c.self.invariant.0 c.self.invariant.1 c.if-self.false c.stage_list.ensures.still
-    c.args.frames.items c.header_at-gate.result c.half_at-at.result c.closing-shut.result.now c.header_rest-rest.result c.deref-2.result.now
-    c.requires.fits (omega arith) (c.header_at-gate.ensures ∙ ap header_at c.other-other.ensures)
-    (c.half_at-at.ensures ∙ ap (half_at x.shape) c.other-other.ensures) c.closing-shut.ensures c.header_rest-rest.ensures
-    (c.deref-2.ensures.value ∙ c.in_ok-stage_list.ensures.line ∙ ap closed_list c.deref.ensures.value) c.in-Ok.ensures.change in
-    let fs = c.args.frames.items in
-    let line = c.deref-2.result.now in
-    let new = g.D.Disk.seen c.rewrite_gated.new.disk in
-    let bytes : c.len-bytes.result ≡ length line = omega arith in
-    let items : c.listing_of-self-inside.result.frames ≡ fs = c.listing_of-self-inside.ensures ∙ c.deref-in-Ok.ensures.value in
-    let size : c.max-self-inside.result ≡ max x.size (c.half_at-at.result + length line) = omega (arith, bytes, c.max-self-inside.ensures) in
-    let used : length line - 1 ≡ c.len-bytes.result - 1 = omega (arith, bytes) in (
-      subst (λ (n : ℕ). IsCounted x.shape c.listing_of-self-inside.result.frames n) used (subst (λ (l : List Frame). IsCounted x.shape l (length line - 1))
-          (sym items) made.counted),
-      λ told runs_now. (
-        subst (λ (h : Half). Laid x.shape h (next_of x.generation) false c.listing_of-self-inside.result.frames true new) (sym c.other-other.ensures)
-            (subst (λ (l : List Frame). Laid x.shape (other x.half) (next_of x.generation) false l true new) (sym items) (made.laid refl told).0),
-        (made.laid refl told).1 ∙ sym size,
-      ),
-    )
-
 pub returns-in-Ok-clause-read : goal.returns-in-Ok-clause-read
 returns-in-Ok-clause-read g c = λ told runs.
-    let x = c.self.inside in
     let now = (invariant_of-self-in-Ok g c).1 told runs in
     record {
-      opens = laid_opens x.shape c.other-other.result (next_of x.generation) false c.listing_of-self-inside.result.frames true
+      opens = laid_opens c.self.inside.shape c.other-other.result (next_of c.self.inside.generation) false c.listing_of-self-inside.result.frames true
           (g.D.Disk.seen c.rewrite_gated.new.disk) now.0;
       size = now.1;
     }
@@ -79,84 +77,60 @@ returns-in-Ok-clause-renewed g c = λ told.
 -- the list fits in its half, and so below the store's end
 pub rewrite_gated-requires-clause-reach : goal.rewrite_gated-requires-clause-reach
 rewrite_gated-requires-clause-reach g c =
-    let x = c.self.inside in
-    let fits = subst (λ (s : Held g.row.D.Denot). size_of c.args.frames.items + 1 ≤ half_size s.shape) (sym c.self.view_is) c.requires.fits in
-    let line_is : c.deref-2.result.now ≡ closed_list c.args.frames.items = c.deref-2.ensures.value ∙ c.in_ok-stage_list.ensures.line
-    ∙ ap closed_list c.deref.ensures.value in
     omega (
       arith,
-      c.half_at-at.ensures,
-      half_within x.shape c.other-other.result,
-      end_small x.shape c.self.invariant.0.limits,
-      fits,
-      ap length line_is,
-      length-closed_list c.args.frames.items,
+      end_small c.self.inside.shape c.self.invariant.0.limits,
+      list_within _ c.args.self.now c.other-other.result c.args.frames.items c.deref-2.result.now c.half_at-at.result c.self.view_is
+          c.requires.fits (c.deref-2.ensures.value ∙ c.in_ok-stage_list.ensures.line ∙ ap closed_list c.deref.ensures.value) c.half_at-at.ensures,
     )
 
 pub overflow_add-at : goal.overflow_add-at
 overflow_add-at g c =
-    let x = c.self.inside in
-    let fits = subst (λ (s : Held g.row.D.Denot). size_of c.args.frames.items + 1 ≤ half_size s.shape) (sym c.self.view_is) c.requires.fits in
-    let line_is : c.deref-2.result.now ≡ closed_list c.args.frames.items = c.deref-2.ensures.value ∙ c.in_ok-stage_list.ensures.line
-    ∙ ap closed_list c.deref.ensures.value in
     let bytes : c.len-bytes.result ≡ length c.deref-2.result.now = omega arith in
     omega (
       arith,
       bytes,
-      c.half_at-at.ensures,
-      half_within x.shape c.other-other.result,
-      end_small x.shape c.self.invariant.0.limits,
-      fits,
-      ap length line_is,
-      length-closed_list c.args.frames.items,
+      end_small c.self.inside.shape c.self.invariant.0.limits,
+      list_within _ c.args.self.now c.other-other.result c.args.frames.items c.deref-2.result.now c.half_at-at.result c.self.view_is
+          c.requires.fits (c.deref-2.ensures.value ∙ c.in_ok-stage_list.ensures.line ∙ ap closed_list c.deref.ensures.value) c.half_at-at.ensures,
     )
 
 pub rewrite_gated-requires-clause-room : goal.rewrite_gated-requires-clause-room
 rewrite_gated-requires-clause-room g c =
-    let x = c.self.inside in
     let fs = c.args.frames.items in
-    let fits = subst (λ (s : Held g.row.D.Denot). size_of fs + 1 ≤ half_size s.shape) (sym c.self.view_is) c.requires.fits in
-    let line_is : c.deref-2.result.now ≡ closed_list fs = c.deref-2.ensures.value ∙ c.in_ok-stage_list.ensures.line
-    ∙ ap closed_list c.deref.ensures.value in
-    let shut = closing_short x.other_shut in
-    let rest : length c.header_rest-rest.result ≡ 31 = ap length c.header_rest-rest.ensures in
+    let line_is = c.deref-2.ensures.value ∙ c.in_ok-stage_list.ensures.line ∙ ap closed_list c.deref.ensures.value in
+    let within = list_within _ c.args.self.now c.other-other.result fs c.deref-2.result.now c.half_at-at.result c.self.view_is c.requires.fits
+    line_is c.half_at-at.ensures in
     let listed : size_of c.deref.result.now ≡ size_of fs = ap size_of c.deref.ensures.value in
     g.met.D.Disk.room_for_less c.stage_list.new.disk 7 (size_of c.deref.result.now + 34) c.end-end.result
     7 (length c.closing-shut.result.now + (length c.header_rest-rest.result + length c.deref-2.result.now + 1))
-    (c.half_at-at.result + length c.deref-2.result.now)
-    (omega arith) (omega (arith, ap length c.closing-shut.ensures, shut, rest, ap length line_is, length-closed_list fs, listed))
+    (c.half_at-at.result + length c.deref-2.result.now) (omega arith)
     (omega (
       arith,
-      c.end-end.ensures,
-      c.half_at-at.ensures,
-      half_within x.shape c.other-other.result,
-      fits,
+      ap length c.closing-shut.ensures,
+      closing_short c.self.inside.other_shut,
+      ap length c.header_rest-rest.ensures,
       ap length line_is,
       length-closed_list fs,
-    )) c.in_ok-stage_list.ensures.made
+      listed,
+    )) (omega (arith, c.end-end.ensures, within)) c.in_ok-stage_list.ensures.made
 
 -- what room there was beyond the call is left
 pub returns-in-Ok-clause-left : goal.returns-in-Ok-clause-left
 returns-in-Ok-clause-left g c = λ calls bytes written had.
-    let x = c.self.inside in
     let fs = c.args.frames.items in
+    let end = store_end c.self.inside.shape in
     let before = subst (λ (s : Held g.row.D.Denot). HasRoom g.D.Disk.has_room s (calls + 7) (bytes + (size_of fs + 34)) written)
     (sym c.self.view_is) had in
-    let fits = subst (λ (s : Held g.row.D.Denot). size_of fs + 1 ≤ half_size s.shape) (sym c.self.view_is) c.requires.fits in
-    let line_is : c.deref-2.result.now ≡ closed_list fs = c.deref-2.ensures.value ∙ c.in_ok-stage_list.ensures.line
-    ∙ ap closed_list c.deref.ensures.value in
-    let shut = closing_short x.other_shut in
-    let rest : length c.header_rest-rest.result ≡ 31 = ap length c.header_rest-rest.ensures in
-    let kept = c.stage_list.ensures.room (calls + 7) (bytes + (size_of fs + 34)) (store_end x.shape) before.disk in
-    let less = g.met.D.Disk.room_for_less c.stage_list.new.disk (calls + 7) (bytes + (size_of fs + 34)) (store_end x.shape)
-    (calls + 7) (bytes + (length c.closing-shut.result.now + (length c.header_rest-rest.result + length c.deref-2.result.now + 1)))
-    (store_end x.shape)
-    (omega arith) (omega (arith, ap length c.closing-shut.ensures, shut, rest, ap length line_is, length-closed_list fs)) (omega arith) kept in
-    record {
-      disk = c.in-Ok.ensures.left calls bytes (store_end x.shape)
-          (omega (arith, c.half_at-at.ensures, half_within x.shape c.other-other.result, fits, ap length line_is, length-closed_list fs)) less;
-      line = omega (arith, before.line, c.stage_list.ensures.wide);
-    }
+    let line_is = c.deref-2.ensures.value ∙ c.in_ok-stage_list.ensures.line ∙ ap closed_list c.deref.ensures.value in
+    let within = list_within _ c.args.self.now c.other-other.result fs c.deref-2.result.now c.half_at-at.result c.self.view_is c.requires.fits
+    line_is c.half_at-at.ensures in
+    let shut = closing_short c.self.inside.other_shut in
+    let kept = c.stage_list.ensures.room (calls + 7) (bytes + (size_of fs + 34)) end before.disk in
+    let less = g.met.D.Disk.room_for_less c.stage_list.new.disk (calls + 7) (bytes + (size_of fs + 34)) end
+    (calls + 7) (bytes + (length c.closing-shut.result.now + (length c.header_rest-rest.result + length c.deref-2.result.now + 1))) end (omega arith)
+    (omega (arith, ap length c.closing-shut.ensures, shut, ap length c.header_rest-rest.ensures, ap length line_is, length-closed_list fs)) (omega arith) kept in
+    record { disk = c.in-Ok.ensures.left calls bytes end within less; line = omega (arith, before.line, c.stage_list.ensures.wide) }
 
 pub returns-in_err-stage_list-clause-change : goal.returns-in_err-stage_list-clause-change
 returns-in_err-stage_list-clause-change g c =

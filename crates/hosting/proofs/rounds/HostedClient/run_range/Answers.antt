@@ -1,8 +1,7 @@
-use Rattle.std.proofs.Common.{◌≡◌, ◌+◌, ◌-◌, [], Err, IfErr, sym, subst, inl, inr, arith}
+use Rattle.std.proofs.Common.{◌≡◌, ◌+◌, ◌-◌, [], Err, IfErr, inl, inr, arith}
 use Rattle.std.proofs.lemmas.Result.{err_from_is_err_and}
 use Rattle.fab_io.proofs.Told.{Stays-refl}
 use Rattle.fab_base.proofs.Keeping.{Kept-trans, Kept-calm}
-use Rattle.hosting.specs.Commanded.{IsRangeOf, Stands}
 use Rattle.hosting.specs.Rounds.{KeepsBricks, StopsRange, told}
 use Rattle.serving.proofs.Looks.{Looked-none}
 use Rattle.hosting.proofs.Hearing.{IsRunning-first, IsRunning-more, asking_is}
@@ -11,16 +10,15 @@ use Rattle.hosting.proofs.rounds.HostedClient.run_range.Goals as goal
 
 pub loop-standing-init : goal.loop-standing-init
 loop-standing-init g c =
-    let same = c.in_ok-standing.ensures.same in
     let before = told (g.L.Link.waiting c.args.self.now.end.link) (g.L.Link.sent c.args.self.now.end.link) in
     let after = told (g.L.Link.waiting c.ask_next.new.self.link) (g.L.Link.sent c.ask_next.new.self.link) in
     record {
-      runs = IsRunning-first g.B.Bricks.takes c.args.port c.args.range.now c.args.self.now.end.sent c.args.self.now.turns
-          (record { sent = c.ask_next.new.self.sent; range = c.ask_next.new.range }) before after c.args.self.now.bricks
-          (asking_is c.args.self.now.end.sent c.ask_next.new.self.sent c.args.range.now c.ask_next.new.range c.in_ok-standing.ensures.sent same)
+      runs = IsRunning-first g.B.Bricks.takes c.args.port c.args.range c.args.self.now.end.sent c.args.self.now.turns
+          (record { sent = c.ask_next.new.self.sent; range = c.args.range }) before after c.args.self.now.bricks
+          (asking_is c.args.self.now.end.sent c.ask_next.new.self.sent c.args.range c.in_ok-standing.ensures.sent)
           c.ask_next.ensures.waiting c.in_ok-standing.ensures.asks;
-      stands = subst (λ p. Stands p c.in_ok-standing.standing) (sym same) c.in_ok-standing.ensures.stands;
-      parts = subst (IsRangeOf c.args.layout.now) (sym same) c.requires.parts;
+      stands = c.in_ok-standing.ensures.stands;
+      parts = c.requires.parts;
       stays = λ s. s;
       few = omega (arith, c.in_ok-standing.ensures.few);
       kept = Kept-calm c.ask_next.ensures.kept;
@@ -47,8 +45,8 @@ returns-in_err-standing-clause-stopped g c =
     let before = told (g.L.Link.waiting c.args.self.now.end.link) (g.L.Link.sent c.args.self.now.end.link) in
     let after = told (g.L.Link.waiting c.ask_next.new.self.link) (g.L.Link.sent c.ask_next.new.self.link) in
     at_exit c.from_residual.result c.in_err-standing.field-0.0
-    (λ r. IfErr r (StopsRange g.B.Bricks.takes g.B.Bricks.stops c.args.port c.args.range.now c.args.self.now.end.sent c.args.self.now.turns before after c.args.self.now.bricks c.args.self.now.bricks)) q.0 q.1 q.2
-    (StopsRange-none g.B.Bricks.takes g.B.Bricks.stops c.args.port c.args.range.now c.args.self.now.end.sent c.args.self.now.turns before after c.args.self.now.bricks
+    (λ r. IfErr r (StopsRange g.B.Bricks.takes g.B.Bricks.stops c.args.port c.args.range c.args.self.now.end.sent c.args.self.now.turns before after c.args.self.now.bricks c.args.self.now.bricks)) q.0 q.1 q.2
+    (StopsRange-none g.B.Bricks.takes g.B.Bricks.stops c.args.port c.args.range c.args.self.now.end.sent c.args.self.now.turns before after c.args.self.now.bricks
     c.in_err-standing.field-0.0 c.in_err-standing.ensures.waiting c.in_err-standing.ensures.unsent (link-other _ c.in_err-standing.ensures.only))
 
 pub returns-in_err-standing-clause-bricks : goal.returns-in_err-standing-clause-bricks
@@ -63,8 +61,8 @@ returns-in_err-take_turns-clause-stopped g c =
     let before = told (g.L.Link.waiting c.args.self.now.end.link) (g.L.Link.sent c.args.self.now.end.link) in
     let now = told (g.L.Link.waiting c.loop-standing.self.end.link) (g.L.Link.sent c.loop-standing.self.end.link) in
     at_exit c.from_residual-in_err-take_turns.result c.in_err-take_turns.field-0.0
-    (λ r. IfErr r (StopsRange g.B.Bricks.takes g.B.Bricks.stops c.args.port c.args.range.now c.args.self.now.end.sent c.args.self.now.turns before now c.args.self.now.bricks c.take_turns.new.self)) q.0 q.1 q.2
-    (StopsRange-later g.B.Bricks.takes g.B.Bricks.stops c.args.port c.args.range.now c.args.self.now.end.sent _ _ _ before now now c.args.self.now.bricks
+    (λ r. IfErr r (StopsRange g.B.Bricks.takes g.B.Bricks.stops c.args.port c.args.range c.args.self.now.end.sent c.args.self.now.turns before now c.args.self.now.bricks c.take_turns.new.self)) q.0 q.1 q.2
+    (StopsRange-later g.B.Bricks.takes g.B.Bricks.stops c.args.port c.args.range c.args.self.now.end.sent _ _ _ before now now c.args.self.now.bricks
     c.loop-standing.self.bricks c.take_turns.new.self [] c.in_err-take_turns.field-0.0 c.loop-standing.invariant.runs (omega arith) (Looked-none _ _ (Stays-refl _)) (Stays-refl _)
     (inl c.in_err-take_turns.ensures.takes))
 
@@ -83,8 +81,8 @@ returns-in_err-standing-2-clause-stopped g c =
     let after = told (g.L.Link.waiting c.hear_once.new.self.link) (g.L.Link.sent c.hear_once.new.self.link) in
     let lost = c.in_err-standing-2.ensures.lost in
     at_exit c.from_residual-in_err-standing-2.result c.in_err-standing-2.field-0.0
-    (λ r. IfErr r (StopsRange g.B.Bricks.takes g.B.Bricks.stops c.args.port c.args.range.now c.args.self.now.end.sent c.args.self.now.turns before after c.args.self.now.bricks c.take_turns.new.self)) q.0 q.1 q.2
-    (StopsRange-later g.B.Bricks.takes g.B.Bricks.stops c.args.port c.args.range.now c.args.self.now.end.sent _ _ _ before now after c.args.self.now.bricks
+    (λ r. IfErr r (StopsRange g.B.Bricks.takes g.B.Bricks.stops c.args.port c.args.range c.args.self.now.end.sent c.args.self.now.turns before after c.args.self.now.bricks c.take_turns.new.self)) q.0 q.1 q.2
+    (StopsRange-later g.B.Bricks.takes g.B.Bricks.stops c.args.port c.args.range c.args.self.now.end.sent _ _ _ before now after c.args.self.now.bricks
     c.loop-standing.self.bricks c.take_turns.new.self lost.0 c.in_err-standing-2.field-0.0 c.loop-standing.invariant.runs lost.1 lost.2 c.in_err-standing-2.ensures.unsent
     (inr (link-other _ c.in_err-standing-2.ensures.only, inr c.in_ok-take_turns.ensures.takes)))
 

@@ -14,12 +14,12 @@ returns-clause-answered c w tells up of =
     let one : Answered = c.in-Some.field-0 in
     let call = subst (λ (a : Option Answered). AreAnswered (w.nodes brick.0) (option_to_list a)) c.in-Some.is of in
     tells_one _ w brick c.args.answer one c.in-Some.is
-    (tells_ended c.args.self.now _ w brick one.seq c.number-operation.result one.answer c.is_answer.result c.deref_mut.result.now c.note_answer.new.operations tells
-    (number_is c.args.self.now w brick.0 one.seq c.number-operation.result tells up call.0.0 call.0.1 c.number-operation.ensures)
+    (tells_ended c.args.self.now _ w brick one.seq c.in-Some-number.operation one.answer c.is_answer.result c.deref_mut.result.now c.note_answer.new.operations tells
+    (number_is c.args.self.now w brick.0 one.seq c.in-Some-number.operation tells up call.0.0 call.0.1 c.in-Some-number.ensures)
     c.deref_mut.ensures.value
     (with_items_is c.args.self.now.operations c.note_answer.new.operations (c.note_answer.auto.operations ∙ c.deref_mut.ensures.len))
     c.is_answer.ensures refl
     (c.push_reserved.ensures.items
-    ∙ ap (λ p. c.args.self.now.marks.items ++ End p c.number-operation.result one.answer ∷ [])
+    ∙ ap (λ p. c.args.self.now.marks.items ++ End p c.in-Some-number.operation one.answer ∷ [])
     (c.len-position.ensures ∙ c.args.self.now.marks.ok.0))
     c.note_answer.ensures c.note_answer.auto.operations refl refl)

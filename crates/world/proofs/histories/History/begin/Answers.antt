@@ -8,7 +8,7 @@ use Rattle.world.proofs.HistoryLemmas.{begun_kept, tells_began}
 use Rattle.world.proofs.histories.History.begin.Goals as goal
 
 pub returns : goal.returns
-returns c w step tells up sent boot_is seq_is boot next =
+returns c step sent boot_is seq_is w tells up opens =
     let old = c.args.self.now in
     let place = c.len-position.ensures ∙ old.marks.ok.0 in
     let count = c.len.ensures ∙ old.operations.ok.0 in
@@ -27,4 +27,4 @@ returns c w step tells up sent boot_is seq_is boot next =
     ∙ ap (λ (p : ℕ). kept step.node.boot step.node.seq p) place)
     (λ i. ap (λ (h : History). calls_in h.calls i) c.send.ensures.rest ∙ c.add.ensures i
     ∙ ap (λ (n : ℕ). put (calls_in old.calls) c.args.brick.0 (calls_in old.calls c.args.brick.0 ++ (n + 1) ∷ []) i) count)
-    boot next
+    opens.boot opens.seq

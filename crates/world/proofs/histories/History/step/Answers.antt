@@ -11,17 +11,17 @@ use Rattle.world.proofs.HistoryLemmas.{nodes_told, up_told, tells_stepped}
 use Rattle.world.proofs.histories.History.step.Goals as goal
 
 pub returns : goal.returns
-returns c setting w step tells up sent told answers boot next of_told of_answers =
+returns c setting step sent told answers w tells up opens =
     let brick = c.args.brick in
     let told_is : option_to_list c.into_parts-messages.result.1 ≡ step.told = c.into_parts-messages.ensures.told ∙ told in
     let answers_is : option_to_list c.into_parts-messages.result.2 ≡ step.answers = c.into_parts-messages.ensures.answers ∙ answers in
     let first = subst (λ (l : List Told). Tells c.tell.new.self (world_tells setting w brick l)) told_is
-    (c.tell.ensures.told setting w tells up (subst (λ (l : List Told). AreTold (w.nodes brick.0) l) (sym told_is) of_told)) in
+    (c.tell.ensures.told setting w tells up (subst (λ (l : List Told). AreTold (w.nodes brick.0) l) (sym told_is) opens.told)) in
     let v : World = world_tells setting w brick step.told in
     let of_v = subst (λ (f : ℕ → Node). AreAnswered (f brick.0) (option_to_list c.into_parts-messages.result.2)) (sym (nodes_told setting w brick step.told))
-    (subst (λ (l : List Answered). AreAnswered (w.nodes brick.0) l) (sym answers_is) of_answers) in
+    (subst (λ (l : List Answered). AreAnswered (w.nodes brick.0) l) (sym answers_is) opens.answers) in
     let second = subst (λ (l : List Answered). Tells c.answer.new.self (world_answers v brick l)) answers_is
     (c.answer.ensures.answered v first (ap (λ (f : ℕ → Bool). f brick.0) (up_told setting w brick step.told) ∙ up) of_v) in
     tells_stepped setting c.send.new.self w brick step (packets_from brick c.into_parts-messages.result.0.items)
-    (ap (packets_from brick) c.into_parts-messages.ensures.messages ∙ sent) boot next
+    (ap (packets_from brick) c.into_parts-messages.ensures.messages ∙ sent) opens.boot opens.seq
     (c.send.ensures.sent (world_answers v brick step.answers) second)

@@ -1,31 +1,30 @@
 -- The brick begins, or refuses, as the machine's does.
 use Rattle.std.proofs.Common.{◌≡◌, List, map, refl, sym, ap, ◌∙◌, subst}
-use Rattle.std.specs.Prelude.{Err}
+use Rattle.std.specs.Prelude.{Err, IfSome}
 use Rattle.std.proofs.lemmas.Bool.{and_parts}
 use Rattle.stripe_code.specs.Codes.{coding}
 use Rattle.node.specs.Faults.{RefusesAs}
+use Rattle.node.specs.Running.{state_of}
 use Rattle.node.specs.declared.faults.NodeFault.{NodeFault}
 use Rattle.node.specs.declared.outs.Begun.{Begun}
 use Rattle.protocol.specs.Settings.{Setting}
 use Rattle.protocol.specs.Nodes.{Node, NodeStep, invoked, refusal_of}
 use Rattle.protocol.specs.Worlds.{is_brick}
-use Rattle.world.specs.Shown.{IsUp, ShowsBricks}
+use Rattle.world.specs.Shown.{IsUp, running_at}
 use Rattle.world.specs.declared.bricks.Brick.{Brick}
 use Rattle.world.specs.Texts.{refused_or_begun}
 use Rattle.world.proofs.MachineBegins.{refusal_here, invoked_boot, invoked_next, happens_refused}
 use Rattle.fab_disk.specs.MemDisk.{content_of}
 use Rattle.fab_disk.specs.declared.mem_disk.MemDisk.{MemDisk}
+use Rattle.world.proofs.BrickListLemmas.{boots_as, up_there}
 use Rattle.world.proofs.SimulationLemmas.{on_err_always, shows_begun, shows_still}
 use Rattle.world.proofs.simulations.Simulation.begin.Goals as goal
 
 pub ask_brick-requires : goal.ask_brick-requires
-ask_brick-requires c = (c.args.layout.now, c.requires)
+ask_brick-requires c = c.requires
 
 pub boot_of-boot-requires : goal.boot_of-boot-requires
-boot_of-boot-requires c = (
-  c.args.layout.now,
-  subst (λ (bricks : List Brick). IsUp c.args.layout.now bricks c.args.brick) (sym c.deref.ensures.value) c.requires,
-)
+boot_of-boot-requires c = subst (λ (bricks : List Brick). IsUp bricks c.args.brick) (sym c.deref.ensures.value) c.requires
 
 pub returns-in_err-expect_call-clause-err : goal.returns-in_err-expect_call-clause-err
 returns-in_err-expect_call-clause-err c =
@@ -40,15 +39,18 @@ returns-in-Ok-clause-ok c = record {
       let step : NodeStep = invoked setting c.args.brick (w.clocks c.args.brick.0) node c.args.ask in
       let none = c.in-Ok.ensures.refused c.args.layout.now w shows.bricks in
       let begun = c.in-Ok.ensures.begun c.args.layout.now w shows.bricks in
-      let up = c.requires.up w shows.bricks in
+      let up = up_there c.args.layout.now _ w _ c.requires shows.bricks in
       let boot : step.node.boot ≡ node.boot = invoked_boot setting c.args.brick (w.clocks c.args.brick.0) node c.args.ask in
-      let was : c.boot_of-boot.result ≡ node.boot = c.boot_of-boot.ensures c.args.layout.now w
-      (subst (λ (bricks : List Brick). ShowsBricks c.args.layout.now bricks w.nodes w.after w.up w.clocks) (sym c.deref.ensures.value) shows.bricks) in
+      let was : c.boot_of-boot.result ≡ node.boot =
+      boots_as c.args.layout.now c.args.self.now.bricks.items w c.args.brick c.boot_of-boot.result c.requires
+      (subst (λ (bricks : List Brick). IfSome (running_at bricks c.args.brick.0) (λ one. c.boot_of-boot.result ≡ (state_of one).boot))
+      c.deref.ensures.value c.boot_of-boot.ensures) shows.bricks in
       shows_begun c.args.layout.now _ w c.args.brick c.args.ask up none begun.2
-      (c.begin.ensures w step (c.expect_call.ensures.same w shows.history) (and_parts (is_brick c.args.layout.now c.args.brick) (w.up c.args.brick.0) up).1
-      begun.0 (was ∙ sym boot) begun.1 boot (invoked_next setting c.args.brick (w.clocks c.args.brick.0) node c.args.ask none)));
+      (c.begin.ensures step begun.0 (was ∙ sym boot) begun.1 w (c.expect_call.ensures.same w shows.history)
+      (and_parts (is_brick c.args.layout.now c.args.brick) (w.up c.args.brick.0) up).1
+      (record { boot = boot; seq = invoked_next setting c.args.brick (w.clocks c.args.brick.0) node c.args.ask none })));
   outcome_is = λ w shows.
-      sym (ap refused_or_begun (refusal_here (coding c.args.layout.now) w c.args.brick c.args.ask (c.requires.up w shows.bricks)
+      sym (ap refused_or_begun (refusal_here (coding c.args.layout.now) w c.args.brick c.args.ask (up_there c.args.layout.now _ w _ c.requires shows.bricks)
       ∙ c.in-Ok.ensures.refused c.args.layout.now w shows.bricks));
   disks = c.in-Ok.ensures.disks;
 }
@@ -66,7 +68,7 @@ returns-in-Err-Refused-clause-ok c = record {
       });
   outcome_is = λ w shows.
       rw c.in-Err-Refused.field-0-is
-      (sym (ap refused_or_begun (refusal_here (coding c.args.layout.now) w c.args.brick c.args.ask (c.requires.up w shows.bricks)
+      (sym (ap refused_or_begun (refusal_here (coding c.args.layout.now) w c.args.brick c.args.ask (up_there c.args.layout.now _ w _ c.requires shows.bricks)
       ∙ subst (λ (fault : NodeFault). RefusesAs {T = Begun} (Err fault)
       (refusal_of c.args.layout.now (w.nodes c.args.brick.0) c.args.ask)) c.in-Err-Refused.field-0-is
       (c.in-Err-Refused.ensures.refused c.args.layout.now w shows.bricks))));

@@ -2,12 +2,11 @@
 use Rattle.std.proofs.Common.{◌≡◌, true, None, arith, refl, subst}
 use Rattle.fab_base.specs.declared.identities.BrickId.{BrickId}
 use Rattle.stripe_code.specs.Codes.{coding}
-use Rattle.std.proofs.lemmas.Bool.{and_parts}
-use Rattle.protocol.specs.Worlds.{Stops, is_brick, is_up, happens}
+use Rattle.protocol.specs.Worlds.{Stops, is_up, happens}
 use Rattle.world.specs.Runs.{brick_of}
 use Rattle.world.specs.Shown.{Shows}
 use Rattle.world.specs.declared.simulations.Simulation.{Simulation}
-use Rattle.world.proofs.BrickListLemmas.{down_at, up_at}
+use Rattle.world.proofs.BrickListLemmas.{down_at, up_at, up_there, shows_stopped}
 use Rattle.world.proofs.MachineBegins.{happens_unstopped}
 use Rattle.world.proofs.SimulationLemmas.{on_err_always, shows_crashed, shows_still, done_here, done_nowhere}
 use Rattle.world.proofs.simulations.Simulation.crash.Goals as goal
@@ -20,7 +19,7 @@ returns-in_err-make_room-clause-err c =
 pub stop_brick-requires : goal.stop_brick-requires
 stop_brick-requires c =
     let found =
-    up_at c.args.layout.now _ _ c.args.brick (brick_of c.args.brick) c.in-Some.brick c.deref.ensures.value refl c.in-Some.ensures
+    up_at _ _ c.args.brick (brick_of c.args.brick) c.in-Some.brick c.deref.ensures.value refl c.in-Some.ensures
     in
     let within = found.1.within in
     omega (arith, c.args.self.now.bricks.ok.0)
@@ -40,18 +39,17 @@ pub returns-clause-ok : goal.returns-clause-ok
 returns-clause-ok c = record {
   shows = λ w shows.
       (let found =
-      up_at c.args.layout.now _ _ c.args.brick (brick_of c.args.brick) c.in-Some.brick c.deref.ensures.value refl c.in-Some.ensures
+      up_at _ _ c.args.brick (brick_of c.args.brick) c.in-Some.brick c.deref.ensures.value refl c.in-Some.ensures
       in
       let state : Simulation = record { bricks = c.stop_brick.new.bricks; history = c.crash.new.self } in
       subst (λ (brick : BrickId). Shows c.args.layout.now state (happens (coding c.args.layout.now) w (Stops brick None))) found.0
-      (shows_crashed c.args.layout.now state w c.in-Some.brick (found.1.up w shows.bricks) (c.stop_brick.ensures.shows c.args.layout.now w shows.bricks
-      (and_parts (is_brick c.args.layout.now c.in-Some.brick) (w.up c.in-Some.brick.0) (found.1.up w shows.bricks)).1)
+      (shows_crashed c.args.layout.now state w c.in-Some.brick (up_there c.args.layout.now _ w _ found.1 shows.bricks) (shows_stopped c.args.layout.now _ _ w c.in-Some.brick found.1 c.stop_brick.ensures.stops shows.bricks)
       (c.crash.ensures (coding c.args.layout.now) w (c.make_room.ensures.same w shows.history))));
   outcome_is = λ w shows.
       (let found =
-      up_at c.args.layout.now _ _ c.args.brick (brick_of c.args.brick) c.in-Some.brick c.deref.ensures.value refl c.in-Some.ensures
+      up_at _ _ c.args.brick (brick_of c.args.brick) c.in-Some.brick c.deref.ensures.value refl c.in-Some.ensures
       in
       done_here c.args.layout.now w (brick_of c.args.brick)
-      (subst (λ (brick : BrickId). is_up c.args.layout.now w brick ≡ true) found.0 (found.1.up w shows.bricks)));
+      (subst (λ (brick : BrickId). is_up c.args.layout.now w brick ≡ true) found.0 (up_there c.args.layout.now _ w _ found.1 shows.bricks)));
   disks = c.stop_brick.ensures.disks;
 }

@@ -12,7 +12,7 @@ use Rattle.world.specs.Shown.{HandledAs, HandledWhole, HandledPart, Tells, disks
 use Rattle.world.specs.declared.deliveries.Deliveries.{Deliveries}
 use Rattle.world.specs.declared.histories.History.{History}
 use Rattle.world.specs.declared.simulations.Simulation.{Simulation}
-use Rattle.world.proofs.BrickListLemmas.{down_at, up_at}
+use Rattle.world.proofs.BrickListLemmas.{down_at, up_at, up_there}
 use Rattle.world.proofs.DeliveryLemmas.{unsent_comes, astray_comes, whole_comes, part_comes}
 use Rattle.world.proofs.HistoryLemmas.{tells_same}
 use Rattle.world.proofs.MachineSteps.{received_opens_none}
@@ -79,9 +79,9 @@ returns-in-None-find_up-clause-ok c w reached shows =
 pub hand_over-requires : goal.hand_over-requires
 hand_over-requires c =
     let found =
-    up_at c.args.layout.now _ _ c.from.result c.in-Some.packet.now.to c.in-Some-find_up.to c.deref-2.ensures.value c.from.ensures c.in-Some-find_up.ensures
+    up_at _ _ c.from.result c.in-Some.packet.now.to c.in-Some-find_up.to c.deref-2.ensures.value c.from.ensures c.in-Some-find_up.ensures
     in
-    (c.args.layout.now, found.1)
+    found.1
 
 pub deliver-requires-clause-some : goal.deliver-requires-clause-some
 deliver-requires-clause-some c = some_number _ c.args.message c.in-Some.packet.now c.in-Some.ensures
@@ -95,7 +95,7 @@ returns-in-Some-2-clause-ok c w reached shows =
     let packet : Packet = c.in-Some.packet.now in
     let new : Simulation = record { bricks = c.hand_over.new.bricks; history = c.step.new.self } in
     let found =
-    up_at c.args.layout.now _ _ c.from.result c.in-Some.packet.now.to c.in-Some-find_up.to c.deref-2.ensures.value c.from.ensures c.in-Some-find_up.ensures
+    up_at _ _ c.from.result c.in-Some.packet.now.to c.in-Some-find_up.to c.deref-2.ensures.value c.from.ensures c.in-Some-find_up.ensures
     in
     let v : World = record w { replies = replies_with (coding c.args.layout.now) w packet; reached = put w.reached c.args.message true } in
     let step : NodeStep = received (coding c.args.layout.now) to (w.clocks to.0) (w.nodes to.0) packet in
@@ -106,7 +106,7 @@ returns-in-Some-2-clause-ok c w reached shows =
     let opens = received_opens_none (coding c.args.layout.now) to (w.clocks to.0) (w.nodes to.0) packet
     (λ k call open_at. reached_numbered c.args.layout.now w reached to.0 k call open_at) in
     let told = c.make_room.ensures.same w shows.history in
-    let up = found.1.up w shows.bricks in
+    let up = up_there c.args.layout.now _ w _ found.1 shows.bricks in
     whole_comes c.args.layout.now w c.args.self.now new c.args.message c.args.fault packet
     (the_packet _ _ _ c.args.message _ c.deref.ensures.value told.packets c.in-Some.ensures)
     (subst (λ (b : BrickId). is_up c.args.layout.now w b ≡ true) found.0 up)
@@ -115,11 +115,10 @@ returns-in-Some-2-clause-ok c w reached shows =
     (subst (λ (b : BrickId). HandledWhole c.args.layout.now w b packet c.args.fault c.args.self.now.bricks.items c.hand_over.new.bricks.items c.in-Some-2.outs) found.0 did)
     (subst (λ (b : BrickId). Tells c.step.new.self (world_stepped (coding c.args.layout.now) v b
     (received (coding c.args.layout.now) b (w.clocks b.0) (w.nodes b.0) packet))) found.0
-    (c.step.ensures (coding c.args.layout.now) v step
+    (c.step.ensures (coding c.args.layout.now) step did.packets did.told did.answers v
     (tells_replies c.args.layout.now _ w c.args.message packet
     (c.deliver.ensures.delivered w (still c.args.self.now.history c.make_room.new.self w c.make_room.ensures.same _ c.expect.ensures.same shows.history)))
-    (and_parts (is_brick c.args.layout.now to) (w.up to.0) up).1
-    did.packets did.told did.answers opens.boot opens.seq opens.told opens.answers))
+    (and_parts (is_brick c.args.layout.now to) (w.up to.0) up).1 opens))
 
 pub returns-in-None-2-clause-ok : goal.returns-in-None-2-clause-ok
 returns-in-None-2-clause-ok c w reached shows =
@@ -127,7 +126,7 @@ returns-in-None-2-clause-ok c w reached shows =
     let packet : Packet = c.in-Some.packet.now in
     let new : Simulation = record { bricks = c.hand_over.new.bricks; history = c.crash.new.self } in
     let found =
-    up_at c.args.layout.now _ _ c.from.result c.in-Some.packet.now.to c.in-Some-find_up.to c.deref-2.ensures.value c.from.ensures c.in-Some-find_up.ensures
+    up_at _ _ c.from.result c.in-Some.packet.now.to c.in-Some-find_up.to c.deref-2.ensures.value c.from.ensures c.in-Some-find_up.ensures
     in
     let did : HandledPart c.args.layout.now w to packet c.args.fault c.args.self.now.bricks.items c.hand_over.new.bricks.items =
     subst (λ (outs : Option Sent). HandledAs c.args.layout.now w to packet c.args.fault c.args.self.now.bricks.items c.hand_over.new.bricks.items (Ok outs))
@@ -136,7 +135,7 @@ returns-in-None-2-clause-ok c w reached shows =
     let told = c.make_room.ensures.same w shows.history in
     part_comes c.args.layout.now w c.args.self.now new c.args.message c.args.fault packet
     (the_packet _ _ _ c.args.message _ c.deref.ensures.value told.packets c.in-Some.ensures)
-    (subst (λ (b : BrickId). is_up c.args.layout.now w b ≡ true) found.0 (found.1.up w shows.bricks))
+    (subst (λ (b : BrickId). is_up c.args.layout.now w b ≡ true) found.0 (up_there c.args.layout.now _ w _ found.1 shows.bricks))
     (subst (λ (b : BrickId). KeepsOthers (Some b) (disks_of c.args.self.now.bricks.items) (disks_of c.hand_over.new.bricks.items)) found.0 c.hand_over.ensures.others)
     (subst (λ (b : BrickId). HandledPart c.args.layout.now w b packet c.args.fault c.args.self.now.bricks.items c.hand_over.new.bricks.items) found.0 did)
     (subst (λ (b : BrickId). Tells c.crash.new.self (world_stopped (coding c.args.layout.now)

@@ -9,7 +9,7 @@ use Rattle.world.specs.Runs.{brick_of, ask_of, op_of}
 use Rattle.world.specs.Shown.{TakesEvent}
 use Rattle.world.specs.Texts.{refused_or_begun}
 use Rattle.world.proofs.MachineBegins.{refusal_down, refusal_here, happens_down, happens_refused}
-use Rattle.world.proofs.BrickListLemmas.{down_at, up_at}
+use Rattle.world.proofs.BrickListLemmas.{down_at, up_at, up_there}
 use Rattle.world.proofs.SimulationLemmas.{ask_is, shows_still}
 use Rattle.world.proofs.simulations.Simulation.invoke.Goals as goal
 
@@ -29,9 +29,9 @@ returns-in-None-place_of-clause-ok c = record {
       shows_still c.args.layout.now c.args.self.now w _ (happens_refused (coding c.args.layout.now) w _ _ _ (c.in-None-place_of.ensures.none _ _)) shows;
   outcome_is = λ w shows.
       (let found =
-      up_at c.args.layout.now _ _ c.args.brick (brick_of c.args.brick) c.in-Some.brick c.deref.ensures.value refl c.in-Some.ensures
+      up_at _ _ c.args.brick (brick_of c.args.brick) c.in-Some.brick c.deref.ensures.value refl c.in-Some.ensures
       in
-      let up = subst (λ (brick : BrickId). is_up c.args.layout.now w brick ≡ true) found.0 (found.1.up w shows.bricks) in
+      let up = subst (λ (brick : BrickId). is_up c.args.layout.now w brick ≡ true) found.0 (up_there c.args.layout.now _ w _ found.1 shows.bricks) in
       sym (ap refused_or_begun (refusal_here (coding c.args.layout.now) w (brick_of c.args.brick) (ask_of c.args.group c.args.stripe (op_of c.args.access.now)) up
       ∙ c.in-None-place_of.ensures.none (w.nodes c.args.brick) (op_of c.args.access.now))));
   disks = refl;
@@ -40,14 +40,14 @@ returns-in-None-place_of-clause-ok c = record {
 pub begin-requires : goal.begin-requires
 begin-requires c =
     let found =
-    up_at c.args.layout.now _ _ c.args.brick (brick_of c.args.brick) c.in-Some.brick c.deref.ensures.value refl c.in-Some.ensures
+    up_at _ _ c.args.brick (brick_of c.args.brick) c.in-Some.brick c.deref.ensures.value refl c.in-Some.ensures
     in
     found.1
 
 pub returns-clause-ok : goal.returns-clause-ok
 returns-clause-ok c =
     let found =
-    up_at c.args.layout.now _ _ c.args.brick (brick_of c.args.brick) c.in-Some.brick c.deref.ensures.value refl c.in-Some.ensures
+    up_at _ _ c.args.brick (brick_of c.args.brick) c.in-Some.brick c.deref.ensures.value refl c.in-Some.ensures
     in
     let ask : Ask = record { group = c.in-Some-place_of.place.0; stripe = c.in-Some-place_of.place.1; op = c.in_ok-op.op } in
     subst (λ (x : Ask). IfOk c.begin.result (TakesEvent c.args.layout.now c.args.self.now c.begin.new.self (Invokes (brick_of c.args.brick) x)))

@@ -7,6 +7,7 @@ use Rattle.world.specs.Deliveries.{FindsLeft}
 use Rattle.world.specs.Shown.{disks_of}
 use Rattle.world.proofs.BrickListLemmas.{nodes_of}
 use Rattle.world.proofs.CalmLoops.{none_yet, has_ended, has_stuck, goes_on, has_begun, stands_on}
+use Rattle.world.proofs.OpenRecords.{opens_as}
 use Rattle.world.proofs.SimulationLemmas.{on_err_always}
 use Rattle.world.proofs.simulations.Simulation.run_alone.Goals as goal
 
@@ -20,7 +21,7 @@ pub returns-in_default-next_left-clause-run : goal.returns-in_default-next_left-
 returns-in_default-next_left-clause-run c w reached shows calm =
     let so = c.loop-record.invariant.1 w reached shows calm in
     has_stuck c.args.layout.now w c.args.operation c.args.bricks.now (disks_of c.args.self.now.bricks.items) c.loop-record.self c.loop-record.from
-    c.loop-record.some calm so c.in-Some.record (c.in-Some.ensures c.args.layout.now so.last so.reached so.shows)
+    c.loop-record.some calm so c.in-Some.record (opens_as c.args.layout.now so.last c.loop-record.self c.args.operation _ c.in-Some.ensures so.reached so.shows)
     (subst (λ (sent : List Packet). FindsLeft c.loop-record.self.history.delivered.reached.items c.in-Some.record c.args.bricks.now c.loop-record.from sent None)
     so.shows.history.packets c.in_default-next_left.ensures)
 
@@ -57,7 +58,7 @@ loop-record-preserved c = (
   λ w reached shows calm.
       (let so = c.loop-record.invariant.1 w reached shows calm in
       goes_on c.args.layout.now w c.args.operation c.args.bricks.now (disks_of c.args.self.now.bricks.items) c.loop-record.self c.loop-record.from
-      c.loop-record.some calm so c.in-Some.record (c.in-Some.ensures c.args.layout.now so.last so.reached so.shows)
+      c.loop-record.some calm so c.in-Some.record (opens_as c.args.layout.now so.last c.loop-record.self c.args.operation _ c.in-Some.ensures so.reached so.shows)
       c.in-Some-next_left.place
       c.deliver.new.self c.in_ok-deliver.field-0
       (subst (λ (sent : List Packet). FindsLeft c.loop-record.self.history.delivered.reached.items c.in-Some.record c.args.bricks.now c.loop-record.from sent
@@ -69,4 +70,4 @@ pub returns-clause-run : goal.returns-clause-run
 returns-clause-run c w reached shows calm =
     let so = c.loop-record.invariant.1 w reached shows calm in
     has_ended c.args.layout.now w c.args.operation c.args.bricks.now (disks_of c.args.self.now.bricks.items) c.loop-record.self c.loop-record.from
-    c.loop-record.some calm so (c.in_default.ensures c.args.layout.now so.last so.reached so.shows)
+    c.loop-record.some calm so (opens_as c.args.layout.now so.last c.loop-record.self c.args.operation _ c.in_default.ensures so.reached so.shows)

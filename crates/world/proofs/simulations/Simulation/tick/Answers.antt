@@ -1,14 +1,18 @@
 -- A brick that is up sends what the machine's does.
 use Rattle.std.proofs.Common.{◌≡◌, true, List, ◌++◌, refl, sym, subst}
+use Rattle.std.specs.Prelude.{IfSome}
+use Rattle.coord_phase.specs.Messages.{packets_from}
 use Rattle.fab_base.specs.declared.identities.BrickId.{BrickId}
 use Rattle.messages.specs.declared.packets.Packet.{Packet}
+use Rattle.node.specs.Running.{state_of}
 use Rattle.stripe_code.specs.Codes.{coding}
+use Rattle.protocol.specs.Nodes.{ticked}
 use Rattle.protocol.specs.Worlds.{Ticks, is_up, happens}
 use Rattle.world.specs.Runs.{brick_of}
-use Rattle.world.specs.Shown.{IsUp, Shows, ShowsBricks, Tells}
+use Rattle.world.specs.Shown.{IsUp, Shows, Tells, running_at}
 use Rattle.world.specs.declared.bricks.Brick.{Brick}
 use Rattle.world.specs.declared.simulations.Simulation.{Simulation}
-use Rattle.world.proofs.BrickListLemmas.{down_at, up_at}
+use Rattle.world.proofs.BrickListLemmas.{down_at, up_at, up_there, ticks_as}
 use Rattle.world.proofs.MachineBegins.{happens_unticked}
 use Rattle.world.proofs.SimulationLemmas.{on_err_always, shows_ticked, shows_still, done_here, done_nowhere}
 use Rattle.world.proofs.simulations.Simulation.tick.Goals as goal
@@ -16,9 +20,9 @@ use Rattle.world.proofs.simulations.Simulation.tick.Goals as goal
 pub tick_brick-requires : goal.tick_brick-requires
 tick_brick-requires c =
     let found =
-    up_at c.args.layout.now _ _ c.args.brick (brick_of c.args.brick) c.in-Some.brick c.deref.ensures.value refl c.in-Some.ensures
+    up_at _ _ c.args.brick (brick_of c.args.brick) c.in-Some.brick c.deref.ensures.value refl c.in-Some.ensures
     in
-    (c.args.layout.now, subst (λ (bricks : List Brick). IsUp c.args.layout.now bricks c.in-Some.brick) (sym c.deref-2.ensures.value) found.1)
+    subst (λ (bricks : List Brick). IsUp bricks c.in-Some.brick) (sym c.deref-2.ensures.value) found.1
 
 pub returns-in_err-send_more-clause-err : goal.returns-in_err-send_more-clause-err
 returns-in_err-send_more-clause-err c =
@@ -40,20 +44,22 @@ pub returns-clause-ok : goal.returns-clause-ok
 returns-clause-ok c = record {
   shows = λ w shows.
       (let found =
-      up_at c.args.layout.now _ _ c.args.brick (brick_of c.args.brick) c.in-Some.brick c.deref.ensures.value refl c.in-Some.ensures
+      up_at _ _ c.args.brick (brick_of c.args.brick) c.in-Some.brick c.deref.ensures.value refl c.in-Some.ensures
       in
       let state : Simulation = record { bricks = c.args.self.now.bricks; history = c.send_more.new.self } in
       subst (λ (brick : BrickId). Shows c.args.layout.now state (happens (coding c.args.layout.now) w (Ticks brick))) found.0
-      (shows_ticked c.args.layout.now state w c.in-Some.brick (found.1.up w shows.bricks) shows.bricks
+      (shows_ticked c.args.layout.now state w c.in-Some.brick (up_there c.args.layout.now _ w _ found.1 shows.bricks) shows.bricks
       (subst (λ (sent : List Packet). Tells c.send_more.new.self (record w { packets = w.packets ++ sent }))
-      (c.in_ok-messages.ensures c.args.layout.now w
-      (subst (λ (bricks : List Brick). ShowsBricks c.args.layout.now bricks w.nodes w.after w.up w.clocks) (sym c.deref-2.ensures.value) shows.bricks))
+      (ticks_as c.args.layout.now c.args.self.now.bricks.items w c.in-Some.brick c.in_ok-messages.messages.items found.1
+      (subst (λ (bricks : List Brick). IfSome (running_at bricks c.in-Some.brick.0) (λ node.
+      packets_from node.me c.in_ok-messages.messages.items ≡ ticked (coding node.layout) node.me (state_of node))) c.deref-2.ensures.value c.in_ok-messages.ensures)
+      shows.bricks)
       (c.in_ok-send_more.ensures.sent w shows.history))));
   outcome_is = λ w shows.
       (let found =
-      up_at c.args.layout.now _ _ c.args.brick (brick_of c.args.brick) c.in-Some.brick c.deref.ensures.value refl c.in-Some.ensures
+      up_at _ _ c.args.brick (brick_of c.args.brick) c.in-Some.brick c.deref.ensures.value refl c.in-Some.ensures
       in
       done_here c.args.layout.now w (brick_of c.args.brick)
-      (subst (λ (brick : BrickId). is_up c.args.layout.now w brick ≡ true) found.0 (found.1.up w shows.bricks)));
+      (subst (λ (brick : BrickId). is_up c.args.layout.now w brick ≡ true) found.0 (up_there c.args.layout.now _ w _ found.1 shows.bricks)));
   disks = refl;
 }

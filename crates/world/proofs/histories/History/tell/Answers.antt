@@ -1,1 +1,0 @@
--- What is told of a call is noted of its operation.

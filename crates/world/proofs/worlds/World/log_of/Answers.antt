@@ -1,1 +1,0 @@
--- The brick's part is the machine's.
