@@ -1,7 +1,7 @@
 -- Every event keeps the books.
 use Rattle.std.specs.Option.{option_map}
 use Rattle.protocol.specs.Views.{kept_by, view_told}
-use Rattle.std.proofs.Common.{◌≡◌, ◌≢◌, ℕ, ◌+◌, ◌-◌, ◌<◌, ◌≤◌, ◌⊎◌, inl, inr, ◌^◌, ◌∷◌, Bool, true, false, not, ◌&&◌, cond, is_some, Option, Some, None, refl, sym, ap, ◌∙◌, subst, arith, List, [], ◌++◌, ⊎_elim}
+use Rattle.std.proofs.Common.{◌≡◌, ◌≢◌, ℕ, ◌+◌, ◌-◌, ◌<◌, ◌≤◌, ◌⊎◌, inl, inr, ◌^◌, Bool, true, false, not, ◌&&◌, cond, is_some, Option, Some, None, refl, sym, ap, ◌∙◌, subst, arith, List, [], ◌++◌, ⊎_elim}
 use Rattle.std.specs.Prelude.{nat_lt, max}
 use Rattle.std.proofs.lemmas.Option.{same_Some}
 use Rattle.std.proofs.lemmas.Bool.{cond_both, and_parts, not-true, not-false, ltb-true, both_ways}
@@ -20,17 +20,14 @@ use Rattle.fab_base.specs.Layouts.{Layout, Group, group_of}
 use Rattle.fab_base.specs.declared.identities.GroupId.{GroupId}
 use Rattle.fab_base.specs.declared.member_lists.View.{View}
 use Rattle.protocol.specs.Ballots.{Voted}
-use Rattle.protocol.specs.Proposals.{Proposal, Voting, Ignored, Waited, Asks, Ended, ballot_packets, voted}
-use Rattle.protocol.specs.declared.tellings.ViewAnswer.TheVariants as answers
 use Rattle.protocol.specs.declared.tellings.Report.{Report}
-use Rattle.quorum.specs.Memberships.{is_membership}
 use Rattle.protocol.specs.Settings.{Setting}
 use Rattle.protocol.specs.Replicas.{handle}
 use Rattle.protocol.specs.declared.phases.Phase.{Phase}
 use Rattle.protocol.specs.declared.phases.Phase.TheVariants.{Looks, LooksAt, Orders, OrdersAt, Recovers, Descends, Modifies, Bases, Stores}
 use Rattle.protocol.specs.declared.phases.Counted.{Counted}
 use Rattle.protocol.specs.Coordinators.{Coordinator, Next, Ignores, Waits, Sends, Makes, Ends, most_rounds, with_reply, once_full, counted_at, counts_at, on_reply}
-use Rattle.protocol.specs.Nodes.{Node, NodeStep, put, no_step, has_block, has_length, refusal_in, refusal_of, began, invoked, with_replica, replica_at, full_at, reply_packets, requested, ticked, may_open, has_later_time, next_time, new_stamp, fresh_stamp, known_after, with_call, with_known, carried_out, phase_packets, collect_packets, sending, replied_at, heard, received, group_at, vote_at, with_round, with_proposal, replied_ballot, carried_ballot, ended_packets, new_proposal, proposing, reporting, proposed_in, proposed, node_taught_by, node_learnt, view_counted, lists_fit}
+use Rattle.protocol.specs.Nodes.{Node, NodeStep, put, no_step, has_block, has_length, refusal_in, refusal_of, began, invoked, with_replica, replica_at, full_at, reply_packets, requested, ticked, may_open, has_later_time, next_time, new_stamp, fresh_stamp, known_after, with_call, with_known, carried_out, phase_packets, collect_packets, sending, replied_at, heard, received, group_at, vote_at, with_round, proposed, node_taught_by, node_learnt, view_counted, lists_fit}
 use Rattle.protocol.specs.Worlds.{World, world_found, Operation, Found, Before, After, Found, Before, After, Event, is_answer, first_world, is_brick, is_up, may_begin, number_of, may_start, world_found, world_began, world_stepped, with_made, with_seen, with_answer, with_content, replies_with, voiced, run, with_held, choices_after, Choices}
 use Rattle.protocol_laws.specs.Laws.{WasSent}
 use Rattle.protocol.proofs.Served.{request_each}
@@ -39,6 +36,7 @@ use Rattle.protocol_laws.proofs.Books.{Replies, version_after, Books, CallBooks,
 use Rattle.protocol_laws.proofs.MarkNumbers.{own_number, own_seen}
 use Rattle.protocol_laws.proofs.BooksKept.{KeepsNumbers, KeepsCalls, keeps_all, keeps_itself, keeps_known, keeps_with_call}
 use Rattle.protocol_laws.proofs.Votes.{with_vote}
+use Rattle.protocol_laws.proofs.Proposing.{ballot_each, proposed_each}
 use Rattle.protocol_laws.proofs.Teaching.{told_each, learnt_each}
 use Rattle.protocol_laws.proofs.Hearing.{kept_world, taught_by, hearing_each}
 use Rattle.protocol_laws.proofs.BooksQuiet.{books_quiet, books_started}
@@ -110,34 +108,14 @@ module _ (setting : Setting) (w : World) where
       books_nothing replies me (with_vote (w.nodes me.0) call vote) (reply_packets me from call (Some vote.reply)) books
       (record { boot = refl; seq = omega arith; known = omega arith }) (λ l. refl))
 
-  -- a proposal goes on, or ends
-  books_ballot : (replies : Replies) (me : BrickId) (node : Node) (p : Proposal) (next : Voting) → Books setting w → KeepsCalls (w.nodes me.0) node
-      → Books setting (stepped replies me (carried_ballot setting.layout me node p next))
-  books_ballot replies me node p Ignored books keeps = books_silent replies me node [] [] books keeps
-  books_ballot replies me node p (Waited q) books keeps =
-      books_silent replies me (with_proposal node (Some q)) [] [] books (record { boot = keeps.0.boot; seq = keeps.0.seq; known = keeps.0.known }, keeps.1)
-  books_ballot replies me node p (Asks q) books keeps =
-      books_silent replies me (with_proposal node (Some q)) (ballot_packets me q) [] books
-      (record { boot = keeps.0.boot; seq = keeps.0.seq; known = keeps.0.known }, keeps.1)
-  books_ballot replies me node p (Ended ended answer) books keeps =
-      books_silent replies me (with_proposal node None) (ended_packets setting.layout me p answer) (Report.View p.call.group (Some ended) answer ∷ []) books
-      (record { boot = keeps.0.boot; seq = keeps.0.seq; known = keeps.0.known }, keeps.1)
-
-  -- and begins
+  -- a brick begins a proposal
   books_proposed : (me : BrickId) (group : GroupId) (members : List BrickId) → Books setting w
       → Books setting (stepped w.replies me (proposed setting me (w.nodes me.0) group members))
-  unfolding proposed
-  books_proposed me group members books = in_group (group_of setting.layout group.0)
-    where
-      in_group : (z : Option Group) → Books setting (stepped w.replies me (proposed_in setting me (w.nodes me.0) group members z))
-      in_group None = books_no_step w.replies me books
-      in_group (Some kept) =
-          let p : Proposal = new_proposal me (w.nodes me.0) kept.m group members in
-          cond_both (is_membership kept.m setting.layout.bricks members) (sending (proposing (w.nodes me.0) p) (ballot_packets me p))
-          (reporting (w.nodes me.0) [] (Report.View group None answers.BadMembers)) (λ (step : NodeStep). Books setting (stepped w.replies me step))
-          (λ may. books_nothing w.replies me (proposing (w.nodes me.0) p) (ballot_packets me p) books
-          (record { boot = refl; seq = omega arith; known = omega arith }) (λ l. refl))
-          (λ isnt. books_silent w.replies me (w.nodes me.0) [] (Report.View group None answers.BadMembers ∷ []) books (keeps_itself (w.nodes me.0)))
+  books_proposed me group members books =
+      proposed_each (λ (step : NodeStep). Books setting (stepped w.replies me step)) setting me (w.nodes me.0) group members
+      (λ seq round proposal packets reports more are.
+      books_silent w.replies me (record (w.nodes me.0) { seq = seq; round = round; proposal = proposal }) packets reports books
+      (record { boot = refl; seq = more; known = omega arith }, λ l. refl))
 
 -- what an operation made is of its stamp and on its base, whatever else its coordinator holds
 made_same : (c d : Coordinator) (o : Operation) (p q : Phase) → d.stamp ≡ c.stamp → d.base ≡ c.base → q ≡ p → MadeInPhase c o p → MadeInPhase d o q
@@ -558,17 +536,12 @@ module _ (setting : Setting) (w : World) where
       (found : Option Coordinator) → Books setting w → (w.nodes me.0).calls call.seq ≡ found
       → Books setting (stepped setting w replies me (replied_at setting me now from (w.nodes me.0) call reply found))
   unfolding on_reply
-  books_replied_at replies me now from call reply None books is = in_proposal (w.nodes me.0).proposal
-    where
-      heard_keeps : KeepsCalls (w.nodes me.0) (with_known (w.nodes me.0) (known_after (w.nodes me.0).known reply))
-      heard_keeps = (keeps_known (w.nodes me.0) (known_after (w.nodes me.0).known reply) (known_grows (w.nodes me.0).known reply), λ l. refl)
-
-      in_proposal : (z : Option Proposal) → Books setting (stepped setting w replies me
-          (replied_ballot setting.layout me from (with_known (w.nodes me.0) (known_after (w.nodes me.0).known reply)) call reply z))
-      in_proposal None = books_known setting w replies me (known_after (w.nodes me.0).known reply) books (known_grows (w.nodes me.0).known reply)
-      in_proposal (Some p) =
-          books_ballot setting w replies me (with_known (w.nodes me.0) (known_after (w.nodes me.0).known reply)) p
-          (voted setting.layout.bricks p from call reply) books heard_keeps
+  books_replied_at replies me now from call reply None books is =
+      let known : ℕ = known_after (w.nodes me.0).known reply in
+      ballot_each (λ (step : NodeStep). Books setting (stepped setting w replies me step)) setting.layout me from (with_known (w.nodes me.0) known) call reply
+      (w.nodes me.0).proposal (λ seq round proposal packets reports more are.
+      books_silent setting w replies me (record (w.nodes me.0) { known = known; seq = seq; round = round; proposal = proposal }) packets reports books
+      (record { boot = refl; seq = more; known = known_grows (w.nodes me.0).known reply }, λ l. refl))
   books_replied_at replies me now from call reply (Some c) books is =
       let seq : c.call.seq ≡ call.seq = (books.calls me.0 call.seq c is).call_seq in
       books_counted_at replies me now from reply c (counts_at setting.layout.block c from.0 call reply) books

@@ -8,16 +8,17 @@ use Rattle.messages.specs.declared.packets.Message.{Message}
 use Rattle.messages.specs.declared.packets.Packet.{Packet}
 use Rattle.messages.specs.declared.requests.Request.{Request}
 use Rattle.messages.specs.declared.replies.Reply.{Reply}
-use Rattle.fab_base.specs.Layouts.{Layout, Group, group_of}
+use Rattle.fab_base.specs.Layouts.{Layout, Group}
 use Rattle.protocol.specs.Settings.{Setting}
 use Rattle.protocol.specs.Replicas.{Replica, first_replica, fresh_replica, handle, is_held}
-use Rattle.protocol.specs.Nodes.{Node, put, began, invoked, replica_at, full_at, requested, stopped, restarted, known_after, group_at, replied_at, heard, received, view_at, top_at, NodeStep, with_known, with_round, with_learnt, node_taught_by, node_learnt, view_counted, lists_fit, vote_at, reporting, proposed_in, proposed}
+use Rattle.protocol.specs.Nodes.{Node, put, began, invoked, replica_at, full_at, requested, stopped, restarted, known_after, group_at, replied_at, heard, received, view_at, top_at, NodeStep, with_known, with_round, with_learnt, node_taught_by, node_learnt, view_counted, lists_fit, vote_at, proposed}
 use Rattle.protocol.specs.Worlds.{World, Found, Before, After, Event, world_ticked, world_stopped, world_found, world_started, world_stepped, happens, first_world, run}
 use Rattle.protocol_laws.specs.Laws.{WasSent}
 use Rattle.protocol_laws.proofs.Reactions.{handle_after}
 use Rattle.protocol_laws.proofs.Requests.{parts_keep}
 use Rattle.protocol.proofs.Served.{request_each}
 use Rattle.protocol_laws.proofs.Votes.{with_vote, vote_accepts}
+use Rattle.protocol_laws.proofs.Proposing.{proposed_each}
 use Rattle.protocol_laws.proofs.Teaching.{newly_learnt, told_each, learnt_each, dropped_each, heard_each, replied_rests}
 use Rattle.protocol.proofs.Tables.{put_each, put_same}
 use Rattle.protocol.proofs.Puts.{put_other}
@@ -28,9 +29,6 @@ use Rattle.protocol_laws.proofs.Steps.{KeepsParts, keeps_same, keeps_places, par
 use Rattle.protocol.proofs.Events.{EventCases, step_on, world_handled, happens_each, onward}
 use Rattle.protocol_laws.proofs.Tops.{KeepsPlaces, top_by, top_learns, top_accepts, kept_now}
 use Rattle.protocol.specs.Views.{Learnt, first_kept, is_later, view_told}
-use Rattle.protocol.specs.declared.tellings.ViewAnswer.TheVariants as answers
-use Rattle.protocol.specs.declared.tellings.Report.TheVariants as Report
-use Rattle.quorum.specs.Memberships.{is_membership}
 use Rattle.fab_base.specs.declared.identities.GroupId.{GroupId}
 use Rattle.fab_base.specs.declared.member_lists.View.{View}
 use Rattle.fab_base.specs.declared.stamps.Ballot.{Ballot}
@@ -227,14 +225,9 @@ module _ (setting : Setting) where
       in_group (Some group) = (refl, refl, refl)
 
   proposed_places : (me : BrickId) (node : Node) (group : GroupId) (members : List BrickId) → KeepsPlaces node (proposed setting me node group members).node
-  unfolding proposed
-  proposed_places me node group members = in_group (group_of setting.layout group.0)
-    where
-      in_group : (z : Option Group) → KeepsPlaces node (proposed_in setting me node group members z).node
-      in_group None = (refl, refl, refl)
-      in_group (Some kept) =
-          cond_both (is_membership kept.m setting.layout.bricks members) _ (reporting node [] (Report.View group None answers.BadMembers))
-          (λ (step : NodeStep). KeepsPlaces node step.node) (λ may. (refl, refl, refl)) (λ isnt. (refl, refl, refl))
+  proposed_places me node group members =
+      proposed_each (λ (step : NodeStep). KeepsPlaces node step.node) setting me node group members
+      (λ seq round proposal packets reports more are. (refl, refl, refl))
 
   -- every event leaves the parts as they may become
   stay_cases : (w : World) → Leaves setting w → StampViews setting.layout w → LogsFit w → EventCases setting w (PartsStay w)

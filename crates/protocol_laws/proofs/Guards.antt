@@ -8,7 +8,7 @@ use Rattle.fab_base.specs.declared.asks.Op.{Op}
 use Rattle.fab_base.specs.declared.asks.Op.TheVariants.{ReadBlock, WriteBlock, ReadStripe, WriteStripe}
 use Rattle.fab_base.specs.declared.stamps.Stamp.{Stamp}
 use Rattle.fab_base.specs.Stamps.{stamp_below}
-use Rattle.fab_base.specs.Layouts.{Group, group_of, brick_at}
+use Rattle.fab_base.specs.Layouts.{Group, brick_at}
 use Rattle.quorum.proofs.Counts.{count_monotone}
 use Rattle.messages.specs.declared.calls.Call.{Call}
 use Rattle.messages.specs.declared.packets.Message.{Message}
@@ -19,11 +19,7 @@ use Rattle.protocol.specs.Settings.{Setting, Code, IsSound}
 use Rattle.protocol.specs.Views.{Views, view_told}
 use Rattle.protocol.specs.declared.phases.Counted.{Counted}
 use Rattle.protocol.specs.declared.phases.Mover.{Mover}
-use Rattle.protocol.specs.Proposals.{Proposal, Voting, Ignored, Waited, Asks, Ended, ballot_request, ballot_packets, voted}
-use Rattle.protocol.specs.declared.tellings.ViewAnswer.{ViewAnswer}
-use Rattle.protocol.specs.declared.tellings.ViewAnswer.TheVariants as answers
-use Rattle.protocol.specs.declared.tellings.Report.TheVariants as Report
-use Rattle.quorum.specs.Memberships.{is_membership}
+use Rattle.protocol.specs.Proposals.{Proposal}
 use Rattle.quorum.specs.Quorums.{quorum_of}
 use Rattle.fab_base.specs.declared.identities.GroupId.{GroupId}
 use Rattle.fab_base.specs.declared.identities.ViewNo.{ViewNo}
@@ -31,13 +27,14 @@ use Rattle.fab_base.specs.declared.member_lists.View.{View}
 use Rattle.messages.specs.declared.replies.Lineage.{Lineage}
 use Rattle.std.proofs.lemmas.Bool.{cond_both}
 use Rattle.protocol_laws.proofs.Counting.{mover_one}
+use Rattle.protocol_laws.proofs.Proposing.{AreOfViews, of_views_each, resent_of_views, ballot_each, proposed_each}
 use Rattle.protocol_laws.proofs.Teaching.{heard_each, replied_rests}
 use Rattle.protocol.specs.Replicas.{handle}
 use Rattle.protocol.specs.Coordinators.{mover_of, lower_mover, lowest_mover, aborted_moved, decided, Coordinator, Next, Ignores, Waits, Sends, Makes, Ends, with_reply, once_full, counted_at, counts_at, on_reply, request_of}
-use Rattle.protocol.specs.Nodes.{Node, NodeStep, put, top_at, first_phase, phase_packets, new_coordinator, began, invoked, replica_at, full_at, known_after, fresh_stamp, carried_out, group_at, replied_at, heard, received, ticked, with_round, with_known, node_taught, node_taught_by, view_counted, counts_here, vote_at, replied_ballot, carried_ballot, ended_packets, decided_view, new_proposal, proposing, reporting, sending, proposed_in, proposed, ballot_resent}
+use Rattle.protocol.specs.Nodes.{Node, NodeStep, put, top_at, first_phase, phase_packets, new_coordinator, began, invoked, replica_at, full_at, known_after, fresh_stamp, carried_out, group_at, replied_at, heard, received, ticked, with_round, with_known, node_taught, node_taught_by, view_counted, counts_here, vote_at, replied_ballot, proposed, ballot_resent}
 use Rattle.protocol.specs.Worlds.{World, Event, first_world, world_began, world_stopped, happens, run, world_ticked, world_stepped, world_started, world_found, After}
 use Rattle.protocol.proofs.Events.{EventCases, step_on, world_handled, happens_each, started_each, run-append}
-use Rattle.protocol.proofs.Packets.{OfEach, each_none, each_both, each_member, each_collect, each_reply, each_ticked, each_learn, each_ballot, each_ballot_resent}
+use Rattle.protocol.proofs.Packets.{OfEach, each_none, each_both, each_member, each_collect, each_reply, each_ticked}
 use Rattle.protocol.proofs.Served.{request_each}
 use Rattle.protocol.proofs.Tables.{put_each}
 use Rattle.protocol_laws.specs.Laws.{top_in, stamp_stored, IsGuarded, RunFollows, WritesWereGuarded}
@@ -134,14 +131,11 @@ moved_ends block code fresh c from view lineage (Some seat) =
     cond_both (nat_lt (length d.counted) (quorum_of d.group)) (Waits d) (decided block code fresh d) BeginsNone (λ few. tt)
     (λ full. subst BeginsNone (sym (decided_moved block code fresh d lowest.0 lowest.1)) tt)
 
--- what a proposal asks for stores nothing
-ballot_none : (w next : World) (from to : BrickId) (p : Proposal) → StoresOpen w next (record { from = from; to = to; message = Message.Request p.call (ballot_request p) })
-ballot_none w next from to p = of p.asks
-  where
-    of : (asks : Option (List BrickId))
-        → StoresOpen w next (record { from = from; to = to; message = Message.Request p.call (ballot_request (record p { asks = asks })) })
-    of None t stores = absurd (let never : None ≡ Some t = stores in cc)
-    of (Some members) t stores = absurd (let never : None ≡ Some t = stores in cc)
+-- what is of views stores nothing
+ballots_store : (w next : World) (packets : List Packet) → AreOfViews packets → OfEach (StoresOpen w next) packets
+ballots_store w next packets =
+    of_views_each (StoresOpen w next) (λ from to group view. tt) (λ from to call ballot t stores. absurd (let never : None ≡ Some t = stores in cc))
+    (λ from to call ballot members t stores. absurd (let never : None ≡ Some t = stores in cc)) packets
 
 module _ (setting : Setting) (w next : World) (me : BrickId) (books : Books setting w) where
   abbrev P : Packet → Type 0
@@ -191,42 +185,24 @@ module _ (setting : Setting) (w next : World) (me : BrickId) (books : Books sett
   carried_none node known c (Ends answer seen stored) none =
       each_collect P me c stored (λ t to u stores. absurd (let never : None ≡ Some u = stores in cc))
 
-  -- a proposal stores nothing
-  ballot_stores : (p : Proposal) → OfEach P (ballot_packets me p)
-  ballot_stores p = each_ballot P me p (λ to. ballot_none w next me to p)
-
-  voted_stores : (node : Node) (p : Proposal) (decision : Voting) → OfEach P (carried_ballot setting.layout me node p decision).packets
-  voted_stores node p Ignored = each_none P
-  voted_stores node p (Waited q) = each_none P
-  voted_stores node p (Asks q) = ballot_stores q
-  voted_stores node p (Ended call answer) = teaches answer
-    where
-      teaches : (answer : ViewAnswer) → OfEach P (ended_packets setting.layout me p answer)
-      teaches (answers.Decided number members) = each_learn P me p.call.group (decided_view p number members) (λ to. tt) setting.layout.bricks 0
-      teaches answer = each_none P
+  -- nor does a proposal
+  voted_stores : (node : Node) (from : BrickId) (call : Call) (reply : Reply) (proposal : Option Proposal)
+      → OfEach P (replied_ballot setting.layout me from node call reply proposal).packets
+  voted_stores node from call reply proposal =
+      ballot_each (λ (step : NodeStep). OfEach P step.packets) setting.layout me from node call reply proposal
+      (λ seq round asked packets reports more are. ballots_store w next packets are)
 
   proposed_stores : (group : GroupId) (members : List BrickId) → OfEach P (proposed setting me (w.nodes me.0) group members).packets
-  unfolding proposed
-  proposed_stores group members = in_group (group_of setting.layout group.0)
-    where
-      in_group : (z : Option Group) → OfEach P (proposed_in setting me (w.nodes me.0) group members z).packets
-      in_group None = each_none P
-      in_group (Some kept) =
-          let p : Proposal = new_proposal me (w.nodes me.0) kept.m group members in
-          cond_both (is_membership kept.m setting.layout.bricks members) (sending (proposing (w.nodes me.0) p) (ballot_packets me p))
-          (reporting (w.nodes me.0) [] (Report.View group None answers.BadMembers)) (λ (step : NodeStep). OfEach P step.packets)
-          (λ may. ballot_stores p) (λ isnt. each_none P)
+  proposed_stores group members =
+      proposed_each (λ (step : NodeStep). OfEach P step.packets) setting me (w.nodes me.0) group members
+      (λ seq round asked packets reports more are. ballots_store w next packets are)
 
   -- a reply to an open operation, or to a proposal
   replied_stores : (node : Node) (now : ℕ) (from : BrickId) (call : Call) (reply : Reply) (found : Option Coordinator) → KeepsPlaces (w.nodes me.0) node
       → (w.nodes me.0).calls call.seq ≡ found → next.nodes ≡ put w.nodes me.0 (replied_at setting me now from node call reply found).node
       → OfEach P (replied_at setting me now from node call reply found).packets
   unfolding on_reply
-  replied_stores node now from call reply None places is nodes = in_proposal node.proposal
-    where
-      in_proposal : (z : Option Proposal) → OfEach P (replied_ballot setting.layout me from (with_known node (known_after node.known reply)) call reply z).packets
-      in_proposal None = each_none P
-      in_proposal (Some p) = voted_stores (with_known node (known_after node.known reply)) p (voted setting.layout.bricks p from call reply)
+  replied_stores node now from call reply None places is nodes = voted_stores (with_known node (known_after node.known reply)) from call reply node.proposal
   replied_stores node now from call reply (Some c) places is nodes =
       let known : ℕ = known_after node.known reply in
       carried_stores node known c _ places
@@ -244,11 +220,7 @@ module _ (setting : Setting) (w next : World) (me : BrickId) (books : Books sett
   moved_stores : (node : Node) (now : ℕ) (from : BrickId) (call : Call) (view : ViewNo) (lineage : Option Lineage) (found : Option Coordinator)
       → OfEach P (replied_at setting me now from node call (Reply.Moved view lineage) found).packets
   unfolding on_reply
-  moved_stores node now from call view lineage None = in_proposal node.proposal
-    where
-      in_proposal : (z : Option Proposal) → OfEach P (replied_ballot setting.layout me from (with_known node node.known) call (Reply.Moved view lineage) z).packets
-      in_proposal None = each_none P
-      in_proposal (Some p) = voted_stores (with_known node node.known) p (voted setting.layout.bricks p from call (Reply.Moved view lineage))
+  moved_stores node now from call view lineage None = voted_stores (with_known node node.known) from call (Reply.Moved view lineage) node.proposal
   moved_stores node now from call view lineage (Some c) =
       carried_none node node.known c _
       (moved_ends setting.layout.block setting.code (fresh_stamp me c.call.view now node.boot node.known) c from view lineage
@@ -335,8 +307,7 @@ stores_cases setting w books = record {
         each = each_both (StoresOpen w (world_ticked setting w brick)) _ (ballot_resent brick (w.nodes brick.0).proposal)
             (each_ticked (StoresOpen w (world_ticked setting w brick)) setting brick (w.nodes brick.0).calls (w.nodes brick.0).seq
             (λ k c is seat to t stores. ((λ g s i. refl), call_open setting w books brick.0 k c is)) (λ k c is later from to. tt))
-            (each_ballot_resent (StoresOpen w (world_ticked setting w brick)) brick (w.nodes brick.0).proposal (λ p is to. ballot_none w (world_ticked setting w brick) brick to p)
-            (λ p is later from to. tt));
+            (ballots_store w (world_ticked setting w brick) _ (resent_of_views brick (w.nodes brick.0).proposal));
       };
   stops = λ brick during up. none_sent w (world_stopped setting w brick during) refl;
   starts = λ brick openings found may.

@@ -28,6 +28,7 @@ pub mod Numbers
 pub mod Operated
 pub mod Outcomes
 pub mod OwnStamps
+pub mod Proposing
 pub mod QuorumFacts
 pub mod Reactions
 pub mod Recoveries

@@ -1,7 +1,7 @@
 -- What a member told was true of it when it told it.
-use Rattle.std.proofs.Common.{nat_lt, ◌≡◌, ◌≤◌, ◌+◌, ⊎_elim, arith, not, Bool, ℕ, true, List, [], Option, Some, None, refl, sym, ap, ◌∙◌, subst, false}
+use Rattle.std.proofs.Common.{nat_lt, ◌≡◌, ◌≤◌, ⊎_elim, arith, not, Bool, ℕ, true, List, [], Option, Some, None, refl, sym, ap, ◌∙◌, subst, false}
 use Rattle.std.specs.Prelude.{nat_eq, if◌then◌else◌}
-use Rattle.std.proofs.lemmas.Bool.{cond_both, cases_Bool, or_parts, ltb-true, ltb-false}
+use Rattle.std.proofs.lemmas.Bool.{cond_both, cases_Bool, or_parts, ltb-false}
 use Rattle.std.proofs.lemmas.Option.{same_Some}
 use Rattle.fab_base.specs.declared.identities.BrickId.{BrickId}
 use Rattle.fab_base.specs.declared.asks.Ask.{Ask}
@@ -12,27 +12,23 @@ use Rattle.messages.specs.declared.packets.Message.{Message}
 use Rattle.messages.specs.declared.packets.Packet.{Packet}
 use Rattle.messages.specs.declared.requests.Request.{Request}
 use Rattle.messages.specs.declared.replies.Reply.{Reply}
-use Rattle.fab_base.specs.Layouts.{Layout, Group, group_of}
+use Rattle.fab_base.specs.Layouts.{Layout, Group}
 use Rattle.fab_base.specs.declared.stamps.Ballot.{Ballot}
 use Rattle.fab_base.specs.declared.identities.GroupId.{GroupId}
-use Rattle.protocol.specs.Ballots.{Voted, moved_to, granting}
-use Rattle.protocol.specs.Proposals.{Proposal, Voting, Ignored, Waited, Asks, Ended, ballot_packets, voted}
-use Rattle.protocol.specs.declared.tellings.ViewAnswer.{ViewAnswer}
-use Rattle.protocol.specs.declared.tellings.ViewAnswer.TheVariants as answers
-use Rattle.protocol.specs.declared.tellings.Report.TheVariants as Report
-use Rattle.quorum.specs.Memberships.{is_membership}
+use Rattle.protocol.specs.Ballots.{Voted}
 use Rattle.protocol.specs.Settings.{Setting, Code}
 use Rattle.protocol_laws.proofs.Reactions.{modified_each}
 use Rattle.protocol.specs.Replicas.{Replica, Reaction, top_of, is_held, is_wanted, told_version, stays, unless_full, promised, stored, looked_up, handle, ignored}
 use Rattle.protocol.specs.Coordinators.{Coordinator, Next, Ignores, Waits, Sends, Makes, Ends, request_of, on_reply}
-use Rattle.protocol.specs.Nodes.{view_at, Node, replica_at, full_at, reply_packets, ticked, began, invoked, requested, known_after, fresh_stamp, carried_out, group_at, replied_at, heard, received, with_round, node_taught_by, view_counted, moved_at, is_void, requested_in, requested_as, no_step, has_accepted, vote_at, with_known, replied_ballot, carried_ballot, ended_packets, decided_view, new_proposal, proposing, reporting, sending, proposed_in, proposed, ballot_resent, NodeStep, phase_packets, new_coordinator, view_floor}
+use Rattle.protocol.specs.Nodes.{view_at, Node, replica_at, full_at, reply_packets, ticked, began, invoked, requested, known_after, fresh_stamp, carried_out, group_at, replied_at, heard, received, with_round, node_taught_by, view_counted, moved_at, is_void, requested_in, requested_as, no_step, vote_at, with_known, proposed, ballot_resent, NodeStep, phase_packets, new_coordinator, view_floor}
 use Rattle.protocol.specs.Worlds.{World, Event, first_world, world_stopped, happens, run}
 use Rattle.protocol_laws.specs.Laws.{RefusalIsTrue, RefusalsWereTrue, stamp_asked}
 use Rattle.protocol.proofs.Served.{request_each}
-use Rattle.protocol_laws.proofs.Votes.{vote_each, outbid_promised}
+use Rattle.protocol_laws.proofs.Votes.{vote_each, moved_each, outbid_promised}
+use Rattle.protocol_laws.proofs.Proposing.{AreOfViews, of_views_each, resent_of_views, ballot_each, proposed_each}
 use Rattle.protocol_laws.proofs.Teaching.{heard_each}
 use Rattle.protocol.proofs.Events.{EventCases, step_on, happens_each, started_each}
-use Rattle.protocol.proofs.Packets.{OfEach, each_none, each_one, each_both, each_member, each_collect, each_reply, each_ticked, each_learn, each_ballot, each_ballot_resent}
+use Rattle.protocol.proofs.Packets.{OfEach, each_none, each_one, each_both, each_member, each_collect, each_reply, each_ticked}
 use Rattle.protocol_laws.proofs.Tops.{top_is_part}
 use Rattle.protocol_laws.proofs.StampViews.{StampViews, NodeViews, RequestIsOf, MessageIsOf, asks_above, free_for, always_views}
 use Rattle.protocol_laws.proofs.Left.{packet_was_sent}
@@ -136,19 +132,8 @@ module _ (setting : Setting) (w : World) where
   moved_true : (me from : BrickId) (call : Call) (moved : Reply) → call.view.0 ≤ view_at (w.nodes me.0) call.group.0 → moved_at (w.nodes me.0) call ≡ Some moved
       → IsTrue w (record { from = me; to = from; message = Message.Reply call moved })
   moved_true me from call moved known =
-      cond_both (nat_lt call.view.0 (view_at (w.nodes me.0) call.group.0)) (Some (moved_to ((w.nodes me.0).learnt call.group.0).view)) _
-      (λ (z : Option Reply). z ≡ Some moved → IsTrue w (record { from = me; to = from; message = Message.Reply call moved }))
-      (λ later is. told (moved_to ((w.nodes me.0).learnt call.group.0).view) (same_Some _ moved is)
-      (ltb-true call.view.0 (view_at (w.nodes me.0) call.group.0) later, refl))
-      (λ isnt. cond_both (has_accepted (w.nodes me.0) call.group.0) (Some (Reply.Moved (record { 0 = call.view.0 + 1 }) None)) None
-      (λ (z : Option Reply). z ≡ Some moved → IsTrue w (record { from = me; to = from; message = Message.Reply call moved }))
-      (λ has is. told (Reply.Moved (record { 0 = call.view.0 + 1 }) None) (same_Some _ moved is)
-      (refl, (let most = ltb-false call.view.0 (view_at (w.nodes me.0) call.group.0) isnt in omega (arith, most, known)), has))
-      (λ free is. absurd (let never : None ≡ Some moved = is in cc)))
-    where
-      told : (one : Reply) → one ≡ moved → IsTrue w (record { from = me; to = from; message = Message.Reply call one })
-          → IsTrue w (record { from = me; to = from; message = Message.Reply call moved })
-      told one same is = subst (λ (r : Reply). IsTrue w (record { from = me; to = from; message = Message.Reply call r })) same is
+      moved_each (λ (r : Reply). IsTrue w (record { from = me; to = from; message = Message.Reply call r })) (w.nodes me.0) call moved (λ later. (later, refl))
+      (λ most has. (refl, omega (arith, most, known), has))
 
   -- and one that votes
   vote_true : (me from : BrickId) (call : Call) (ballot : Ballot) (asked : Option (List BrickId)) → call.view.0 ≤ view_at (w.nodes me.0) call.group.0
@@ -157,12 +142,7 @@ module _ (setting : Setting) (w : World) where
       vote_each (λ (v : Voted). IsTrue w (record { from = me; to = from; message = Message.Reply call v.reply })) call.view.0
       ((w.nodes me.0).learnt call.group.0) ((w.nodes me.0).ballots call.group.0) ballot asked (λ later. (later, refl))
       (λ most not. (omega (arith, most, known), not))
-      (λ greater most is. (omega (arith, most, known), outbid_promised ((w.nodes me.0).ballots call.group.0) ballot greater is)) (granted asked)
-    where
-      granted : (asks : Option (List BrickId))
-          → IsTrue w (record { from = me; to = from; message = Message.Reply call (granting ((w.nodes me.0).ballots call.group.0) ballot asks).reply })
-      granted None = tt
-      granted (Some members) = tt
+      (λ greater most is. (omega (arith, most, known), outbid_promised ((w.nodes me.0).ballots call.group.0) ballot greater is)) tt (λ list is. tt)
 
   -- what a step on a message sends
   requested_true : (me from : BrickId) (call : Call) (request : Request) → NodeViews setting.layout (w.nodes me.0)
@@ -202,27 +182,16 @@ module _ (setting : Setting) (w : World) where
   carried_true me node known c (Makes d) = phase_true setting w me d
   carried_true me node known c (Ends answer seen held) = each_collect (IsTrue w) me c held (λ t to. tt)
 
-  ballot_true : (me : BrickId) (p : Proposal) → AreTrue w (ballot_packets me p)
-  ballot_true me p = each_ballot (IsTrue w) me p (λ to. tt)
-
-  voted_true : (me : BrickId) (node : Node) (p : Proposal) (next : Voting) → AreTrue w (carried_ballot setting.layout me node p next).packets
-  voted_true me node p Ignored = each_none (IsTrue w)
-  voted_true me node p (Waited q) = each_none (IsTrue w)
-  voted_true me node p (Asks q) = ballot_true me q
-  voted_true me node p (Ended call answer) = teaches answer
-    where
-      teaches : (answer : ViewAnswer) → AreTrue w (ended_packets setting.layout me p answer)
-      teaches (answers.Decided number members) = each_learn (IsTrue w) me p.call.group (decided_view p number members) (λ to. tt) setting.layout.bricks 0
-      teaches answer = each_none (IsTrue w)
+  -- what is of views refuses nothing
+  ballots_true : (packets : List Packet) → AreOfViews packets → AreTrue w packets
+  ballots_true packets =
+      of_views_each (IsTrue w) (λ from to group view. tt) (λ from to call ballot. tt) (λ from to call ballot members. tt) packets
 
   replied_true : (me : BrickId) (now : ℕ) (from : BrickId) (node : Node) (call : Call) (reply : Reply) (found : Option Coordinator)
       → AreTrue w (replied_at setting me now from node call reply found).packets
-  replied_true me now from node call reply None = in_proposal node.proposal
-    where
-      in_proposal : (z : Option Proposal)
-          → AreTrue w (replied_ballot setting.layout me from (with_known node (known_after node.known reply)) call reply z).packets
-      in_proposal None = each_none (IsTrue w)
-      in_proposal (Some p) = voted_true me (with_known node (known_after node.known reply)) p (voted setting.layout.bricks p from call reply)
+  replied_true me now from node call reply None =
+      ballot_each (λ (step : NodeStep). AreTrue w step.packets) setting.layout me from (with_known node (known_after node.known reply)) call reply node.proposal
+      (λ seq round proposal packets reports more are. ballots_true packets are)
   replied_true me now from node call reply (Some c) =
       carried_true me node (known_after node.known reply) c
       (on_reply setting.layout.block setting.code (fresh_stamp me c.call.view now node.boot (known_after node.known reply)) c from call reply)
@@ -243,16 +212,9 @@ module _ (setting : Setting) (w : World) where
   received_true now from to message has is = each_none (IsTrue w)
 
   proposed_true : (me : BrickId) (group : GroupId) (members : List BrickId) → AreTrue w (proposed setting me (w.nodes me.0) group members).packets
-  unfolding proposed
-  proposed_true me group members = in_group (group_of setting.layout group.0)
-    where
-      in_group : (z : Option Group) → AreTrue w (proposed_in setting me (w.nodes me.0) group members z).packets
-      in_group None = each_none (IsTrue w)
-      in_group (Some kept) =
-          let p : Proposal = new_proposal me (w.nodes me.0) kept.m group members in
-          cond_both (is_membership kept.m setting.layout.bricks members) (sending (proposing (w.nodes me.0) p) (ballot_packets me p))
-          (reporting (w.nodes me.0) [] (Report.View group None answers.BadMembers)) (λ (step : NodeStep). AreTrue w step.packets)
-          (λ may. ballot_true me p) (λ isnt. each_none (IsTrue w))
+  proposed_true me group members =
+      proposed_each (λ (step : NodeStep). AreTrue w step.packets) setting me (w.nodes me.0) group members
+      (λ seq round proposal packets reports more are. ballots_true packets are)
 
   invoked_true : (me : BrickId) (now : ℕ) (ask : Ask) → AreTrue w (invoked setting me now (w.nodes me.0) ask).packets
   unfolding invoked
@@ -296,7 +258,7 @@ adds_cases setting w views = record {
         packets = refl;
         each = each_both (IsTrue w) _ (ballot_resent brick (w.nodes brick.0).proposal)
             (each_ticked (IsTrue w) setting brick (w.nodes brick.0).calls (w.nodes brick.0).seq (λ k c is seat to. tt) (λ k c is later from to. tt))
-            (each_ballot_resent (IsTrue w) brick (w.nodes brick.0).proposal (λ p is to. tt) (λ p is later from to. tt));
+            (ballots_true setting w _ (resent_of_views brick (w.nodes brick.0).proposal));
       };
   stops = λ brick during up. adds_none (IsTrue w) w (world_stopped setting w brick during) refl;
   starts = λ brick openings found may. started_each (AddsTrue w) w brick openings (adds_none (IsTrue w) w _ refl) (adds_none (IsTrue w) w _ refl) found;

@@ -1,6 +1,6 @@
 -- What is said is so in every world that a run reaches.
 use Rattle.protocol_laws.proofs.Blocking.{first_fits}
-use Rattle.std.proofs.Common.{◌≡◌, ℕ, ◌<◌, ◌≤◌, ◌+◌, nat_lt, inl, true, false, List, [], ◌∷◌, ◌++◌, length, replicate, Option, Some, None, refl, sym, ap, ◌∙◌, subst, ⊎_elim, arith, ◌⊎◌, append_assoc}
+use Rattle.std.proofs.Common.{◌≡◌, ℕ, ◌<◌, ◌≤◌, ◌+◌, inl, true, false, List, [], ◌∷◌, ◌++◌, length, replicate, Option, Some, None, refl, sym, ap, ◌∙◌, subst, ⊎_elim, arith, ◌⊎◌, append_assoc}
 use Rattle.std.specs.Prelude.{slice_get, nat_eq}
 use Rattle.std.proofs.lemmas.List.{length-append}
 use Rattle.std.proofs.lemmas.Bool.{false≢true, or_left, or_cases, cond_both}
@@ -22,7 +22,7 @@ use Rattle.fab_base.specs.Layouts.{Group, group_of, Layout}
 use Rattle.protocol.specs.Settings.{Setting, IsSound}
 use Rattle.protocol.specs.Replicas.{Reaction, first_replica, top_of, handle, is_held, Replica}
 use Rattle.protocol.specs.Coordinators.{Coordinator}
-use Rattle.protocol.specs.Nodes.{Node, NodeStep, put, with_known, with_replica, replica_at, reacted, full_at, reply_packets, ticked, stopped, restarted, new_stamp, fresh_stamp, no_step, began, invoked, requested, known_after, replied_at, received, group_at, view_at, has_accepted, moved_at, vote_at, heard, with_round, with_proposal, replied_ballot, carried_ballot, ended_packets, decided_view, new_proposal, proposing, reporting, sending, proposed_in, proposed, node_taught_by, view_counted, lists_fit}
+use Rattle.protocol.specs.Nodes.{Node, NodeStep, put, with_known, with_replica, replica_at, reacted, full_at, reply_packets, ticked, stopped, restarted, new_stamp, fresh_stamp, no_step, began, invoked, requested, known_after, replied_at, received, group_at, view_at, moved_at, vote_at, heard, with_round, proposed, node_taught_by, view_counted, lists_fit}
 use Rattle.protocol.specs.Worlds.{World, Found, Before, After, Event, replies_with, first_world, zero_content, world_ticked, left_after, packet_during, world_stopped, world_found, world_started, may_begin, world_began, world_stepped, run, reached_during, number_of, voiced}
 use Rattle.protocol_laws.specs.Laws.{WasSent, Follows, RunFollows}
 use Rattle.protocol_laws.proofs.Books.{Books, IsCall}
@@ -36,20 +36,17 @@ use Rattle.protocol_laws.proofs.Reactions.{handle_after, handle_says, top_is_ord
 use Rattle.protocol_laws.proofs.Steps.{quiet, said_beside, said_added, said_idle}
 use Rattle.protocol_laws.proofs.Requests.{said_after_request, reply_packets_say}
 use Rattle.protocol.proofs.Served.{request_each, IsServed}
-use Rattle.protocol.proofs.Packets.{OfEach, each_none, each_one, each_learn, each_ballot}
+use Rattle.protocol.proofs.Packets.{OfEach, each_none, each_one}
 use Rattle.protocol_laws.proofs.SaidQuiet.{first_top, zero_kept, said_placed, said_voted, said_reports, said_kept, said_taught, said_learnt}
 use Rattle.protocol_laws.proofs.Hearing.{kept_world, taught_by, hearing_each}
-use Rattle.protocol_laws.proofs.Votes.{vote_each}
-use Rattle.protocol_laws.proofs.BooksKept.{keeps_itself}
-use Rattle.protocol.specs.Ballots.{Voted, moved_to, granting}
-use Rattle.protocol.specs.Proposals.{Proposal, Voting, Ignored, Waited, Asks, Ended, ballot_request, ballot_packets, voted}
-use Rattle.protocol.specs.declared.tellings.ViewAnswer.{ViewAnswer}
-use Rattle.protocol.specs.declared.tellings.ViewAnswer.TheVariants as answers
-use Rattle.protocol.specs.declared.tellings.Report.TheVariants as Report
-use Rattle.quorum.specs.Memberships.{is_membership}
+use Rattle.protocol_laws.proofs.Votes.{vote_each, moved_each}
+use Rattle.protocol_laws.proofs.Proposing.{AreOfViews, of_views_each, ballot_each, proposed_each}
+use Rattle.protocol.specs.declared.tellings.Report.{Report}
+use Rattle.protocol_laws.proofs.BooksKept.{KeepsCalls, keeps_itself}
+use Rattle.protocol.specs.Ballots.{Voted}
+use Rattle.protocol.specs.Proposals.{Proposal}
 use Rattle.fab_base.specs.declared.identities.GroupId.{GroupId}
 use Rattle.fab_base.specs.declared.stamps.Ballot.{Ballot}
-use Rattle.std.proofs.lemmas.Option.{same_Some}
 use Rattle.protocol_laws.proofs.Sends.{ticked_was_sent}
 use Rattle.protocol_laws.proofs.Replies.{said_known, said_after_reply}
 use Rattle.protocol_laws.proofs.Begins.{said_began}
@@ -112,70 +109,42 @@ fresh_says setting w me view now known t of books more is =
 
 -- a brick handles a reply, and its proposal goes on, ends or begins
 module _ (setting : Setting) (views : Views) (w : World) (stamps : Stamping) (books : Books setting w) (said : Said setting views w stamps) where
-  -- what a proposal sends says nothing of operations
-  ballot_says : (me : BrickId) (p : Proposal) (next : World) → OfEach (PacketSays setting views next stamps) (ballot_packets me p)
-  ballot_says me p next = each_ballot (PacketSays setting views next stamps) me p (λ to. of to p.asks)
-    where
-      of : (to : BrickId) (asks : Option (List BrickId)) → PacketSays setting views next stamps
-          (record { from = me; to = to; message = Message.Request p.call (ballot_request (record p { asks = asks })) })
-      of to None = tt
-      of to (Some members) = tt
+  -- a brick's proposal, its call number, its round and the time that it knows change, and it sends what is of views
+  aside_said : (me : BrickId) (known seq round : ℕ) (proposal : Option Proposal) (packets : List Packet) (reports : List Report) → (w.nodes me.0).known ≤ known
+      → (w.nodes me.0).seq ≤ seq → AreOfViews packets
+      → Said setting views (stepped setting w me (record {
+        node = record (w.nodes me.0) { known = known; seq = seq; round = round; proposal = proposal };
+        packets = packets;
+        told = [];
+        answers = [];
+        reports = reports;
+      })) stamps
+  aside_said me known seq round proposal packets reports knows more are =
+      let node : Node = record (w.nodes me.0) { known = known; seq = seq; round = round; proposal = proposal } in
+      let keeps : KeepsCalls (w.nodes me.0) node = (record { boot = refl; seq = more; known = knows }, λ l. refl) in
+      said_reports setting views w stamps me books said node packets reports keeps
+      (said_placed setting views w stamps me books said node packets (refl, refl, refl) keeps
+      (of_views_each (PacketSays setting views (quiet w me node packets) stamps) (λ from to group view. tt) (λ from to call ballot. tt)
+      (λ from to call ballot members. tt) packets are))
 
-  ended_says : (me : BrickId) (p : Proposal) (answer : ViewAnswer) (next : World)
-      → OfEach (PacketSays setting views next stamps) (ended_packets setting.layout me p answer)
-  ended_says me p (answers.Decided number members) next =
-      each_learn (PacketSays setting views next stamps) me p.call.group (decided_view p number members) (λ to. tt) setting.layout.bricks 0
-  ended_says me p answer next = each_none (PacketSays setting views next stamps)
-
-  -- a proposal goes on, or ends, at a brick that knows this time
-  voted_said : (me : BrickId) (known : ℕ) (p : Proposal) (next : Voting) → (w.nodes me.0).known ≤ known
-      → Said setting views (stepped setting w me (carried_ballot setting.layout me (with_known (w.nodes me.0) known) p next)) stamps
-  voted_said me known p Ignored more =
-      said_placed setting views w stamps me books said (with_known (w.nodes me.0) known) [] (refl, refl, refl)
-      (record { boot = refl; seq = omega arith; known = more }, λ l. refl) (each_none (PacketSays setting views _ stamps))
-  voted_said me known p (Waited q) more =
-      said_placed setting views w stamps me books said (with_proposal (with_known (w.nodes me.0) known) (Some q)) [] (refl, refl, refl)
-      (record { boot = refl; seq = omega arith; known = more }, λ l. refl) (each_none (PacketSays setting views _ stamps))
-  voted_said me known p (Asks q) more =
-      said_placed setting views w stamps me books said (with_proposal (with_known (w.nodes me.0) known) (Some q)) (ballot_packets me q) (refl, refl, refl)
-      (record { boot = refl; seq = omega arith; known = more }, λ l. refl) (ballot_says me q _)
-  voted_said me known p (Ended call answer) more =
-      let node : Node = with_proposal (with_known (w.nodes me.0) known) None in
-      said_reports setting views w stamps me books said node (ended_packets setting.layout me p answer) (Report.View p.call.group (Some call) answer ∷ [])
-      (record { boot = refl; seq = omega arith; known = more }, λ l. refl)
-      (said_placed setting views w stamps me books said node (ended_packets setting.layout me p answer) (refl, refl, refl)
-      (record { boot = refl; seq = omega arith; known = more }, λ l. refl) (ended_says me p answer _))
-
-  -- a brick begins a proposal
+  -- so where it begins a proposal
   proposed_said : (me : BrickId) (group : GroupId) (members : List BrickId)
       → Said setting views (stepped setting w me (proposed setting me (w.nodes me.0) group members)) stamps
-  unfolding proposed
-  proposed_said me group members = in_group (group_of setting.layout group.0)
-    where
-      in_group : (z : Option Group) → Said setting views (stepped setting w me (proposed_in setting me (w.nodes me.0) group members z)) stamps
-      in_group None = nothing_said setting views w stamps me books said
-      in_group (Some kept) =
-          let p : Proposal = new_proposal me (w.nodes me.0) kept.m group members in
-          cond_both (is_membership kept.m setting.layout.bricks members) (sending (proposing (w.nodes me.0) p) (ballot_packets me p))
-          (reporting (w.nodes me.0) [] (Report.View group None answers.BadMembers))
-          (λ (step : NodeStep). Said setting views (stepped setting w me step) stamps)
-          (λ may. said_placed setting views w stamps me books said (proposing (w.nodes me.0) p) (ballot_packets me p) (refl, refl, refl)
-          (record { boot = refl; seq = omega arith; known = omega arith }, λ l. refl) (ballot_says me p _))
-          (λ isnt. said_reports setting views w stamps me books said (w.nodes me.0) [] (Report.View group None answers.BadMembers ∷ [])
-          (keeps_itself (w.nodes me.0)) (nothing_said setting views w stamps me books said))
+  proposed_said me group members =
+      proposed_each (λ (step : NodeStep). Said setting views (stepped setting w me step) stamps) setting me (w.nodes me.0) group members
+      (λ seq round proposal packets reports more are. aside_said me (w.nodes me.0).known seq round proposal packets reports (omega arith) more are)
 
   -- a brick does what it does with a reply to an open operation, or to its proposal
   replied_said : (me from : BrickId) (now : ℕ) (call : Call) (reply : Reply) (found : Option Coordinator) → IsSound setting
       → WasSent w (record { from = from; to = me; message = Message.Reply call reply }) → (w.nodes me.0).calls call.seq ≡ found
       → IsSaid setting views (stepped setting w me (replied_at setting me now from (w.nodes me.0) call reply found))
-  replied_said me from now call reply None sound sent none = (stamps, in_proposal (w.nodes me.0).proposal)
-    where
-      in_proposal : (z : Option Proposal) → Said setting views
-          (stepped setting w me (replied_ballot setting.layout me from (with_known (w.nodes me.0) (known_after (w.nodes me.0).known reply)) call reply z)) stamps
-      in_proposal None =
-          said_known setting views w stamps me (known_after (w.nodes me.0).known reply) books said (known_grows (w.nodes me.0).known reply)
-      in_proposal (Some p) =
-          voted_said me (known_after (w.nodes me.0).known reply) p (voted setting.layout.bricks p from call reply) (known_grows (w.nodes me.0).known reply)
+  replied_said me from now call reply None sound sent none =
+      let known : ℕ = known_after (w.nodes me.0).known reply in (
+        stamps,
+        ballot_each (λ (step : NodeStep). Said setting views (stepped setting w me step) stamps) setting.layout me from (with_known (w.nodes me.0) known) call reply
+            (w.nodes me.0).proposal (λ seq round proposal packets reports more are.
+            aside_said me known seq round proposal packets reports (known_grows (w.nodes me.0).known reply) more are),
+      )
   replied_said me from now call reply (Some c) sound sent is =
       let seq : c.call.seq ≡ call.seq = (books.calls me.0 call.seq c is).call_seq in
       in_call (subst (λ (k : ℕ). IsCall w me.0 k c) (sym seq) is)
@@ -203,19 +172,9 @@ module _ (setting : Setting) (views : Views) (w : World) (stamps : Stamping) (bo
       → OfEach (PacketSays setting views next stamps) (reply_packets me from call (Some moved))
   moved_says me from call moved next is =
       each_one (PacketSays setting views next stamps) (record { from = me; to = from; message = Message.Reply call moved }) []
-      (cond_both (nat_lt call.view.0 (view_at (w.nodes me.0) call.group.0)) (Some (moved_to ((w.nodes me.0).learnt call.group.0).view)) _
-      (λ (z : Option Reply). z ≡ Some moved → PacketSays setting views next stamps (record { from = me; to = from; message = Message.Reply call moved }))
-      (λ later at. of_reply (moved_to ((w.nodes me.0).learnt call.group.0).view) moved (same_Some _ moved at) tt)
-      (λ isnt. cond_both (has_accepted (w.nodes me.0) call.group.0) (Some (Reply.Moved (record { 0 = call.view.0 + 1 }) None)) None
-      (λ (z : Option Reply). z ≡ Some moved → PacketSays setting views next stamps (record { from = me; to = from; message = Message.Reply call moved }))
-      (λ has at. of_reply (Reply.Moved (record { 0 = call.view.0 + 1 }) None) moved (same_Some _ moved at) tt)
-      (λ free at. absurd (let never : None ≡ Some moved = at in cc))) is)
+      (moved_each (λ (r : Reply). PacketSays setting views next stamps (record { from = me; to = from; message = Message.Reply call r })) (w.nodes me.0) call moved
+      (λ later. tt) (λ most has. tt) is)
       (each_none (PacketSays setting views next stamps))
-    where
-      of_reply : (one other : Reply) → one ≡ other → PacketSays setting views next stamps (record { from = me; to = from; message = Message.Reply call one })
-          → PacketSays setting views next stamps (record { from = me; to = from; message = Message.Reply call other })
-      of_reply one other same says =
-          subst (λ (r : Reply). PacketSays setting views next stamps (record { from = me; to = from; message = Message.Reply call r })) same says
 
   -- and its vote on a ballot
   vote_says : (me from : BrickId) (call : Call) (ballot : Ballot) (asked : Option (List BrickId)) (next : World)
@@ -223,13 +182,9 @@ module _ (setting : Setting) (views : Views) (w : World) (stamps : Stamping) (bo
   vote_says me from call ballot asked next =
       each_one (PacketSays setting views next stamps) (record { from = me; to = from; message = Message.Reply call (vote_at (w.nodes me.0) call ballot asked).reply }) []
       (vote_each (λ (v : Voted). PacketSays setting views next stamps (record { from = me; to = from; message = Message.Reply call v.reply })) call.view.0
-      ((w.nodes me.0).learnt call.group.0) ((w.nodes me.0).ballots call.group.0) ballot asked (λ later. tt) (λ most not. tt) (λ greater most is. tt) (granted asked))
+      ((w.nodes me.0).learnt call.group.0) ((w.nodes me.0).ballots call.group.0) ballot asked (λ later. tt) (λ most not. tt) (λ greater most is. tt) tt
+      (λ list is. tt))
       (each_none (PacketSays setting views next stamps))
-    where
-      granted : (asks : Option (List BrickId)) → PacketSays setting views next stamps
-          (record { from = me; to = from; message = Message.Reply call (granting ((w.nodes me.0).ballots call.group.0) ballot asks).reply })
-      granted None = tt
-      granted (Some members) = tt
 
   -- a request is delivered
   request_said : (me from : BrickId) (call : Call) (request : Request) → WasSent w (record { from = from; to = me; message = Message.Request call request })

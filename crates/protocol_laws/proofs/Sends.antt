@@ -27,10 +27,10 @@ use Rattle.protocol.specs.Worlds.{World, Operation, number_of}
 use Rattle.protocol_laws.specs.Laws.{WasSent, IsGuarded}
 use Rattle.protocol_laws.proofs.Books.{Books, CallBooks, IsOperation, IsCall}
 use Rattle.protocol_laws.proofs.Said.{Begun, Stamping, Said, IsSaid, IsBegun, AreBlocked, IsStampOf, IsCalled, FitsPhase, RequestSays, PacketSays, CallSays, OrderReadSays, DescendsFrom, base_in, look_of, want_of, is_looked, IsMadeOrFirst, MadeOn, WriteSays}
+use Rattle.protocol_laws.proofs.Proposing.{of_views_each, resent_of_views}
 use Rattle.protocol_laws.proofs.Logs.{below_above}
 use Rattle.protocol.proofs.Tables.{put_each, put_same, sent_to_member}
-use Rattle.protocol.proofs.Packets.{OfEach, each_none, each_both, each_teaching, each_ballot_resent}
-use Rattle.protocol.specs.Proposals.{Proposal, ballot_request}
+use Rattle.protocol.proofs.Packets.{OfEach, each_none, each_both, each_teaching}
 use Rattle.protocol_laws.proofs.Stampings.{ComesFrom, StampsGrow, Ages, ages_within, with_stamp, stamp_now, stamps_other, stamp_last, stamps_grow, stamps_say}
 use Rattle.protocol_laws.proofs.Growth.{Grows, stays_guarded, stays_made, stays_made_on, stay_blocked}
 use Rattle.protocol_laws.proofs.Steps.{KeepsStamps, keeps_same, ages_by, phase_asked, quiet, quiet_grows, said_quiet}
@@ -375,13 +375,5 @@ module _ (setting : Setting) (views : Views) (w next : World) (stamps : Stamping
   ticked_was_sent =
       each_both SentOrSays (resent_up_to setting me (w.nodes me.0).calls (w.nodes me.0).seq) (ballot_resent me (w.nodes me.0).proposal)
       (calls_resent (w.nodes me.0).seq)
-      (each_ballot_resent SentOrSays me (w.nodes me.0).proposal (λ p is to. inr (ballot_says p to)) (λ p is later from to. inr tt))
-    where
-      ballot_says : (p : Proposal) (to : BrickId)
-          → PacketSays setting views next stamps (record { from = me; to = to; message = Message.Request p.call (ballot_request p) })
-      ballot_says p to = of p.asks
-        where
-          of : (asks : Option (List BrickId)) → PacketSays setting views next stamps
-              (record { from = me; to = to; message = Message.Request p.call (ballot_request (record p { asks = asks })) })
-          of None = tt
-          of (Some members) = tt
+      (of_views_each SentOrSays (λ from to group view. inr tt) (λ from to call ballot. inr tt) (λ from to call ballot members. inr tt)
+      (ballot_resent me (w.nodes me.0).proposal) (resent_of_views me (w.nodes me.0).proposal))

@@ -1,6 +1,6 @@
 -- The stamps of a part, of a call and of a request are of its own view, and what a brick keeps of views that it has not learnt is fresh: so it is in every
 -- run, whatever members the views have.
-use Rattle.std.proofs.Common.{◌≡◌, ℕ, ◌+◌, ◌≤◌, ◌<◌, ◌⊎◌, inl, inr, ⊎_elim, true, false, ◌-◌, nat_eq, List, [], Option, ltb-true, ltb-false, nat_lt, Some, None, refl, sym, ap, ◌∙◌, subst, arith}
+use Rattle.std.proofs.Common.{◌≡◌, ℕ, ◌+◌, ◌≤◌, ◌<◌, ◌⊎◌, inl, inr, ⊎_elim, true, false, ◌-◌, nat_eq, List, Option, ltb-true, ltb-false, nat_lt, Some, None, refl, sym, ap, ◌∙◌, subst, arith}
 use Rattle.std.specs.Prelude.{slice_get}
 use Rattle.std.proofs.lemmas.Bool.{cond_both}
 use Rattle.std.proofs.lemmas.Bool.Decides.{nat_tests}
@@ -10,7 +10,7 @@ use Rattle.fab_base.specs.declared.identities.ViewNo.{ViewNo}
 use Rattle.fab_base.specs.declared.asks.Ask.{Ask}
 use Rattle.fab_base.specs.declared.stamps.Stamp.{Stamp}
 use Rattle.fab_base.specs.Stamps.{stamp_below, first_stamp}
-use Rattle.fab_base.specs.Layouts.{Layout, Group, group_of}
+use Rattle.fab_base.specs.Layouts.{Layout, Group}
 use Rattle.messages.specs.declared.calls.Call.{Call}
 use Rattle.messages.specs.declared.packets.Message.{Message}
 use Rattle.messages.specs.declared.packets.Packet.{Packet}
@@ -20,23 +20,20 @@ use Rattle.messages.specs.declared.requests.Version.{Version}
 use Rattle.protocol.specs.Settings.{Setting, Code}
 use Rattle.protocol.specs.Views.{Learnt, view_of, is_later, view_told, floor_of}
 use Rattle.protocol.specs.Ballots.{Voted}
-use Rattle.protocol.specs.Proposals.{Proposal, Voting, Ignored, Waited, Asks, Ended, ballot_request, ballot_packets, voted}
-use Rattle.protocol.specs.declared.tellings.ViewAnswer.{ViewAnswer}
-use Rattle.protocol.specs.declared.tellings.ViewAnswer.TheVariants as answers
-use Rattle.protocol.specs.declared.tellings.Report.TheVariants as Report
-use Rattle.quorum.specs.Memberships.{is_membership}
+use Rattle.protocol.specs.Proposals.{Proposal}
 use Rattle.fab_base.specs.declared.identities.GroupId.{GroupId}
 use Rattle.fab_base.specs.declared.member_lists.View.{View}
 use Rattle.protocol.specs.Replicas.{Replica, Reaction, first_replica, fresh_replica, handle, top_of, newest_of}
 use Rattle.protocol.specs.declared.phases.Phase.{Phase}
 use Rattle.protocol.specs.declared.phases.Phase.TheVariants.{Looks, LooksAt, Orders, OrdersAt, Recovers, Descends, Modifies, Bases, Stores}
 use Rattle.protocol.specs.Coordinators.{Coordinator, Next, Ignores, Waits, Sends, Makes, Ends, with_reply, once_full, counted_at, counts_at, on_reply, request_of}
-use Rattle.protocol.specs.Nodes.{Node, NodeStep, view_at, view_floor, put, first_node, no_step, phase_packets, new_coordinator, began, invoked, replica_at, full_at, requested, known_after, with_call, carried_out, has_later_time, new_stamp, fresh_stamp, group_at, replied_at, heard, received, absorbed, vote_at, with_learnt, node_taught_by, node_learnt, lists_fit, view_counted, with_known, with_round, replied_ballot, carried_ballot, ended_packets, decided_view, new_proposal, proposing, reporting, sending, proposed_in, proposed, ballot_resent, ticked, stopped, restarted, has_accepted}
+use Rattle.protocol.specs.Nodes.{Node, NodeStep, view_at, view_floor, put, first_node, no_step, phase_packets, new_coordinator, began, invoked, replica_at, full_at, requested, known_after, with_call, carried_out, has_later_time, new_stamp, fresh_stamp, group_at, replied_at, heard, received, absorbed, vote_at, with_learnt, node_taught_by, node_learnt, lists_fit, view_counted, with_known, with_round, proposed, ballot_resent, ticked, stopped, restarted, has_accepted}
 use Rattle.protocol.specs.Worlds.{World, Event, After, first_world, packet_during, left_after, world_found, world_started, run}
 use Rattle.protocol.proofs.Events.{EventCases, step_on, started_each, always, world_counting}
-use Rattle.protocol.proofs.Packets.{OfEach, each_none, each_both, each_member, each_collect, each_reply, each_ticked, each_learn, each_ballot, each_ballot_resent}
+use Rattle.protocol.proofs.Packets.{OfEach, each_none, each_both, each_member, each_collect, each_reply, each_ticked}
 use Rattle.protocol_laws.specs.Laws.{stamp_asked}
 use Rattle.protocol_laws.proofs.Left.{after_stepped, packet_was_sent, during_was_sent, kept_of, absorbed_kept}
+use Rattle.protocol_laws.proofs.Proposing.{AreOfViews, of_views_each, resent_of_views, ballot_each, proposed_each}
 use Rattle.protocol_laws.proofs.Teaching.{newly_learnt, told_each, learnt_each, dropped_each, heard_each}
 use Rattle.protocol_laws.proofs.Outcomes.{ReordersFits, RecoversFits, RebuildsFits, NextFits, once_full_fits}
 use Rattle.protocol_laws.proofs.Reactions.{IsAfter, StoresBlock, handle_after, after_log, after_order, store_asked, top_is, top_is_order}
@@ -246,16 +243,11 @@ pub beside_views : (layout : Layout) (node : Node) (seq known round : ℕ) (prop
     → NodeViews layout (record node { seq = seq; known = known; round = round; proposal = proposal })
 beside_views layout node seq known round proposal has = record { views = has.views; parts = has.parts; fresh = has.fresh; calls = has.calls }
 
--- a request of a proposal asks at no stamp
-pub ballot_asks : (call : Call) (p : Proposal) → RequestIsOf call (ballot_request p)
-ballot_asks call p = of p.asks
-  where
-    of : (asks : Option (List BrickId)) → RequestIsOf call (ballot_request (record p { asks = asks }))
-    of None t is = absurd (let never : None ≡ Some t = is in cc)
-    of (Some members) t is = absurd (let never : None ≡ Some t = is in cc)
-
-ballot_views : (me : BrickId) (p : Proposal) → OfEach PacketIsOf (ballot_packets me p)
-ballot_views me p = each_ballot PacketIsOf me p (λ to. ballot_asks p.call p)
+-- what is of views asks at no stamp
+ballots_are : (packets : List Packet) → AreOfViews packets → OfEach PacketIsOf packets
+ballots_are packets =
+    of_views_each PacketIsOf (λ from to group view. tt) (λ from to call ballot t is. absurd (let never : None ≡ Some t = is in cc))
+    (λ from to call ballot members t is. absurd (let never : None ≡ Some t = is in cc)) packets
 
 -- what a coordinator decides
 abbrev NextIsOf : Next → Type 0
@@ -324,30 +316,12 @@ replied_views : (setting : Setting) (me : BrickId) (now : ℕ) (from : BrickId) 
     → ((c : Coordinator) → found ≡ Some c → CallIsOf c) → NodeViews setting.layout node
     → StepViews setting.layout (replied_at setting me now from node call reply found)
 unfolding on_reply
-replied_views setting me now from node call reply None own has = in_proposal node.proposal
-  where
-    heard_node : Node
-    heard_node = with_known node (known_after node.known reply)
-
-    voted_views : (p : Proposal) (next : Voting) → StepViews setting.layout (carried_ballot setting.layout me heard_node p next)
-    voted_views p Ignored = record { node = beside_views setting.layout node node.seq (known_after node.known reply) node.round node.proposal has; packets = each_none PacketIsOf }
-    voted_views p (Waited q) = record { node = beside_views setting.layout node node.seq (known_after node.known reply) node.round (Some q) has; packets = each_none PacketIsOf }
-    voted_views p (Asks q) = record { node = beside_views setting.layout node node.seq (known_after node.known reply) node.round (Some q) has; packets = ballot_views me q }
-    voted_views p (Ended ended answer) = record {
-      node = beside_views setting.layout node node.seq (known_after node.known reply) node.round None has;
-      packets = teaches answer;
-    }
-      where
-        teaches : (answer : ViewAnswer) → OfEach PacketIsOf (ended_packets setting.layout me p answer)
-        teaches (answers.Decided number members) = each_learn PacketIsOf me p.call.group (decided_view p number members) (λ to. tt) setting.layout.bricks 0
-        teaches (answers.Outbid ballot) = each_none PacketIsOf
-        teaches (answers.NotSynced brick) = each_none PacketIsOf
-        teaches (answers.Moved view) = each_none PacketIsOf
-        teaches answers.BadMembers = each_none PacketIsOf
-
-    in_proposal : (z : Option Proposal) → StepViews setting.layout (replied_ballot setting.layout me from heard_node call reply z)
-    in_proposal None = record { node = beside_views setting.layout node node.seq (known_after node.known reply) node.round node.proposal has; packets = each_none PacketIsOf }
-    in_proposal (Some p) = voted_views p (voted setting.layout.bricks p from call reply)
+replied_views setting me now from node call reply None own has =
+    ballot_each (λ (step : NodeStep). StepViews setting.layout step) setting.layout me from (with_known node (known_after node.known reply)) call reply node.proposal
+    (λ seq round proposal packets reports more are. record {
+      node = beside_views setting.layout node seq (known_after node.known reply) round proposal has;
+      packets = ballots_are packets are;
+    })
 replied_views setting me now from node call reply (Some c) own has =
     let known : ℕ = known_after node.known reply in
     carried_views setting me node known c _ has
@@ -385,17 +359,11 @@ received_views setting now from to message node has is = quiet_views setting.lay
 -- a brick begins a proposal
 proposed_views : (setting : Setting) (me : BrickId) (node : Node) (group : GroupId) (members : List BrickId) → NodeViews setting.layout node
     → StepViews setting.layout (proposed setting me node group members)
-unfolding proposed
-proposed_views setting me node group members has = in_group (group_of setting.layout group.0)
-  where
-    in_group : (z : Option Group) → StepViews setting.layout (proposed_in setting me node group members z)
-    in_group None = quiet_views setting.layout node has
-    in_group (Some kept) =
-        let p : Proposal = new_proposal me node kept.m group members in
-        cond_both (is_membership kept.m setting.layout.bricks members) (sending (proposing node p) (ballot_packets me p))
-        (reporting node [] (Report.View group None answers.BadMembers)) (λ (step : NodeStep). StepViews setting.layout step)
-        (λ may. record { node = beside_views setting.layout node p.call.seq node.known p.ballot.round (Some p) has; packets = ballot_views me p })
-        (λ isnt. record { node = has; packets = each_none PacketIsOf })
+proposed_views setting me node group members has =
+    proposed_each (λ (step : NodeStep). StepViews setting.layout step) setting me node group members (λ seq round proposal packets reports more are. record {
+      node = beside_views setting.layout node seq node.known round proposal has;
+      packets = ballots_are packets are;
+    })
 
 -- what a brick keeps of a message
 kept_views : (setting : Setting) (me from to : BrickId) (message : Message) (node : Node) → NodeViews setting.layout node → MessageIsOf message
@@ -510,7 +478,7 @@ views_cases setting w has = record {
             (each_both PacketIsOf _ (ballot_resent brick (w.nodes brick.0).proposal)
             (each_ticked PacketIsOf setting brick (w.nodes brick.0).calls (w.nodes brick.0).seq
             (λ k c is seat to. request_is setting.code c ((has.nodes brick.0).calls k c is) seat) (λ k c is later from to. tt))
-            (each_ballot_resent PacketIsOf brick (w.nodes brick.0).proposal (λ p is to. ballot_asks p.call p) (λ p is later from to. tt)));
+            (ballots_are _ (resent_of_views brick (w.nodes brick.0).proposal)));
       };
   stops = λ brick during up.
       record {

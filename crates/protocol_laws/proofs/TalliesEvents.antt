@@ -2,7 +2,7 @@
 use Rattle.std.proofs.lemmas.List.{append-nil}
 use Rattle.std.proofs.Common.{◌≡◌, ◌≢◌, ℕ, ◌+◌, ◌≤◌, inl, ⊎_elim, true, false, ap, Option, Some, None, List, [], ◌∷◌, ◌++◌, length, refl, sym, ◌∙◌, subst, arith, Bool}
 use Rattle.std.specs.Prelude.{slice_get, if◌then◌else◌}
-use Rattle.std.proofs.lemmas.Bool.{cases_eq, cond_both}
+use Rattle.std.proofs.lemmas.Bool.{cases_eq}
 use Rattle.std.proofs.lemmas.Option.{same_Some}
 use Rattle.fab_base.specs.declared.identities.BrickId.{BrickId}
 use Rattle.fab_base.specs.declared.asks.Ask.{Ask}
@@ -14,12 +14,12 @@ use Rattle.messages.specs.declared.packets.Packet.{Packet}
 use Rattle.messages.specs.declared.requests.Request.{Request}
 use Rattle.messages.specs.declared.replies.Reply.{Reply}
 use Rattle.reg_model.specs.declared.marks.Mark.TheVariants.{Begin, End, Crash}
-use Rattle.fab_base.specs.Layouts.{Group, group_of}
+use Rattle.fab_base.specs.Layouts.{Group}
 use Rattle.protocol.specs.Views.{Views}
 use Rattle.protocol.specs.Settings.{Setting, IsSound}
 use Rattle.protocol.specs.Replicas.{handle}
 use Rattle.protocol.specs.Coordinators.{Coordinator, with_reply, once_full, counted_at, counts_at, on_reply}
-use Rattle.protocol.specs.Nodes.{Node, NodeStep, ticked, new_coordinator, put, no_step, fresh_stamp, began_in, began, invoked, with_replica, replica_at, full_at, reply_packets, requested, known_after, with_known, carried_out, sending, replied_at, replied, heard, received, vote_at, with_round, with_proposal, replied_ballot, carried_ballot, ended_packets, new_proposal, proposing, reporting, proposed_in, proposed, node_learnt, lists_fit}
+use Rattle.protocol.specs.Nodes.{Node, NodeStep, ticked, new_coordinator, put, no_step, fresh_stamp, began_in, began, invoked, with_replica, replica_at, full_at, reply_packets, requested, known_after, with_known, carried_out, replied_at, replied, heard, received, vote_at, with_round, proposed, node_learnt, lists_fit}
 use Rattle.protocol.specs.Worlds.{World, Found, Before, After, Event, first_world, may_begin, number_of, world_stopped, world_found, world_started, world_began, counted_after, replies_at, replies_with, run, with_held, Choices, voiced}
 use Rattle.protocol_laws.specs.Laws.{WasSent, RunFollows}
 use Rattle.protocol.proofs.Served.{request_each}
@@ -27,13 +27,11 @@ use Rattle.protocol_laws.proofs.Books.{Books, IsCall}
 use Rattle.protocol_laws.proofs.Left.{Leaves, always_leaves, found_down, packet_was_sent}
 use Rattle.protocol_laws.proofs.BooksKept.{KeepsNumbers, KeepsCalls, cases_call, keeps_all, keeps_itself, keeps_known}
 use Rattle.protocol_laws.proofs.Votes.{with_vote}
+use Rattle.protocol_laws.proofs.Proposing.{ballot_each, proposed_each}
 use Rattle.protocol_laws.proofs.Hearing.{kept_world, taught_by, replying_each}
 use Rattle.protocol.specs.declared.phases.Counted.{Counted}
 use Rattle.protocol.specs.Ballots.{Voted}
-use Rattle.protocol.specs.Proposals.{Proposal, Voting, Ignored, Waited, Asks, Ended, ballot_packets, voted}
-use Rattle.protocol.specs.declared.tellings.ViewAnswer.TheVariants as answers
 use Rattle.protocol.specs.declared.tellings.Report.{Report}
-use Rattle.quorum.specs.Memberships.{is_membership}
 use Rattle.fab_base.specs.declared.identities.GroupId.{GroupId}
 use Rattle.protocol_laws.proofs.BooksQuiet.{quiet_world, started_calls, unstarted, started_known}
 use Rattle.protocol_laws.proofs.BooksEnds.{stopped_keeps, stopped_calls, unstopped_calls}
@@ -106,37 +104,15 @@ module _ (setting : Setting) (w : World) (books : Books setting w) (tallied : Ta
       tallied_silent me (with_vote (w.nodes me.0) call vote) (reply_packets me from call (Some vote.reply)) []
       (record { boot = refl; seq = omega arith; known = omega arith }, λ l. refl))
 
-  -- a proposal goes on, or ends, at a brick that knows this time
-  tallied_voted : (me : BrickId) (known : ℕ) (p : Proposal) (next : Voting) → (w.nodes me.0).known ≤ known
-      → MessagesShow (stepped setting w w.replies me (carried_ballot setting.layout me (with_known (w.nodes me.0) known) p next))
-      → Tallied (stepped setting w w.replies me (carried_ballot setting.layout me (with_known (w.nodes me.0) known) p next))
-  tallied_voted me known p Ignored more = tallied_known me known more
-  tallied_voted me known p (Waited q) more =
-      tallied_silent me (with_proposal (with_known (w.nodes me.0) known) (Some q)) [] [] (record { boot = refl; seq = omega arith; known = more }, λ l. refl)
-  tallied_voted me known p (Asks q) more =
-      tallied_silent me (with_proposal (with_known (w.nodes me.0) known) (Some q)) (ballot_packets me q) []
-      (record { boot = refl; seq = omega arith; known = more }, λ l. refl)
-  tallied_voted me known p (Ended call answer) more =
-      tallied_silent me (with_proposal (with_known (w.nodes me.0) known) None) (ended_packets setting.layout me p answer)
-      (Report.View p.call.group (Some call) answer ∷ []) (record { boot = refl; seq = omega arith; known = more }, λ l. refl)
-
-  -- and begins
+  -- a brick begins a proposal
   tallied_proposed : (me : BrickId) (group : GroupId) (members : List BrickId)
       → MessagesShow (stepped setting w w.replies me (proposed setting me (w.nodes me.0) group members))
       → Tallied (stepped setting w w.replies me (proposed setting me (w.nodes me.0) group members))
-  unfolding proposed
-  tallied_proposed me group members = in_group (group_of setting.layout group.0)
-    where
-      in_group : (z : Option Group) → MessagesShow (stepped setting w w.replies me (proposed_in setting me (w.nodes me.0) group members z))
-          → Tallied (stepped setting w w.replies me (proposed_in setting me (w.nodes me.0) group members z))
-      in_group None = tallied_no_step me
-      in_group (Some kept) =
-          let p : Proposal = new_proposal me (w.nodes me.0) kept.m group members in
-          cond_both (is_membership kept.m setting.layout.bricks members) (sending (proposing (w.nodes me.0) p) (ballot_packets me p))
-          (reporting (w.nodes me.0) [] (Report.View group None answers.BadMembers))
-          (λ (step : NodeStep). MessagesShow (stepped setting w w.replies me step) → Tallied (stepped setting w w.replies me step))
-          (λ may. tallied_silent me (proposing (w.nodes me.0) p) (ballot_packets me p) [] (record { boot = refl; seq = omega arith; known = omega arith }, λ l. refl))
-          (λ isnt. tallied_silent me (w.nodes me.0) [] (Report.View group None answers.BadMembers ∷ []) (keeps_itself (w.nodes me.0)))
+  tallied_proposed me group members =
+      proposed_each (λ (step : NodeStep). MessagesShow (stepped setting w w.replies me step) → Tallied (stepped setting w w.replies me step)) setting me
+      (w.nodes me.0) group members (λ seq round proposal packets reports more are.
+      tallied_silent me (record (w.nodes me.0) { seq = seq; round = round; proposal = proposal }) packets reports
+      (record { boot = refl; seq = more; known = omega arith }, λ l. refl))
 
   -- a reply to an open operation, or to a proposal
   tallied_replied : (me : BrickId) (now : ℕ) (from : BrickId) (call : Call) (reply : Reply) (found : Option Coordinator) → MessagesShow w
@@ -170,18 +146,16 @@ module _ (setting : Setting) (w : World) (books : Books setting w) (tallied : Ta
           (once_full_fits setting.layout.block setting.code fresh (with_reply c seat from reply)))
           later
 
-      in_proposal : (z : Option Proposal)
-          → (let step : NodeStep = replied_ballot setting.layout me from (with_known (w.nodes me.0) (known_after (w.nodes me.0).known reply)) call reply z in
-          MessagesShow (stepped setting w w.replies me step) → Tallied (stepped setting w w.replies me step))
-      in_proposal None = tallied_known me (known_after (w.nodes me.0).known reply) (known_grows (w.nodes me.0).known reply)
-      in_proposal (Some p) =
-          tallied_voted me (known_after (w.nodes me.0).known reply) p (voted setting.layout.bricks p from call reply) (known_grows (w.nodes me.0).known reply)
-
       at_call : (z : Option Coordinator) → (w.nodes me.0).calls call.seq ≡ z
           → MessagesShow (stepped setting w (replies_at setting w me from call reply z) me (replied_at setting me now from (w.nodes me.0) call reply z))
           → Tallied (stepped setting w (replies_at setting w me from call reply z) me (replied_at setting me now from (w.nodes me.0) call reply z))
-      at_call None none later = in_proposal (w.nodes me.0).proposal later
-      at_call (Some c) is later = at_seat c is (counts_at setting.layout.block c from.0 call reply) refl later
+      at_call None none =
+          let known : ℕ = known_after (w.nodes me.0).known reply in
+          ballot_each (λ (step : NodeStep). MessagesShow (stepped setting w w.replies me step) → Tallied (stepped setting w w.replies me step)) setting.layout me from
+          (with_known (w.nodes me.0) known) call reply (w.nodes me.0).proposal (λ seq round proposal packets reports more are.
+          tallied_silent me (record (w.nodes me.0) { known = known; seq = seq; round = round; proposal = proposal }) packets reports
+          (record { boot = refl; seq = more; known = known_grows (w.nodes me.0).known reply }, λ l. refl))
+      at_call (Some c) is = at_seat c is (counts_at setting.layout.block c from.0 call reply) refl
 
 -- what messages show does not change where a brick keeps what it is now, and has the calls that it had
 shows_kept : (w : World) (me : BrickId) (node : Node) → ((i k : ℕ) → ((kept_world w me node).nodes i).calls k ≡ (w.nodes i).calls k) → MessagesShow w

@@ -15,6 +15,7 @@ use Rattle.protocol.specs.Coordinators.{Coordinator, Next, Ignores, Waits, Sends
 use Rattle.protocol.specs.Proposals.{Proposal, Voting, Ignored, Waited, Asks, Ended, voted}
 use Rattle.protocol.specs.Nodes.{Node, NodeStep, no_step, with_known, with_round, known_after, fresh_stamp, dropping, with_learnt, node_taught, node_taught_by, may_teach, node_learnt, carried_out, carried_ballot, replied_ballot, replied_at, view_counted, then_taught, replied, lists_fit, heard}
 use Rattle.protocol.proofs.Tables.{put_each}
+use Rattle.protocol_laws.proofs.Proposing.{ballot_each}
 
 -- what is learnt of a view that takes the place of an earlier one
 abbrev pub newly_learnt : View → Learnt
@@ -110,21 +111,10 @@ module _ (setting : Setting) (me from : BrickId) (now group : ℕ) (call : Call)
   carried_rests node known c (Makes d) = record { boot = refl; learnt = refl; ballots = refl; replicas = refl; live = refl }
   carried_rests node known c (Ends answer seen stored) = record { boot = refl; learnt = refl; ballots = refl; replicas = refl; live = refl }
 
-  ballot_rests : (node : Node) (p : Proposal) (next : Voting) → IsAtRest node (carried_ballot setting.layout me node p next).node
-  ballot_rests node p Ignored = at_rest node
-  ballot_rests node p (Waited q) = record { boot = refl; learnt = refl; ballots = refl; replicas = refl; live = refl }
-  ballot_rests node p (Asks q) = record { boot = refl; learnt = refl; ballots = refl; replicas = refl; live = refl }
-  ballot_rests node p (Ended ended answer) = record { boot = refl; learnt = refl; ballots = refl; replicas = refl; live = refl }
-
   pub replied_rests : (node : Node) (found : Option Coordinator) → IsAtRest node (replied_at setting me now from node call reply found).node
-  replied_rests node None = proposed_rests node.proposal
-    where
-      proposed_rests : (z : Option Proposal)
-          → IsAtRest node (replied_ballot setting.layout me from (with_known node (known_after node.known reply)) call reply z).node
-      proposed_rests None = record { boot = refl; learnt = refl; ballots = refl; replicas = refl; live = refl }
-      proposed_rests (Some p) =
-          (let rests = ballot_rests (with_known node (known_after node.known reply)) p (voted setting.layout.bricks p from call reply) in
-          record { boot = rests.boot; learnt = rests.learnt; ballots = rests.ballots; replicas = rests.replicas; live = rests.live })
+  replied_rests node None =
+      ballot_each (λ (step : NodeStep). IsAtRest node step.node) setting.layout me from (with_known node (known_after node.known reply)) call reply node.proposal
+      (λ seq round proposal packets reports more are. record { boot = refl; learnt = refl; ballots = refl; replicas = refl; live = refl })
   replied_rests node (Some c) =
       carried_rests node (known_after node.known reply) c
       (on_reply setting.layout.block setting.code (fresh_stamp me c.call.view now node.boot (known_after node.known reply)) c from call reply)

@@ -1,7 +1,7 @@
 -- A member's vote on a ballot: it refuses, and keeps what it kept of ballots, or it promises to the ballot, and keeps a list that it accepted, or the one that it
 -- is asked to accept.
 use Rattle.std.specs.Option.{option_map}
-use Rattle.std.proofs.Common.{◌≡◌, ℕ, ◌<◌, true, false, nat_lt, ltb-true, ltb-false, ◌≤◌, ◌^◌, ◌-◌, List, Option, Some, None, is_some, refl, ap}
+use Rattle.std.proofs.Common.{◌≡◌, ◌+◌, ℕ, ◌<◌, true, false, nat_lt, ltb-true, ltb-false, ◌≤◌, ◌^◌, ◌-◌, List, Option, Some, None, is_some, refl, ap, subst}
 use Rattle.std.proofs.lemmas.Bool.{cond_both, and_parts, and_from}
 use Rattle.std.proofs.lemmas.Option.{same_Some}
 use Rattle.fab_base.specs.Stamps.{ballot_below}
@@ -9,11 +9,11 @@ use Rattle.fab_base.specs.declared.identities.BrickId.{BrickId}
 use Rattle.fab_base.specs.declared.stamps.Ballot.{Ballot}
 use Rattle.messages.specs.declared.calls.Call.{Call}
 use Rattle.messages.specs.declared.replies.Reply.{Reply}
-use Rattle.messages.specs.declared.replies.Reply.TheVariants.{Outbid, NotSynced}
+use Rattle.messages.specs.declared.replies.Reply.TheVariants.{Moved, Promise, Accepted, Outbid, NotSynced}
 use Rattle.synod_laws.specs.Synods.{Kept, last_of}
 use Rattle.protocol.specs.Views.{Learnt}
-use Rattle.protocol.specs.Ballots.{Voted, moved_to, outbidding, granting, unless_barred, voting}
-use Rattle.protocol.specs.Nodes.{Node, put, view_at, has_accepted, vote_at}
+use Rattle.protocol.specs.Ballots.{choice_of, Voted, moved_to, outbidding, granting, unless_barred, voting}
+use Rattle.protocol.specs.Nodes.{Node, put, view_at, has_accepted, moved_at, vote_at}
 use Rattle.protocol.proofs.Tables.{put_each}
 
 -- the vote of a member: it has learnt a later view, or does not know that the view is synced, or has promised to a greater ballot, or grants it
@@ -21,17 +21,23 @@ pub vote_each : (P : Voted → Type 0) (view : ℕ) (learnt : Learnt) (kept : Ke
     → (view < learnt.view.number.0 → P (record { reply = moved_to learnt.view; kept = kept }))
     → (learnt.view.number.0 ≤ view → learnt.synced ≡ false → P (record { reply = NotSynced; kept = kept }))
     → ((greater : Ballot) → learnt.view.number.0 ≤ view → outbidding kept ballot ≡ Some greater → P (record { reply = Outbid greater; kept = kept }))
-    → P (granting kept ballot asks) → P (voting view learnt kept ballot asks)
+    → P (record { reply = Promise (option_map choice_of (last_of kept)); kept = Some (ballot, last_of kept) })
+    → ((members : List BrickId) → asks ≡ Some members → P (record { reply = Accepted; kept = Some (ballot, Some (ballot, members)) }))
+    → P (voting view learnt kept ballot asks)
 unfolding voting
-vote_each P view learnt kept ballot asks moved unsynced outbid granted =
+vote_each P view learnt kept ballot asks moved unsynced outbid promised accepted =
     cond_both (nat_lt view learnt.view.number.0) (Some (moved_to learnt.view)) _ (λ (z : Option Reply). P (unless_barred z kept (granting kept ballot asks)))
     (λ later. moved (ltb-true view learnt.view.number.0 later))
     (λ isnt. cond_both learnt.synced _ (Some NotSynced) (λ (z : Option Reply). P (unless_barred z kept (granting kept ballot asks)))
     (λ synced. unless_outbid (ltb-false view learnt.view.number.0 isnt) (outbidding kept ballot) refl) (λ not. unsynced (ltb-false view learnt.view.number.0 isnt) not))
   where
+    granted : (z : Option (List BrickId)) → asks ≡ z → P (granting kept ballot z)
+    granted None is = promised
+    granted (Some members) is = accepted members is
+
     unless_outbid : learnt.view.number.0 ≤ view → (z : Option Ballot) → outbidding kept ballot ≡ z
         → P (unless_barred (option_map (λ greater. Outbid greater) z) kept (granting kept ballot asks))
-    unless_outbid most None is = granted
+    unless_outbid most None is = granted asks refl
     unless_outbid most (Some greater) is = outbid greater most is
 
 -- the ballot that is told was promised to
@@ -49,15 +55,11 @@ outbid_promised (Some (promised, accepted)) ballot greater is = (accepted, ap (�
 abbrev pub StaysAccepted : Kept (List BrickId) → Kept (List BrickId) → Type 0
 StaysAccepted kept later = is_some (last_of kept) ≡ true → is_some (last_of later) ≡ true
 
-granting_stays : (kept : Kept (List BrickId)) (ballot : Ballot) (asks : Option (List BrickId)) → StaysAccepted kept (granting kept ballot asks).kept
-granting_stays kept ballot None accepted = accepted
-granting_stays kept ballot (Some members) accepted = refl
-
 vote_stays : (view : ℕ) (learnt : Learnt) (kept : Kept (List BrickId)) (ballot : Ballot) (asks : Option (List BrickId))
     → StaysAccepted kept (voting view learnt kept ballot asks).kept
 vote_stays view learnt kept ballot asks =
     vote_each (λ (v : Voted). StaysAccepted kept v.kept) view learnt kept ballot asks (λ later has. has) (λ most not has. has) (λ greater most is has. has)
-    (granting_stays kept ballot asks)
+    (λ has. has) (λ members is has. refl)
 
 -- the brick with what a vote leaves of ballots
 abbrev pub with_vote : Node → Call → Voted → Node
@@ -72,3 +74,16 @@ vote_accepts node call ballot asks g has =
     (put_each (λ h (z : Kept (List BrickId)). is_some (last_of (node.ballots h)) ≡ true → is_some (last_of z) ≡ true) node.ballots call.group.0
     (vote_at node call ballot asks).kept
     (vote_stays call.view.0 (node.learnt call.group.0) (node.ballots call.group.0) ballot asks) (λ h other accepted. accepted) g parts.1)
+
+-- a brick tells that it serves the view of a call no more: it has learnt a later view, or accepted a list to follow it
+pub moved_each : (P : Reply → Type 0) (node : Node) (call : Call) (moved : Reply)
+    → (call.view.0 < view_at node call.group.0 → P (moved_to (node.learnt call.group.0).view))
+    → (view_at node call.group.0 ≤ call.view.0 → has_accepted node call.group.0 ≡ true → P (Moved (record { 0 = call.view.0 + 1 }) None))
+    → moved_at node call ≡ Some moved → P moved
+moved_each P node call moved later accepted =
+    cond_both (nat_lt call.view.0 (view_at node call.group.0)) (Some (moved_to (node.learnt call.group.0).view)) _
+    (λ (z : Option Reply). z ≡ Some moved → P moved)
+    (λ above is. subst P (same_Some _ moved is) (later (ltb-true call.view.0 (view_at node call.group.0) above)))
+    (λ isnt. cond_both (has_accepted node call.group.0) (Some (Moved (record { 0 = call.view.0 + 1 }) None)) None (λ (z : Option Reply). z ≡ Some moved → P moved)
+    (λ has is. subst P (same_Some _ moved is) (accepted (ltb-false call.view.0 (view_at node call.group.0) isnt) has))
+    (λ free is. absurd (let never : None ≡ Some moved = is in cc)))
