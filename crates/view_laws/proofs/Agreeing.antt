@@ -181,7 +181,7 @@ module _ (layout : Layout) (v : ViewWorld) (i : ℕ) (next : Node) (agreed : Agr
   agrees_by_brick g e = record { votes = λ k b a is. agreed.proposed k g e b a is; safe = λ b a is lower below. inr (omega arith) }
 
   -- what a brick has accepted last is noted
-  last_noted : (g e : ℕ) (c : Ballot) (members : List BrickId) → accepted_in (v.nodes i) g e ≡ Some (c, members) → v.votes i g e c ≡ Some members
+  pub last_noted : (g e : ℕ) (c : Ballot) (members : List BrickId) → accepted_in (v.nodes i) g e ≡ Some (c, members) → v.votes i g e c ≡ Some members
   last_noted g e c members =
       cond_both (nat_eq e (view_at (v.nodes i) g)) (last_of ((v.nodes i).ballots g)) None
       (λ (z : Option (Ballot × List BrickId)). z ≡ Some (c, members) → v.votes i g e c ≡ Some members)

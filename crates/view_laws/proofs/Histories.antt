@@ -10,6 +10,7 @@ use Rattle.fab_base.specs.declared.identities.BrickId.{BrickId}
 use Rattle.fab_base.specs.declared.identities.GroupId.{GroupId}
 use Rattle.fab_base.specs.declared.member_lists.View.{View}
 use Rattle.fab_base.specs.declared.stamps.Ballot.{Ballot}
+use Rattle.fab_base.specs.Stamps.{ballot_below}
 use Rattle.fab_base.specs.Layouts.{Layout, Group, group_of, first_view, brick_at}
 use Rattle.messages.specs.declared.calls.Call.{Call}
 use Rattle.messages.specs.declared.packets.Message.{Message}
@@ -133,12 +134,21 @@ pub record IsDecided (layout : Layout) (v : ViewWorld) (g : ℕ) (view : View) :
 abbrev pub IsTaught : Layout → ViewWorld → ℕ → View → Type 0
 IsTaught layout v g view = IsNamed layout v.packets g view × IsDecided layout v g view
 
+-- a greater ballot is told to a request that named a lower one
+pub record OutbidSays (packets : List Packet) (from to : ℕ) (call : Call) (greater : Ballot) : Type 0 where
+  pub request : Request
+  pub ballot : Ballot
+  pub asked : ballot_asked request ≡ Some ballot
+  pub sent : IsSent packets (record { from = record { 0 = to }; to = record { 0 = from }; message = Message.Request call request })
+  pub below : ballot_below ballot greater ≡ true
+
 -- what a request says: a list to accept was proposed so
 abbrev pub RequestSays : ViewWorld → Call → Request → Type 0
 RequestSays v call (Request.Accept ballot members) = (history v call.group.0 call.view.0).proposals ballot ≡ Some members
 RequestSays v call request = Unit {0}
 
--- what a reply says of the ballot of its call: it is promised to, or a list was accepted under it; and a later view that it tells is taught
+-- What a reply says of the ballot of its call: it is promised to, or a list was accepted under it, or the ballot that is told is greater. A later view that it tells
+-- is taught, or else the brick has accepted a list to follow the call's.
 abbrev pub ReplySays : Layout → ViewWorld → ℕ → ℕ → Call → Reply → Type 0
 ReplySays layout v from to call (Reply.Promise accepted) =
     (b : Ballot) × (ballot_called v.packets to call.boot call.seq ≡ Some b)
@@ -148,6 +158,9 @@ ReplySays layout v from to call Reply.Accepted =
     × (v.votes from call.group.0 call.view.0 b ≡ Some members)
 ReplySays layout v from to call (Reply.Moved number (Some lineage)) =
     IsTaught layout v call.group.0 (record { number = number; members = lineage.members; prior = lineage.prior })
+ReplySays layout v from to call (Reply.Moved number None) =
+    (number.0 ≡ call.view.0 + 1) × (b : Ballot) × (members : List BrickId) × (v.votes from call.group.0 call.view.0 b ≡ Some members)
+ReplySays layout v from to call (Reply.Outbid greater) = OutbidSays v.packets from to call greater
 ReplySays layout v from to call reply = Unit {0}
 
 -- what a message says
@@ -227,7 +240,8 @@ module _ (layout : Layout) (v next : ViewWorld) (extends : Extends layout v next
     extends.called to call.boot call.seq says.0 says.2,
     (extends.grows call.group.0 call.view.0).votes from says.0 says.1 says.3,
   )
-  reply_stays from to call (Reply.Moved number None) says = tt
+  reply_stays from to call (Reply.Moved number None) says =
+      (says.0, says.1, says.2, (extends.grows call.group.0 call.view.0).votes from says.1 says.2 says.3)
   reply_stays from to call (Reply.Moved number (Some lineage)) says =
       taught_stays layout v next call.group.0 (record { number = number; members = lineage.members; prior = lineage.prior }) extends says
   reply_stays from to call (Reply.Found order newest) says = tt
@@ -239,7 +253,8 @@ module _ (layout : Layout) (v next : ViewWorld) (extends : Extends layout v next
   reply_stays from to call (Reply.Full live) says = tt
   reply_stays from to call (Reply.Old found) says = tt
   reply_stays from to call Reply.Retired says = tt
-  reply_stays from to call (Reply.Outbid ballot) says = tt
+  reply_stays from to call (Reply.Outbid greater) says =
+      record { request = says.request; ballot = says.ballot; asked = says.asked; sent = extends.sent _ says.sent; below = says.below }
   reply_stays from to call Reply.NotSynced says = tt
 
   pub message_stays : (from to : ℕ) (message : Message) → MessageSays layout v from to message → MessageSays layout next from to message

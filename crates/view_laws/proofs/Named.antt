@@ -1,8 +1,8 @@
 -- A view has one successor, whatever names the members of a later view names the list that was chosen, and the end of a proposal shows its cause.
-use Rattle.std.proofs.Common.{◌≡◌, ℕ, ◌+◌, false, ⊎_elim, List, [], ◌∷◌, length, map, Option, Some, None, refl, sym, ap, ◌∙◌, subst, arith, nat_eq}
+use Rattle.std.proofs.Common.{◌≡◌, ℕ, zero, suc, ◌+◌, true, false, ◌⊎◌, inl, inr, ⊎_elim, List, [], ◌∷◌, length, map, Option, Some, None, refl, sym, ap, ◌∙◌, subst, arith, nat_eq}
 use Rattle.std.specs.Prelude.{slice_get}
 use Rattle.std.specs.List.{IsDistinct, AllByRecursion}
-use Rattle.std.proofs.lemmas.Bool.{or_parts}
+use Rattle.std.proofs.lemmas.Bool.{cond_both, or_parts}
 use Rattle.std.proofs.lemmas.Option.{same_Some}
 use Rattle.fab_base.specs.declared.identities.BrickId.{BrickId}
 use Rattle.fab_base.specs.declared.identities.GroupId.{GroupId}
@@ -25,7 +25,7 @@ use Rattle.protocol.specs.Proposals.{promises, lowest, moved_view, unsynced_bric
 use Rattle.protocol.specs.Worlds.{World, first_world, run}
 use Rattle.view_laws.specs.Successors.{WasChosen, WasReported, Succeeds, OneSuccessorIn, OneSuccessor, NamesAreChosenIn, NamesAreChosen}
 use Rattle.view_laws.specs.Ends.{voices_of, ShowsAnswer, ProposalsShowIn, ProposalsShow}
-use Rattle.view_laws.proofs.Histories.{view_world, group_named, history, seated, IsDecided, IsTaught, name_has_number, name_of_group, kept_is, known_taught}
+use Rattle.view_laws.proofs.Histories.{view_world, group_named, history, seated, ballot_asked, ReplySays, IsDecided, IsTaught, name_has_number, name_of_group, kept_is, known_taught}
 use Rattle.view_laws.proofs.Agreeing.{Agreed}
 use Rattle.view_laws.proofs.Deciding.{agrees_seated}
 use Rattle.view_laws.proofs.Agreements.{always_agreed}
@@ -176,6 +176,8 @@ module _ (setting : Setting) (sound : IsSound setting) (w : World) (agreed : Agr
       taught = λ from to number view sent. taught_succeeds number.0 view (agreed.says sent.0 _ sent.1);
       moved = λ from to call later lineage sent.
           taught_succeeds call.group.0 (record { number = later; members = lineage.members; prior = lineage.prior }) (agreed.says sent.0 _ sent.1);
+      accepted = λ from to call later sent.
+          let says = agreed.says sent.0 _ sent.1 in (says.0, record { ballot = says.1; members = says.2; accepted = says.3 });
       decided = decided_succeeds;
       learnt = λ brick number above.
           taught_succeeds number ((w.nodes brick).learnt number).view
@@ -200,40 +202,101 @@ module _ (setting : Setting) (sound : IsSound setting) (w : World) (agreed : Agr
     seats_are [] = refl
     seats_are (c ∷ voices) = ap (λ (l : List ℕ). c.seat ∷ l) (seats_are voices)
 
+    -- of two ballots the greater is one of them
+    greater_is : (a b : Option Ballot) (t : Ballot) → greater_ballot a b ≡ Some t → (a ≡ Some t) ⊎ (b ≡ Some t)
+    greater_is None b t is = inr is
+    greater_is (Some a) None t is = inl is
+    greater_is (Some a) (Some b) t is =
+        cond_both (ballot_below a b) (Some b) (Some a) (λ (o : Option Ballot). o ≡ Some t → (Some a ≡ Some t) ⊎ (Some b ≡ Some t)) (λ lower e. inr e) (λ isnt e. inl e) is
+
+    -- the greatest ballot is told by a reply
+    outbid_told : (voices : List Counted) (t : Ballot) → greatest_outbid voices ≡ Some t
+        → (k : ℕ) × (c : Counted) × (slice_get voices k ≡ Some c) × (outbid_ballot c ≡ Some t)
+    outbid_told [] t is = absurd (let never : None ≡ Some t = is in cc)
+    outbid_told (c ∷ voices) t is = ⊎_elim
+        (λ (here : outbid_ballot c ≡ Some t). (0, c, refl, here))
+        (λ (there : greatest_outbid voices ≡ Some t). let found = outbid_told voices t there in (suc found.0, found.1, found.2, found.3))
+        (greater_is (outbid_ballot c) (greatest_outbid voices) t is)
+
+    -- that reply tells it
+    outbid_reply : (seat : ℕ) (brick : BrickId) (said : Reply) (t : Ballot) → outbid_ballot (record { seat = seat; brick = brick; reply = said }) ≡ Some t
+        → said ≡ Reply.Outbid t
+    outbid_reply seat brick (Reply.Outbid ballot) t is = ap (λ (z : Ballot). Reply.Outbid z) (same_Some ballot t is)
+    outbid_reply seat brick (Reply.Found order newest) t is = cc
+    outbid_reply seat brick Reply.Ordered t is = cc
+    outbid_reply seat brick (Reply.OrderedRead found) t is = cc
+    outbid_reply seat brick Reply.Stored t is = cc
+    outbid_reply seat brick (Reply.Behind newest) t is = cc
+    outbid_reply seat brick (Reply.Later stamp) t is = cc
+    outbid_reply seat brick (Reply.Full live) t is = cc
+    outbid_reply seat brick (Reply.Moved view lineage) t is = cc
+    outbid_reply seat brick (Reply.Old found) t is = cc
+    outbid_reply seat brick Reply.Retired t is = cc
+    outbid_reply seat brick (Reply.Promise accepted) t is = cc
+    outbid_reply seat brick Reply.Accepted t is = cc
+    outbid_reply seat brick Reply.NotSynced t is = cc
+
+    -- the ballot that a request names, by either word
+    names_ballot : (request : Request) → ballot_in request ≡ ballot_asked request
+    names_ballot (Request.Read want) = refl
+    names_ballot (Request.Order t) = refl
+    names_ballot (Request.OrderRead t look want) = refl
+    names_ballot (Request.Write t block) = refl
+    names_ballot (Request.Modify t base j delta) = refl
+    names_ballot (Request.Collect t) = refl
+    names_ballot (Request.OldRead bound) = refl
+    names_ballot (Request.Prepare ballot) = refl
+    names_ballot (Request.Accept ballot members) = refl
+
+    -- the greatest ballot that replies to a phase tell outbids it
+    outbid_shows : (brick : BrickId) (call : Call) (voices : List Counted) (t : Ballot)
+        → ((k : ℕ) (c : Counted) → slice_get voices k ≡ Some c → WasSent w (record { from = c.brick; to = brick; message = Message.Reply call c.reply }))
+        → greatest_outbid voices ≡ Some t → IsOutbid w brick call t
+    outbid_shows brick call voices t sent is =
+        let found = outbid_told voices t is in
+        let c : Counted = found.1 in
+        let packet = sent found.0 c found.2 in
+        let says : ReplySays setting.layout (view_world w) c.brick.0 brick.0 call (Reply.Outbid t)
+            = subst (λ (z : Reply). ReplySays setting.layout (view_world w) c.brick.0 brick.0 call z) (outbid_reply c.seat c.brick c.reply t found.3)
+            (agreed.says packet.0 _ packet.1) in
+        record { to = c.brick; request = says.request; ballot = says.ballot; asked = names_ballot says.request ∙ says.asked; sent = says.sent; below = says.below }
+
     -- how replies refuse, they show
-    refusal_shows : (call : Call) (group : Group) (voices : List Counted) (a : Option (ℕ × ViewNo)) (b : Option (ℕ × BrickId)) (c : Option Ballot)
+    refusal_shows : (brick : BrickId) (call : Call) (group : Group) (voices : List Counted)
+        → ((t : Ballot) → greatest_outbid voices ≡ Some t → IsOutbid w brick call t) → (a : Option (ℕ × ViewNo)) (b : Option (ℕ × BrickId)) (c : Option Ballot)
         (ended : ViewAnswer) → lowest moved_view voices ≡ a → lowest unsynced_brick voices ≡ b → greatest_outbid voices ≡ c → answer_of a b c ≡ Some ended
-        → ShowsAnswer w call group voices ended
+        → ShowsAnswer w brick call group voices ended
     unfolding answer_of
-    refusal_shows call group voices None None None ended moved unsynced outbid is = absurd (let never : None ≡ Some ended = is in cc)
-    refusal_shows call group voices None None (Some t) ended moved unsynced outbid is =
-        subst (λ (z : ViewAnswer). ShowsAnswer w call group voices z) (same_Some (answer.Outbid t) ended is) (moved, unsynced, outbid)
-    refusal_shows call group voices None (Some t) c ended moved unsynced outbid is =
-        subst (λ (z : ViewAnswer). ShowsAnswer w call group voices z) (same_Some (answer.NotSynced t.1) ended is) (t.0, moved, unsynced)
-    refusal_shows call group voices (Some t) b c ended moved unsynced outbid is =
-        subst (λ (z : ViewAnswer). ShowsAnswer w call group voices z) (same_Some (answer.Moved t.1) ended is) (t.0, moved)
+    refusal_shows brick call group voices outbids None None None ended moved unsynced outbid is = absurd (let never : None ≡ Some ended = is in cc)
+    refusal_shows brick call group voices outbids None None (Some t) ended moved unsynced outbid is =
+        subst (λ (z : ViewAnswer). ShowsAnswer w brick call group voices z) (same_Some (answer.Outbid t) ended is) (moved, unsynced, outbid, outbids t outbid)
+    refusal_shows brick call group voices outbids None (Some t) c ended moved unsynced outbid is =
+        subst (λ (z : ViewAnswer). ShowsAnswer w brick call group voices z) (same_Some (answer.NotSynced t.1) ended is) (t.0, moved, unsynced)
+    refusal_shows brick call group voices outbids (Some t) b c ended moved unsynced outbid is =
+        subst (λ (z : ViewAnswer). ShowsAnswer w brick call group voices z) (same_Some (answer.Moved t.1) ended is) (t.0, moved)
 
     -- the cause of an end
     cause_shows : (brick : BrickId) (number : GroupId) (call : Call) (ended : ViewAnswer)
         → (end : EndSays setting.layout (view_world w) (voices_of w brick call) brick.0 number call ended)
-        → ShowsAnswer w call end.group (voices_of w brick call) ended
+        → ShowsAnswer w brick call end.group (voices_of w brick call) ended
     unfolding answer_of
     cause_shows brick number call ended end = ⊎_elim
         (λ (refused : refused_by (voices_of w brick call) ≡ Some ended).
-        refusal_shows call end.group (voices_of w brick call) (lowest moved_view (voices_of w brick call)) (lowest unsynced_brick (voices_of w brick call))
+        refusal_shows brick call end.group (voices_of w brick call)
+        (λ t is. outbid_shows brick call (voices_of w brick call) t end.sent is) (lowest moved_view (voices_of w brick call)) (lowest unsynced_brick (voices_of w brick call))
         (greatest_outbid (voices_of w brick call)) ended refl refl refl refused)
         (λ (decided : DecidedSays setting.layout (view_world w) (voices_of w brick call) number.0 end.view end.group ended).
         let view : call.view.0 ≡ end.view.number.0 = ap (λ (z : ViewNo). z.0) end.view_is in
         let chosen : WasChosen w number.0 end.view.number.0 end.group decided.members
         = record { ballot = decided.ballot; seats = decided.chosen.0; many = decided.chosen.1; accepted = decided.chosen.2 } in
-        let shows : ShowsAnswer w call end.group (voices_of w brick call) (answer.Decided (record { 0 = end.view.number.0 + 1 }) decided.members)
+        let shows : ShowsAnswer w brick call end.group (voices_of w brick call) (answer.Decided (record { 0 = end.view.number.0 + 1 }) decided.members)
         = record {
           next_is = ap (λ (z : ℕ). z + 1) (sym view);
           accepted = decided.accepted;
           chosen = subst (λ (z : GroupId). WasChosen w z.0 call.view.0 end.group decided.members) (sym end.own)
               (subst (λ (z : ℕ). WasChosen w number.0 z end.group decided.members) (sym view) chosen);
         } in
-        subst (λ (z : ViewAnswer). ShowsAnswer w call end.group (voices_of w brick call) z) (sym decided.is) shows)
+        subst (λ (z : ViewAnswer). ShowsAnswer w brick call end.group (voices_of w brick call) z) (sym decided.is) shows)
         end.cause
 
     pub proposals_show : ProposalsShowIn setting.layout w

@@ -1,5 +1,5 @@
 -- The successors of views: a quorum of a view's members chooses the list that follows it, and from then on the view is closed.
-use Rattle.std.specs.Prelude.{◌≡◌, ℕ, ◌+◌, ◌<◌, ◌≤◌, Bool, true, false, nat_eq, nat_lt, ◌&&◌, ◌||◌, ◌⊎◌, List, ◌++◌, length, Some, slice_get}
+use Rattle.std.specs.Prelude.{◌≡◌, ℕ, ◌+◌, ◌<◌, ◌≤◌, Bool, true, false, nat_eq, nat_lt, ◌&&◌, ◌||◌, ◌⊎◌, List, ◌++◌, length, Some, None, slice_get}
 use Rattle.fab_base.specs.declared.identities.BrickId.{BrickId}
 use Rattle.fab_base.specs.declared.identities.GroupId.{GroupId}
 use Rattle.fab_base.specs.declared.identities.ViewNo.{ViewNo}
@@ -30,6 +30,12 @@ pub record WasChosen (w : World) (number view : ℕ) (group : Group) (members : 
   pub accepted : (seat : ℕ) → seat < length group.members → seats seat ≡ true
       → w.choices.votes (brick_at group seat) number view ballot ≡ Some members
 
+-- a brick has accepted a list to follow a view of a group, under some ballot
+pub record HasVoted (w : World) (number view brick : ℕ) : Type 0 where
+  pub ballot : Ballot
+  pub members : List BrickId
+  pub accepted : w.choices.votes brick number view ballot ≡ Some members
+
 -- a brick reported this
 abbrev pub WasReported : World → BrickId → Report → Type 0
 WasReported w brick reported = (k : ℕ) × (slice_get w.choices.reports k ≡ Some (brick, reported))
@@ -59,13 +65,17 @@ abbrev pub OneSuccessor : Type 0
 OneSuccessor = (setting : Setting) (events : List Event) → IsSound setting → OneSuccessorIn setting.layout (run setting events (first_world setting.layout))
 
 -- Whatever names the members of a later view than view 1 names those that were chosen to follow the view before: each message that teaches a view, each reply that
--- tells of one with its members, each answer that a list was decided, and what a brick has learnt.
+-- tells of one with its members, each answer that a list was decided, and what a brick has learnt. A reply that tells of the next view without its members is of a
+-- brick that has accepted a list to be that.
 pub record NamesAreChosenIn (layout : Layout) (w : World) : Type 0 where
   pub taught : (from to : BrickId) (number : GroupId) (view : View)
       → WasSent w (record { from = from; to = to; message = Message.Learn number view }) → Succeeds layout w number.0 view
   pub moved : (from to : BrickId) (call : Call) (later : ViewNo) (lineage : Lineage)
       → WasSent w (record { from = from; to = to; message = Message.Reply call (Reply.Moved later (Some lineage)) })
       → Succeeds layout w call.group.0 (record { number = later; members = lineage.members; prior = lineage.prior })
+  pub accepted : (from to : BrickId) (call : Call) (later : ViewNo)
+      → WasSent w (record { from = from; to = to; message = Message.Reply call (Reply.Moved later None) })
+      → (later.0 ≡ call.view.0 + 1) × HasVoted w call.group.0 call.view.0 from.0
   pub decided : (brick : BrickId) (number : GroupId) (call : Call) (next : ViewNo) (members : List BrickId)
       → WasReported w brick (report.View number (Some call) (answer.Decided next members))
       → (next.0 ≡ call.view.0 + 1)
