@@ -9,8 +9,12 @@ use Rattle.fab_base.specs.declared.identities.GroupId.{GroupId}
 use Rattle.fab_base.specs.declared.identities.ViewNo.{ViewNo}
 use Rattle.fab_base.specs.declared.member_lists.View.{View}
 use Rattle.fab_base.specs.declared.stamps.Ballot.{Ballot}
+use Rattle.fab_base.specs.Stamps.{ballot_below}
 use Rattle.fab_base.specs.Layouts.{Group, brick_at}
 use Rattle.messages.specs.declared.calls.Call.{Call}
+use Rattle.messages.specs.declared.packets.Message.{Message}
+use Rattle.messages.specs.declared.replies.Reply.{Reply}
+use Rattle.messages.specs.declared.requests.Request.{Request}
 use Rattle.quorum.specs.Quorums.{quorum_of}
 use Rattle.quorum.proofs.Counts.{seat_in as is_in, AreDistinctBelow, count_some}
 use Rattle.synod_laws.specs.Synods.{IsMajority, seats_of}
@@ -21,10 +25,11 @@ use Rattle.protocol.specs.declared.tellings.ViewAnswer.{ViewAnswer}
 use Rattle.protocol.specs.declared.tellings.ViewAnswer.TheVariants as answer
 use Rattle.protocol.specs.Settings.{Setting, IsSound}
 use Rattle.protocol.specs.Views.{group_in, views_in}
-use Rattle.protocol.specs.Proposals.{promises, lowest, moved_view, unsynced_brick, greatest_outbid, refused_by}
+use Rattle.protocol.specs.Proposals.{promises, lowest, moved_view, unsynced_brick, outbid_ballot, greater_ballot, greatest_outbid, refused_by}
 use Rattle.protocol.specs.Worlds.{World, first_world, run}
+use Rattle.view_laws.specs.Following.{WasSent}
 use Rattle.view_laws.specs.Successors.{WasChosen, WasReported, Succeeds, OneSuccessorIn, OneSuccessor, NamesAreChosenIn, NamesAreChosen}
-use Rattle.view_laws.specs.Ends.{voices_of, ShowsAnswer, ProposalsShowIn, ProposalsShow}
+use Rattle.view_laws.specs.Ends.{voices_of, ballot_in, IsOutbid, ShowsAnswer, ProposalsShowIn, ProposalsShow}
 use Rattle.view_laws.proofs.Histories.{view_world, group_named, history, seated, ballot_asked, ReplySays, IsDecided, IsTaught, name_has_number, name_of_group, kept_is, known_taught}
 use Rattle.view_laws.proofs.Agreeing.{Agreed}
 use Rattle.view_laws.proofs.Deciding.{agrees_seated}
