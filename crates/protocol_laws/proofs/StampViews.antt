@@ -18,7 +18,7 @@ use Rattle.messages.specs.declared.replies.Reply.{Reply}
 use Rattle.messages.specs.declared.requests.Request.{Request}
 use Rattle.messages.specs.declared.requests.Version.{Version}
 use Rattle.protocol.specs.Settings.{Setting, Code}
-use Rattle.protocol.specs.Views.{Learnt, view_of, is_later, view_told, floor_of}
+use Rattle.protocol.specs.Views.{Learnt, first_learnt, view_of, is_later, view_told, floor_of}
 use Rattle.protocol.specs.Ballots.{Voted}
 use Rattle.protocol.specs.Proposals.{Proposal}
 use Rattle.fab_base.specs.declared.identities.GroupId.{GroupId}
@@ -51,11 +51,14 @@ pub record PartIsOf (e : ℕ) (part : Replica) : Type 0 where
 abbrev pub CallIsOf : Coordinator → Type 0
 CallIsOf c = c.stamp.view.0 ≡ c.call.view.0
 
--- a brick
+-- A brick: its parts are of their views, those of views that it has not learnt, and of none, are fresh, and of view 1 it has learnt what all bricks begin with;
+-- and its open operations are of their calls' views.
 pub record NodeViews (layout : Layout) (node : Node) : Type 0 where
   pub views : (g : ℕ) → 1 ≤ view_at node g
   pub parts : (g e s : ℕ) → PartIsOf e (node.replicas g e s)
   pub fresh : (g e s : ℕ) → view_at node g < e → node.replicas g e s ≡ fresh_replica layout.block e
+  pub zero : (g s : ℕ) → node.replicas g 0 s ≡ fresh_replica layout.block 0
+  pub first : (g : ℕ) → view_at node g ≡ 1 → node.learnt g ≡ first_learnt layout g
   pub calls : (k : ℕ) (c : Coordinator) → node.calls k ≡ Some c → CallIsOf c
 
 -- a request asks at a stamp of its call's view
@@ -205,6 +208,11 @@ requested_views setting me from node call request has asks =
         fresh = λ g e s later.
             parts_each (λ h v r x. view_at node h < v → x ≡ fresh_replica setting.layout.block v) node call reaction
             (λ above. (let view = served.view in absurd (omega (arith, view, above)))) (λ h v r above. has.fresh h v r above) g e s later;
+        zero = λ g s.
+            parts_each (λ h v r x. v ≡ 0 → x ≡ fresh_replica setting.layout.block v) node call reaction
+            (λ none. (let view = served.view in let least = has.views call.group.0 in absurd (omega (arith, view, least, none))))
+            (λ h v r none. subst (λ (e : ℕ). node.replicas h e r ≡ fresh_replica setting.layout.block e) (sym none) (has.zero h r)) g 0 s refl;
+        first = has.first;
         calls = has.calls;
       };
       packets = each_reply PacketIsOf me from call reaction.reply (λ r is. tt);
@@ -212,7 +220,7 @@ requested_views setting me from node call request has asks =
     (λ group ballot asked here.
     let vote : Voted = vote_at node call ballot asked in
     record {
-      node = record { views = has.views; parts = has.parts; fresh = has.fresh; calls = has.calls };
+      node = record { views = has.views; parts = has.parts; fresh = has.fresh; zero = has.zero; first = has.first; calls = has.calls };
       packets = each_reply PacketIsOf me from call (Some vote.reply) (λ r is. tt);
     })
 
@@ -230,6 +238,11 @@ learnt_views layout g node view later has =
           (λ h e s. put_each (λ i (l : Learnt). l.view.number.0 < e → node.replicas i e s ≡ fresh_replica layout.block e) node.learnt g (newly_learnt view)
           (λ less. has.fresh g e s (omega (arith, above, less))) (λ i other less. has.fresh i e s less) h)
           (λ e s before less. refl);
+      zero = λ h s.
+          dropped_each (λ i e r x. e ≡ 0 → x ≡ fresh_replica layout.block e) layout.block g (view.number.0 - 1) node
+          (λ i e r none. subst (λ (f : ℕ). node.replicas i f r ≡ fresh_replica layout.block f) (sym none) (has.zero i r)) (λ e r before none. refl) h 0 s refl;
+      first = put_each (λ h (l : Learnt). l.view.number.0 ≡ 1 → l ≡ first_learnt layout h) node.learnt g (newly_learnt view)
+          (λ one. absurd (omega (arith, above, least, one))) (λ h other. has.first h);
       calls = has.calls;
     }
 
@@ -241,7 +254,7 @@ taught_views layout g node view has =
 -- a brick whose proposal, call number, known time or known round is another
 pub beside_views : (layout : Layout) (node : Node) (seq known round : ℕ) (proposal : Option Proposal) → NodeViews layout node
     → NodeViews layout (record node { seq = seq; known = known; round = round; proposal = proposal })
-beside_views layout node seq known round proposal has = record { views = has.views; parts = has.parts; fresh = has.fresh; calls = has.calls }
+beside_views layout node seq known round proposal has = record { views = has.views; parts = has.parts; fresh = has.fresh; zero = has.zero; first = has.first; calls = has.calls }
 
 -- what is of views asks at no stamp
 ballots_are : (packets : List Packet) → AreOfViews packets → OfEach PacketIsOf packets
@@ -280,6 +293,8 @@ call_put layout node known busy seq call has new = record {
   views = has.views;
   parts = has.parts;
   fresh = has.fresh;
+  zero = has.zero;
+  first = has.first;
   calls = put_each (λ k z. (c : Coordinator) → z ≡ Some c → CallIsOf c) node.calls seq call new (λ k other. has.calls k);
 }
 
@@ -293,7 +308,7 @@ phase_views setting me c is =
 carried_views : (setting : Setting) (me : BrickId) (node : Node) (known : ℕ) (c : Coordinator) (next : Next) → NodeViews setting.layout node
     → NextIsOf next → StepViews setting.layout (carried_out setting me node known c next)
 carried_views setting me node known c Ignores has is =
-    record { node = record { views = has.views; parts = has.parts; fresh = has.fresh; calls = has.calls }; packets = each_none PacketIsOf }
+    record { node = record { views = has.views; parts = has.parts; fresh = has.fresh; zero = has.zero; first = has.first; calls = has.calls }; packets = each_none PacketIsOf }
 carried_views setting me node known c (Waits d) has is =
     record { node = call_put setting.layout node _ _ _ (Some d) has (λ e same. some_call d e is same); packets = each_none PacketIsOf }
 carried_views setting me node known c (Sends d) has is =
@@ -402,6 +417,8 @@ invoked_views setting me now node ask has = in_group (group_at setting.layout no
             views = has.views;
             parts = has.parts;
             fresh = has.fresh;
+            zero = has.zero;
+            first = has.first;
             calls = put_each (λ k z. (d : Coordinator) → z ≡ Some d → CallIsOf d) node.calls (node.seq + 1) (Some c) (λ d is. some_call c d refl is)
                 (λ k other. has.calls k);
           };
@@ -415,6 +432,8 @@ closed_views layout node boot seq known round busy has = record {
   views = has.views;
   parts = has.parts;
   fresh = has.fresh;
+  zero = has.zero;
+  first = has.first;
   calls = λ k c is. absurd (let never : None ≡ Some c = is in cc);
 }
 
@@ -506,6 +525,8 @@ first_views layout = record {
   views = λ g. omega arith;
   parts = λ g e s. fresh_part layout.block e;
   fresh = λ g e s later. refl;
+  zero = λ g s. refl;
+  first = λ g one. refl;
   calls = λ k c is. absurd (let never : None ≡ Some c = is in cc);
 }
 
