@@ -7,6 +7,7 @@ pub mod Closed
 pub mod Closing
 pub mod Deciding
 pub mod Drafting
+pub mod Ended
 pub mod Example
 pub mod Extending
 pub mod FirstTold

@@ -262,8 +262,8 @@ module _ (setting : Setting) (sound : IsSound setting) (w : World) (agreed : Agr
         let c : Counted = found.1 in
         let packet = sent found.0 c found.2 in
         let says : ReplySays setting.layout (view_world w) c.brick.0 brick.0 call (Reply.Outbid t)
-            = subst (λ (z : Reply). ReplySays setting.layout (view_world w) c.brick.0 brick.0 call z) (outbid_reply c.seat c.brick c.reply t found.3)
-            (agreed.says packet.0 _ packet.1) in
+        = subst (λ (z : Reply). ReplySays setting.layout (view_world w) c.brick.0 brick.0 call z) (outbid_reply c.seat c.brick c.reply t found.3)
+        (agreed.says packet.0 _ packet.1) in
         record { to = c.brick; request = says.request; ballot = says.ballot; asked = names_ballot says.request ∙ says.asked; sent = says.sent; below = says.below }
 
     -- how replies refuse, they show

@@ -1,16 +1,17 @@
 -- How proposals of successors end, and what shows it: the replies that counted in the phase in which one ended.
-use Rattle.std.specs.Prelude.{◌≡◌, ℕ, true, ◌+◌, ◌≤◌, nat_eq, List, length, map, Option, Some, None, slice_get}
+use Rattle.std.specs.Prelude.{◌≡◌, ℕ, true, ◌+◌, ◌≤◌, nat_eq, if◌then◌else◌, List, [], ◌∷◌, ◌++◌, length, map, Option, Some, None, slice_get}
 use Rattle.std.specs.List.{IsDistinct}
 use Rattle.fab_base.specs.declared.identities.BrickId.{BrickId}
 use Rattle.fab_base.specs.declared.identities.GroupId.{GroupId}
 use Rattle.fab_base.specs.declared.identities.ViewNo.{ViewNo}
 use Rattle.fab_base.specs.declared.stamps.Ballot.{Ballot}
 use Rattle.fab_base.specs.Stamps.{ballot_below}
-use Rattle.fab_base.specs.Layouts.{Layout, Group, seat_in}
+use Rattle.fab_base.specs.Layouts.{Layout, Group, group_of, seat_in}
 use Rattle.messages.specs.declared.calls.Call.{Call}
 use Rattle.messages.specs.declared.packets.Message.{Message}
 use Rattle.messages.specs.declared.replies.Reply.{Reply}
 use Rattle.messages.specs.declared.requests.Request.{Request}
+use Rattle.quorum.specs.Memberships.{is_membership}
 use Rattle.quorum.specs.Quorums.{quorum_of}
 use Rattle.protocol.specs.declared.phases.Counted.{Counted}
 use Rattle.protocol.specs.declared.tellings.ViewAnswer.{ViewAnswer}
@@ -19,7 +20,7 @@ use Rattle.protocol.specs.declared.tellings.Report.TheVariants as report
 use Rattle.protocol.specs.Settings.{Setting, IsSound}
 use Rattle.protocol.specs.Views.{views_in, group_in}
 use Rattle.protocol.specs.Proposals.{lowest, moved_view, unsynced_brick, greatest_outbid}
-use Rattle.protocol.specs.Worlds.{World, Event, first_world, run}
+use Rattle.protocol.specs.Worlds.{World, Event, Proposes, may_propose, first_world, happens, run}
 use Rattle.view_laws.specs.Following.{WasSent}
 use Rattle.view_laws.specs.Successors.{WasChosen, WasReported}
 
@@ -85,3 +86,12 @@ pub record ProposalsShowIn (layout : Layout) (w : World) : Type 0 where
 -- so it is in every world that a run reaches
 abbrev pub ProposalsShow : Type 0
 ProposalsShow = (setting : Setting) (events : List Event) → IsSound setting → ProposalsShowIn setting.layout (run setting events (first_world setting.layout))
+
+-- Of what was reported once a brick was asked to propose a list, and did not refuse: a list that may keep the group adds nothing, and another ends the proposal at once.
+abbrev pub BadMembersEndAtOnce : Type 0
+BadMembersEndAtOnce =
+    (setting : Setting) (w : World) (brick : BrickId) (number : GroupId) (members : List BrickId) (group : Group)
+    → may_propose setting w brick number ≡ true → group_of setting.layout number.0 ≡ Some group
+    → (happens setting w (Proposes brick number members)).choices.reports
+    ≡ w.choices.reports
+    ++ (if is_membership group.m setting.layout.bricks members then [] else (brick, report.View number None answer.BadMembers) ∷ [])

@@ -2,7 +2,7 @@
 
 ghost use Rattle.view_laws.specs.Following.{EveryRunFollowsItsViews};
 ghost use Rattle.view_laws.specs.Successors.{ClosedStays, NamesAreChosen, OneSuccessor};
-ghost use Rattle.view_laws.specs.Ends.{ProposalsShow};
+ghost use Rattle.view_laws.specs.Ends.{BadMembersEndAtOnce, ProposalsShow};
 
 /// Every run follows the members that its messages teach: those of view 1 are the layout's, and those of a later view are what the first message named that taught
 /// it.
@@ -17,7 +17,8 @@ pub fn every_run_follows_its_views()
 /// A view has one successor at most: any two lists that a quorum of its members accepted, each under one ballot, are the same (Lamport, "Paxos Made Simple", 2001).
 ///
 /// Whatever names the members of a later view than view 1 names the list that was chosen to follow the view before, with that one's members: each message that
-/// teaches a view, each reply that tells of one with its members, each answer that a list was decided, and what a brick has learnt.
+/// teaches a view, each reply that tells of one with its members, each answer that a list was decided, and what a brick has learnt. A reply that tells of a next view
+/// without its members is of a brick that has accepted a list to be that.
 ///
 /// Why: each view's choice is a history of the agreement that `synod_laws` proves. What a brick has accepted was proposed; a ballot is proposed once at most, by its own
 /// brick, after a quorum promised to it; and a view has a name only once its list was chosen by the members of the one before.
@@ -41,9 +42,10 @@ pub fn a_closed_view_stays_closed()
 /// - A list was decided: each of them accepted it, and it was chosen.
 /// - A later view is told: one of them told it, and it is that of the lowest seat that told one.
 /// - The view is not synced: none of them told a later view, and the member is the one of the lowest seat that told so.
-/// - The proposal was outbid: none of them told either, and the ballot is the greatest that they told.
+/// - The proposal was outbid: none of them told either, and the ballot is the greatest that they told. It is above the one under which the proposal had asked.
 ///
-/// An end without a phase, before anything was sent, is of a list that may not keep the group.
+/// A proposal ends without a phase, before anything is sent, exactly if its list may not keep the group.
 pub fn proposals_show_their_ends()
-    ensures { ProposalsShow }
+    ensures shows { ProposalsShow }
+    ensures at_once { BadMembersEndAtOnce }
 {}
