@@ -27,6 +27,7 @@ use Rattle.protocol.specs.Views.{members_of, learn_in, kept_by, group_kept}
 use Rattle.protocol.specs.Proposals.{told_choice}
 use Rattle.protocol.specs.Nodes.{Node, view_at}
 use Rattle.protocol.specs.Worlds.{World}
+pub use Rattle.view_laws.specs.Successors.{is_past}
 use Rattle.view_laws.proofs.FirstTold.{first_told, first_stays, first_found}
 
 -- the packets, what bricks accepted (by brick, group, view and ballot), and the bricks
@@ -75,10 +76,6 @@ accept_of b request = None
 abbrev pub accept_in : ℕ → ℕ → Ballot → Message → Option (List BrickId)
 accept_in g e b (Message.Request call request) = if nat_eq call.group.0 g && nat_eq call.view.0 e then accept_of b request else None
 accept_in g e b message = None
-
--- a ballot is past for a brick: it has learnt a later view, or has promised to a greater ballot
-abbrev pub is_past : Node → ℕ → ℕ → Ballot → Bool
-is_past node g e b = nat_lt e (view_at node g) || (nat_eq e (view_at node g) && is_promised_above (node.ballots g) b)
 
 -- what a brick keeps of ballots for the successor of a view
 abbrev pub kept_at : Node → ℕ → ℕ → Kept (List BrickId)

@@ -12,6 +12,7 @@ pub mod Example
 pub mod Extending
 pub mod FirstTold
 pub mod Followed
+pub mod Held
 pub mod Histories
 pub mod Named
 pub mod Owning

@@ -12,6 +12,7 @@ use Rattle.messages.specs.declared.packets.Packet.{Packet}
 use Rattle.messages.specs.declared.replies.Lineage.{Lineage}
 use Rattle.messages.specs.declared.replies.Reply.{Reply}
 use Rattle.messages.specs.declared.requests.Version.{Version}
+use Rattle.synod_laws.specs.Synods.{is_promised_above}
 use Rattle.protocol.specs.declared.tellings.Report.TheVariants as report
 use Rattle.protocol.specs.declared.tellings.ViewAnswer.TheVariants as answer
 use Rattle.protocol.specs.Settings.{Setting, IsSound}
@@ -85,6 +86,30 @@ pub record NamesAreChosenIn (layout : Layout) (w : World) : Type 0 where
 -- in every world that a run reaches the names of members are those that were chosen
 abbrev pub NamesAreChosen : Type 0
 NamesAreChosen = (setting : Setting) (events : List Event) → IsSound setting → NamesAreChosenIn setting.layout (run setting events (first_world setting.layout))
+
+-- ---- what was chosen holds
+
+-- A ballot for the successor of a view is past for a brick: it has promised to a greater one, or has learnt a later view.
+abbrev pub is_past : Node → ℕ → ℕ → Ballot → Bool
+is_past node number view ballot =
+    nat_lt view (view_at node number) || (nat_eq view (view_at node number) && is_promised_above (node.ballots number) ballot)
+
+-- What a brick has accepted it has accepted in each later world, and what was chosen is chosen there. A ballot that is past for a brick stays past, over each stop and
+-- start, so no promise is taken back; and it accepts nothing under one that it had not accepted.
+pub record ChoicesHoldIn (w later : World) : Type 0 where
+  pub accepted : (brick number view : ℕ) (ballot : Ballot) (members : List BrickId) → w.choices.votes brick number view ballot ≡ Some members
+      → later.choices.votes brick number view ballot ≡ Some members
+  pub past : (brick number view : ℕ) (ballot : Ballot) → is_past (w.nodes brick) number view ballot ≡ true
+      → is_past (later.nodes brick) number view ballot ≡ true
+  pub barred : (brick number view : ℕ) (ballot : Ballot) (members : List BrickId) → is_past (w.nodes brick) number view ballot ≡ true
+      → later.choices.votes brick number view ballot ≡ Some members → w.choices.votes brick number view ballot ≡ Some members
+  pub chosen : (number view : ℕ) (group : Group) (members : List BrickId) → WasChosen w number view group members → WasChosen later number view group members
+
+-- so it is however a run goes on
+abbrev pub ChoicesHold : Type 0
+ChoicesHold =
+    (setting : Setting) (events more : List Event) → IsSound setting
+    → ChoicesHoldIn (run setting events (first_world setting.layout)) (run setting (events ++ more) (first_world setting.layout))
 
 -- ---- closed views
 

@@ -1,7 +1,7 @@
 //! The laws of views. Each call does nothing: its contract is the law.
 
 ghost use Rattle.view_laws.specs.Following.{EveryRunFollowsItsViews};
-ghost use Rattle.view_laws.specs.Successors.{ClosedStays, NamesAreChosen, OneSuccessor};
+ghost use Rattle.view_laws.specs.Successors.{ChoicesHold, ClosedStays, NamesAreChosen, OneSuccessor};
 ghost use Rattle.view_laws.specs.Ends.{BadMembersEndAtOnce, ProposalsShow};
 
 /// Every run follows the members that its messages teach: those of view 1 are the layout's, and those of a later view are what the first message named that taught
@@ -20,11 +20,15 @@ pub fn every_run_follows_its_views()
 /// teaches a view, each reply that tells of one with its members, each answer that a list was decided, and what a brick has learnt. A reply that tells of a next view
 /// without its members is of a brick that has accepted a list to be that.
 ///
+/// What a brick has accepted, and what was chosen, holds in each later world. A brick never takes a promise to a ballot back while it has not learnt a later view, whether
+/// it stops and starts in between or not, and it accepts nothing under a ballot below the one that it promised to.
+///
 /// Why: each view's choice is a history of the agreement that `synod_laws` proves. What a brick has accepted was proposed; a ballot is proposed once at most, by its own
 /// brick, after a quorum promised to it; and a view has a name only once its list was chosen by the members of the one before.
 pub fn a_view_has_one_successor()
     ensures one { OneSuccessor }
     ensures names { NamesAreChosen }
+    ensures hold { ChoicesHold }
 {}
 
 /// A view that a quorum has closed stays closed. Where a list was chosen to follow a view, a quorum of the view's members has closed it: each of them has accepted a
