@@ -238,6 +238,17 @@ decided_guards layout w g e s view agreed some decided number =
     (subst (λ (z : ℕ). w.choices.votes (brick_at group k) g z decided.ballot ≡ Some view.members) number (decided.chosen.2 k below member))))) in
     omega (arith, many, more)
 
+-- a view's prior members are those of the view before, which has a name
+prior_named : (layout : Layout) (packets : List Packet) (g e : ℕ) (view before : View) → view.prior ≡ before.members
+    → named_in layout packets g e ≡ Some before → view.prior ≡ views_in layout packets g e
+prior_named layout packets g e view before prior named = prior ∙ sym (views_of_name layout packets g e before named)
+
+-- the group that the members of a view keep is the one of its name
+same_group_named : (layout : Layout) (packets : List Packet) (g e : ℕ) (view : View) (one other : Group) → group_kept layout view.members g ≡ Some one
+    → named_in layout packets g e ≡ Some view → group_in layout (views_in layout packets) g e ≡ Some other → one ≡ other
+same_group_named layout packets g e view one other kept named found =
+    same_Some one other (sym kept ∙ sym (group_of_name layout packets g e view named) ∙ found)
+
 -- a world follows the members that the packets of a later one name
 pub follows_later : (setting : Setting) (w later : World) → IsSound setting → Agreed setting.layout (view_world w) → Agreed setting.layout (view_world later)
     → Extends setting.layout (view_world w) (view_world later) → Follows setting.layout (views_in setting.layout later.packets) w
@@ -251,9 +262,9 @@ follows_later setting w later sound agreed agreed_later extends = record {
       = (known_taught setting.layout (view_world w) g ((w.nodes i).learnt g).view agreed.says (agreed.learnt i g) above).1 in
       let next = decided.next in
       let number : decided.before.number.0 ≡ view_at (w.nodes i) g - 1 = omega (arith, next) in
-      decided.prior ∙ sym (views_of_name setting.layout later.packets g (view_at (w.nodes i) g - 1) decided.before
+      prior_named setting.layout later.packets g (view_at (w.nodes i) g - 1) ((w.nodes i).learnt g).view decided.before decided.prior
       (subst (λ (z : ℕ). named_in setting.layout later.packets g z ≡ Some decided.before) number
-      (extends.named g decided.before.number.0 decided.before decided.named)));
+      (extends.named g decided.before.number.0 decided.before decided.named));
   passed = λ i g e s group some before found.
       let known = below_known setting.layout (view_world w) g e (view_at (w.nodes i) g - (e + 1)) ((w.nodes i).learnt g).view agreed some
       (omega (arith, before)) (agreed.learnt i g) in
@@ -266,7 +277,7 @@ follows_later setting w later sound agreed agreed_later extends = record {
       = subst (λ (z : ℕ). named_in setting.layout later.packets g z ≡ Some decided.before) number_before
       (extends.named g decided.before.number.0 decided.before decided.named) in
       let same : decided.group ≡ group
-      = same_Some decided.group group (sym decided.group_is ∙ sym (group_of_name setting.layout later.packets g e decided.before named) ∙ found) in
+      = same_group_named setting.layout later.packets g e decided.before decided.group group decided.group_is named found in
       subst (λ (z : Group). IsGuarded w g s z (floor_of (e + 1))) same
       (decided_guards setting.layout w g e s known.0 agreed some decided number_before);
 }
