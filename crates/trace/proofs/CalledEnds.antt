@@ -12,7 +12,6 @@ use Rattle.lines.specs.declared.reader.NextLine.TheVariants.{Ended}
 use Rattle.layout.specs.declared.faults.LayoutFault.{LayoutFault}
 use Rattle.layout.specs.Texts.{layout_of}
 use Rattle.world.specs.Runs.{Run}
-use Rattle.world.specs.Steps.{Ran}
 use Rattle.printed.specs.Outputs.{most_lines}
 use Rattle.replay.specs.declared.endings.RunResult.{RunResult}
 use Rattle.replay.specs.declared.endings.RunResult.TheVariants.{Whole, BadLayout, BadLine, TooManyLines, Refuted}

@@ -1,4 +1,4 @@
-use Rattle.std.proofs.Common.{◌≡◌, ℕ, ◌⊎◌, List, Result, Err, codes, inl, inr, refl, sym, ap, ◌∙◌, subst, arith}
+use Rattle.std.proofs.Common.{◌≡◌, ℕ, ◌⊎◌, Err, codes, inl, inr, refl, sym, ap, ◌∙◌, subst, arith}
 use Rattle.std.specs.Prelude.{map, string_bytes}
 use Rattle.std.specs.Io.KnownBytes.{Appends}
 use Rattle.fab_io.specs.Ends.{AppendsFront}
@@ -16,7 +16,8 @@ returns-then-is_word-clause-text g c = λ _. (
 pub returns-then-is_word-clause-picture : goal.returns-then-is_word-clause-picture
 returns-then-is_word-clause-picture g c = λ picture.
     let lengths = one_word (codes "text") (codes "svg") (map string_bytes c.args.words.now) (sym c.is_word.ensures ∙ c.if-is_word.true) picture in
-    omega (arith, lengths)
+    let never : ⊥ = omega (arith, lengths) in
+    absurd never
 
 pub returns-then-is_word-clause-decided : goal.returns-then-is_word-clause-decided
 returns-then-is_word-clause-decided g c = λ asks source sink errors.
