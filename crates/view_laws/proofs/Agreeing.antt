@@ -1,10 +1,9 @@
 -- The agreement on views: what bricks accepted was proposed, and each proposal is safe; and how it is kept where a brick votes, learns a view, or packets are sent.
-use Rattle.std.proofs.Common.{◌≡◌, ◌≢◌, ℕ, ◌+◌, ◌-◌, ◌<◌, ◌≤◌, Bool, true, false, not, cond, ◌&&◌, ◌||◌, ◌⊎◌, inl, inr, ⊎_elim, List, [], ◌∷◌, ◌++◌, length, Option, Some, None, refl, sym, ap, ◌∙◌, subst, arith, nat_lt, nat_eq}
+use Rattle.std.proofs.Common.{◌≡◌, ℕ, ◌-◌, ◌<◌, ◌≤◌, Bool, true, false, cond, ◌&&◌, ◌||◌, ◌⊎◌, inl, inr, ⊎_elim, List, ◌++◌, length, Option, Some, None, refl, sym, ap, ◌∙◌, subst, arith, nat_lt, nat_eq}
 use Rattle.std.specs.Prelude.{slice_get, if◌then◌else◌, ◌^◌}
 use Rattle.std.proofs.lemmas.Bool.{cond_both, eqb-true, eq-eqb, ne_eqb, or_left, or_cases, and_parts}
 use Rattle.std.proofs.lemmas.Bool.Decides.{nat_tests}
 use Rattle.std.proofs.Math.Path.{fun_ext}
-use Rattle.std.proofs.lemmas.Option.{same_Some}
 use Rattle.fab_base.specs.declared.identities.BrickId.{BrickId}
 use Rattle.fab_base.specs.declared.member_lists.View.{View}
 use Rattle.fab_base.specs.declared.stamps.Ballot.{Ballot}
@@ -16,19 +15,19 @@ use Rattle.messages.specs.declared.packets.Packet.{Packet}
 use Rattle.messages.specs.declared.requests.Request.{Request}
 use Rattle.quorum.specs.Quorums.{quorum_of}
 use Rattle.quorum.specs.Memberships.{is_membership}
-use Rattle.synod_laws.specs.Synods.{Synod, Agrees, Grows, IsAtMost, IsSafe, Kept, Keeps, SaysPromise, ballot_same, is_promised_above, last_of, with_promise, with_acceptance}
+use Rattle.synod_laws.specs.Synods.{Synod, Agrees, Grows, IsSafe, Kept, Keeps, SaysPromise, ballot_same, is_promised_above, last_of, with_promise, with_acceptance}
 use Rattle.synod_laws.proofs.Ballots.{ballot_same_true}
 use Rattle.synod_laws.proofs.Acceptors.{Promising, promising, Accepting, accepting, keeps_same}
 use Rattle.synod_laws.proofs.Agreement.{safe_stays}
-use Rattle.synod_laws.proofs.Steps.{put_value, same_place}
+use Rattle.synod_laws.proofs.Steps.{put_value}
 use Rattle.protocol.specs.Views.{Learnt}
 use Rattle.protocol.specs.Ballots.{granting}
 use Rattle.protocol.specs.Nodes.{Node, view_at, put}
 use Rattle.protocol.specs.Worlds.{accepted_in, vote_with, with_votes}
 use Rattle.protocol.proofs.Puts.{put_other}
 use Rattle.protocol.proofs.Tables.{put_each, put_same, get_grown, get_kept}
-use Rattle.view_laws.proofs.FirstTold.{either, first_told, first_of_later, first_stays, first_found}
-use Rattle.view_laws.proofs.Histories.{ViewWorld, IsSent, IsNamed, named_in, group_named, accept_in, is_past, kept_at, history, seated, RequestSays, PacketSays, Extends, seated_grows, message_stays, IsAccept, accept_is, name_stays, name_is, group_by_name, name_of_group, synod_is}
+use Rattle.view_laws.proofs.FirstTold.{first_of_later, first_stays, first_found}
+use Rattle.view_laws.proofs.Histories.{ViewWorld, IsSent, IsNamed, group_named, accept_in, is_past, kept_at, history, seated, RequestSays, PacketSays, Extends, seated_grows, message_stays, name_stays, group_by_name, name_of_group, synod_is}
 
 -- what a list that was accepted is: it may keep the group, and the view that it is to follow has a successor
 pub record VoteFits (layout : Layout) (g e : ℕ) (members : List BrickId) : Type 0 where
@@ -182,7 +181,7 @@ module _ (layout : Layout) (v : ViewWorld) (i : ℕ) (next : Node) (agreed : Agr
   agrees_by_brick g e = record { votes = λ k b a is. agreed.proposed k g e b a is; safe = λ b a is lower below. inr (omega arith) }
 
   -- what a brick has accepted last is noted
-  last_noted : (g e : ℕ) (c : Ballot) (members : List BrickId) → accepted_in (v.nodes i) g e ≡ Some (c, members) → v.votes i g e c ≡ Some members
+  pub last_noted : (g e : ℕ) (c : Ballot) (members : List BrickId) → accepted_in (v.nodes i) g e ≡ Some (c, members) → v.votes i g e c ≡ Some members
   last_noted g e c members =
       cond_both (nat_eq e (view_at (v.nodes i) g)) (last_of ((v.nodes i).ballots g)) None
       (λ (z : Option (Ballot × List BrickId)). z ≡ Some (c, members) → v.votes i g e c ≡ Some members)

@@ -1,10 +1,9 @@
 -- The agreement on views holds in every world that a run reaches.
-use Rattle.std.proofs.Common.{◌≡◌, ◌≢◌, ℕ, zero, suc, ◌+◌, ◌-◌, ◌<◌, ◌≤◌, Bool, true, false, cond, ◌&&◌, ◌||◌, ◌⊎◌, inl, inr, ⊎_elim, List, [], ◌∷◌, ◌++◌, length, Option, Some, None, refl, sym, ap, ◌∙◌, subst, arith, nat_lt, nat_eq}
-use Rattle.std.specs.Prelude.{slice_get, not, ◌^◌}
+use Rattle.std.proofs.Common.{◌≡◌, ℕ, zero, suc, ◌≤◌, Bool, true, false, ◌&&◌, ◌||◌, ◌⊎◌, inl, inr, ⊎_elim, List, [], ◌++◌, Option, Some, None, refl, sym, ap, ◌∙◌, subst, arith, nat_lt, nat_eq}
+use Rattle.std.specs.Prelude.{not}
 use Rattle.std.proofs.lemmas.Bool.{cond_both, and_parts, false≢true, eqb-true, not-true}
 use Rattle.std.proofs.lemmas.Bool.Decides.{nat_tests}
 use Rattle.fab_base.specs.declared.identities.BrickId.{BrickId}
-use Rattle.fab_base.specs.declared.member_lists.View.{View}
 use Rattle.fab_base.specs.declared.stamps.Ballot.{Ballot}
 use Rattle.fab_base.specs.declared.asks.Ask.{Ask}
 use Rattle.fab_base.specs.Layouts.{Layout, Group}
@@ -16,18 +15,17 @@ use Rattle.protocol.specs.Views.{Learnt}
 use Rattle.protocol.specs.Ballots.{granting}
 use Rattle.protocol.specs.Proposals.{Proposal}
 use Rattle.protocol.specs.Coordinators.{Coordinator}
-use Rattle.protocol.specs.Nodes.{Node, NodeStep, put, first_node, view_at, view_in, no_calls, no_step, requested, heard, node_learnt, node_taught_by, view_counted, lists_fit, received, absorbed, ticked, group_at, began, invoked, proposed, stopped, restarted, may_open}
-use Rattle.protocol.specs.Worlds.{World, Event, Before, After, first_world, is_up, may_start, packet_of, packet_during, left_after, world_stepped, world_found, world_started, run}
+use Rattle.protocol.specs.Nodes.{Node, NodeStep, put, first_node, view_at, view_in, no_calls, node_taught_by, view_counted, lists_fit, received, absorbed, ticked, group_at, began, invoked, proposed, stopped, restarted, may_open}
+use Rattle.protocol.specs.Worlds.{World, Event, first_world, is_up, packet_of, packet_during, left_after, world_stepped, run}
 use Rattle.protocol.proofs.Events.{EventCases, step_on, world_counting, always_where, started_each}
 use Rattle.protocol.proofs.Tables.{put_each, put_twice, get_kept}
-use Rattle.view_laws.proofs.FirstTold.{first_told}
 use Rattle.view_laws.proofs.Histories.{ViewWorld, view_world, IsSent, IsNamed, kept_at, history, name_stays}
 use Rattle.view_laws.proofs.Agreeing.{Agreed, VoteFits, StaysAt, VotesAt, LearnsAt, Turn, turned, turn_extends, turn_agrees, turned_placed, KeepsViews, placed, placed_extends, placed_agrees, sending_more}
 use Rattle.view_laws.proofs.Calling.{Called}
 use Rattle.view_laws.proofs.CallSteps.{Calls, always_calls, put_back, up_not_down, stepped_up, left_stays, left_more, left_fewer}
 use Rattle.view_laws.proofs.Drafting.{DraftSays, Drafting, draft_stays, StepSays, step_agrees, step_drafting}
 use Rattle.view_laws.proofs.Deciding.{HasLimits}
-use Rattle.view_laws.proofs.Requesting.{no_turn, learn_turn, requested_says, learn_says}
+use Rattle.view_laws.proofs.Requesting.{no_turn, requested_says, learn_says}
 use Rattle.view_laws.proofs.Replying.{reply_turn, heard_says}
 use Rattle.view_laws.proofs.Beginning.{quiet_step, invoked_says, proposed_says, ticked_says}
 use Rattle.protocol.proofs.Packets.{each_none}

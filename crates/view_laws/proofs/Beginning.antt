@@ -1,6 +1,5 @@
 -- What a brick owes when it begins an operation or a proposal, and when its clock ticks.
-use Rattle.std.proofs.Common.{◌≡◌, ◌≢◌, ℕ, zero, suc, ◌+◌, ◌-◌, ◌<◌, ◌≤◌, Bool, true, false, cond, ◌⊎◌, inl, inr, ⊎_elim, List, [], ◌∷◌, ◌++◌, length, Option, Some, None, refl, sym, ap, ◌∙◌, subst, arith, nat_lt, nat_eq}
-use Rattle.std.specs.Prelude.{slice_get}
+use Rattle.std.proofs.Common.{◌≡◌, ℕ, inl, List, [], ◌++◌, Option, Some, None, refl, sym, ap, ◌∙◌, subst, arith}
 use Rattle.std.proofs.lemmas.Bool.{cond_both}
 use Rattle.std.proofs.lemmas.Option.{same_Some}
 use Rattle.fab_base.specs.declared.identities.BrickId.{BrickId}
@@ -15,20 +14,19 @@ use Rattle.messages.specs.declared.packets.Message.{Message}
 use Rattle.messages.specs.declared.packets.Packet.{Packet}
 use Rattle.messages.specs.declared.requests.Request.{Request}
 use Rattle.quorum.specs.Memberships.{is_membership}
-use Rattle.protocol.specs.declared.phases.Counted.{Counted}
 use Rattle.protocol.specs.Settings.{Setting}
 use Rattle.protocol.specs.Proposals.{Proposal, ballot_request, ballot_packets}
 use Rattle.protocol.specs.Coordinators.{Coordinator, request_of}
-use Rattle.protocol.specs.Nodes.{Node, NodeStep, put, no_step, sending, phase_packets, group_at, new_coordinator, opened, began, invoked, view_in, resent_up_to, ballot_resent, ticked, new_proposal, proposing, proposed_in, proposed}
+use Rattle.protocol.specs.Nodes.{Node, NodeStep, sending, phase_packets, group_at, new_coordinator, opened, began, invoked, view_in, resent_up_to, ballot_resent, ticked, new_proposal, proposing, proposed_in, proposed}
 use Rattle.protocol.proofs.Packets.{OfEach, each_none, each_both, each_member, each_ballot, each_ticked, each_ballot_resent}
 use Rattle.protocol.proofs.Tables.{put_each}
 use Rattle.view_laws.proofs.FirstTold.{first_told}
 use Rattle.view_laws.proofs.Histories.{ViewWorld, IsNamed, accept_in, accept_is, history, PacketSays, MessageSays, Extends, name_stays, known_taught, taught_stays, kept_is}
-use Rattle.view_laws.proofs.Agreeing.{IsSafeIn, Agreed, Turn, turned, sending_more}
+use Rattle.view_laws.proofs.Agreeing.{Agreed, Turn, turned, sending_more}
 use Rattle.view_laws.proofs.Calling.{Called, unproposed}
-use Rattle.view_laws.proofs.Drafting.{DraftSays, Drafting, draft_stays, still_unproposed, StepSays, BodySays, step_extends}
+use Rattle.view_laws.proofs.Drafting.{DraftSays, Drafting, draft_stays, still_unproposed, StepSays, step_extends}
 use Rattle.view_laws.proofs.Requesting.{no_turn}
-use Rattle.view_laws.proofs.Replying.{IsQuiet, phase_quiet, request_quiet, same_accept, view_from}
+use Rattle.view_laws.proofs.Replying.{IsQuiet, phase_quiet, same_accept, view_from}
 
 -- a step that leaves the proposal as it was, and sends what owes nothing
 pub quiet_step : (layout : Layout) (v : ViewWorld) (i : ℕ) (next : Node) (new : List Packet) → Agreed layout v → Drafting layout v

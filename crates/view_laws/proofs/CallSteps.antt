@@ -1,6 +1,6 @@
 -- Each step of a brick keeps the calls and ballots of proposals in order, so they are so in every world that a run reaches.
-use Rattle.std.proofs.Common.{◌≡◌, ◌≢◌, ℕ, zero, suc, ◌+◌, ◌-◌, ◌<◌, ◌≤◌, Bool, true, false, cond, ◌&&◌, ◌⊎◌, inl, inr, ⊎_elim, List, [], ◌∷◌, ◌++◌, length, max, Option, Some, None, refl, sym, ap, ◌∙◌, subst, arith, nat_lt, nat_eq}
-use Rattle.std.specs.Prelude.{slice_get, if◌then◌else◌, not, is_some, ◌^◌}
+use Rattle.std.proofs.Common.{◌≡◌, ℕ, ◌+◌, ◌<◌, ◌≤◌, Bool, true, false, cond, ◌&&◌, inl, inr, ⊎_elim, List, [], ◌∷◌, ◌++◌, Option, Some, None, refl, sym, ap, ◌∙◌, subst, arith, nat_lt, nat_eq}
+use Rattle.std.specs.Prelude.{not}
 use Rattle.std.proofs.lemmas.Bool.{cond_both, and_parts, false≢true, eqb-true, not-true}
 use Rattle.std.proofs.lemmas.Bool.Decides.{nat_tests}
 use Rattle.std.proofs.lemmas.Option.{same_Some}
@@ -8,7 +8,6 @@ use Rattle.std.proofs.Math.Nat.{le-max_left}
 use Rattle.std.proofs.Math.Path.{fun_ext}
 use Rattle.fab_base.specs.declared.identities.BrickId.{BrickId}
 use Rattle.fab_base.specs.declared.identities.GroupId.{GroupId}
-use Rattle.fab_base.specs.declared.member_lists.View.{View}
 use Rattle.fab_base.specs.declared.stamps.Ballot.{Ballot}
 use Rattle.fab_base.specs.declared.asks.Ask.{Ask}
 use Rattle.fab_base.specs.Layouts.{Layout, Group, group_of}
@@ -25,17 +24,17 @@ use Rattle.protocol.specs.declared.tellings.ViewAnswer.TheVariants as answer
 use Rattle.protocol.specs.Settings.{Setting, Code}
 use Rattle.synod_laws.specs.Synods.{value_or}
 use Rattle.protocol.specs.Replicas.{handle}
-use Rattle.protocol.specs.Proposals.{Proposal, Voting, Ignored, Waited, Asks, Ended, ballot_request, ballot_packets, round_after, with_voice, asking, greatest_choice, voted}
+use Rattle.protocol.specs.Proposals.{Proposal, Voting, ballot_request, ballot_packets, round_after, with_voice, asking, greatest_choice, voted}
 use Rattle.protocol.specs.Coordinators.{Coordinator, Next, Ignores, Waits, Sends, Makes, Ends, request_of, on_reply}
-use Rattle.protocol.specs.Nodes.{Node, NodeStep, put, no_step, sending, with_known, with_round, known_after, phase_packets, collect_packets, invoked, began, group_at, new_coordinator, fresh_stamp, requested, full_at, replica_at, vote_at, carried_out, learn_packets, ended_packets, carried_ballot, replied_ballot, replied_at, view_counted, replied, lists_fit, heard, received, absorbed, ticked, resent_up_to, ballot_resent, proposed, proposed_in, new_proposal, proposing, stopped, restarted, may_open}
-use Rattle.protocol.specs.Worlds.{World, Event, Before, After, first_world, is_up, may_start, packet_during, left_after, world_told, world_answered, world_stepped, world_found, world_started, run}
+use Rattle.protocol.specs.Nodes.{Node, NodeStep, put, no_step, sending, with_known, with_round, known_after, phase_packets, invoked, began, group_at, new_coordinator, fresh_stamp, requested, full_at, replica_at, vote_at, carried_out, ended_packets, carried_ballot, replied_ballot, replied_at, view_counted, replied, lists_fit, heard, received, absorbed, ticked, resent_up_to, ballot_resent, proposed, proposed_in, new_proposal, proposing, stopped, restarted, may_open}
+use Rattle.protocol.specs.Worlds.{World, Event, first_world, is_up, packet_during, left_after, world_stepped, run}
 use Rattle.protocol.proofs.Events.{EventCases, step_on, world_counting, always, started_each, stepped_each}
 use Rattle.protocol.proofs.Packets.{OfEach, each_none, each_both, each_member, each_collect, each_reply, each_learn, each_ticked, each_ballot, each_ballot_resent}
 use Rattle.protocol.proofs.Served.{request_each}
-use Rattle.protocol.proofs.Tables.{put_each, put_same, put_twice}
+use Rattle.protocol.proofs.Tables.{put_each, put_twice}
 use Rattle.view_laws.proofs.Calling.{OfBallot, OfBallots, ballots_map, IsOldDraft, IsNewDraft, IsOfDraft, StepCalls, Called, own_calls, called_after}
-use Rattle.view_laws.proofs.Owning.{KeepsOwn, requested_own, taught_own, learnt_own, absorbed_own}
-use Rattle.view_laws.proofs.Votings.{EachVoting, voting_each}
+use Rattle.view_laws.proofs.Owning.{taught_own, learnt_own, absorbed_own}
+use Rattle.view_laws.proofs.Votings.{voting_each}
 
 -- what a phase of an operation asks for names no ballot
 pub phase_names_none : (Q : Call → Ballot → Type 0) (call : Call) (code : Code) (c : Coordinator) (seat : ℕ) → OfBallot Q call (request_of code c seat)
@@ -410,7 +409,7 @@ left_own setting brick node (Some packet) =
     (λ elsewhere. record { boot = refl; seq = refl; round = refl; proposal = refl })
 
 -- a brick that starts has no call yet in its boot
-restarted_calls : (i : ℕ) (node : Node) (openings : ℕ) → nat_lt 0 openings ≡ true → StepCalls i node (restarted openings node) []
+pub restarted_calls : (i : ℕ) (node : Node) (openings : ℕ) → nat_lt 0 openings ≡ true → StepCalls i node (restarted openings node) []
 unfolding restarted
 restarted_calls i node openings some = record {
   rises = inl (let more : 0 < openings = grind (arith, nat_tests, some) in omega (arith, more));
@@ -426,9 +425,22 @@ started_calls packets nodes called i openings some =
     (called_after packets nodes called i (restarted openings (nodes i)) [] (restarted_calls i (nodes i) openings some))
 
 -- a brick that stops has no proposal
-stopped_calls : (i : ℕ) (node : Node) → StepCalls i node (stopped node) []
+pub stopped_calls : (i : ℕ) (node : Node) → StepCalls i node (stopped node) []
 unfolding stopped
 stopped_calls i node = ends_calls i node (stopped node) [] refl (omega arith) (omega arith) refl (each_none NamesNone)
+
+-- one that is found so has none
+pub found_calls : (i : ℕ) (node left : Node) → LeavesOwn node left → StepCalls i node left []
+found_calls i node left own =
+    ends_calls i node left [] own.boot (let same = own.seq in omega (arith, same)) (let same = own.round in omega (arith, same)) own.proposal
+    (each_none NamesNone)
+
+-- and keeps calls in order
+pub found_called : (packets : List Packet) (nodes : ℕ → Node) → Called packets nodes → (i : ℕ) (left : Node) → LeavesOwn (nodes i) left
+    → Called packets (put nodes i left)
+found_called packets nodes called i left own =
+    subst (λ (l : List Packet). Called l (put nodes i left)) (append_none packets)
+    (called_after packets nodes called i left [] (found_calls i (nodes i) left own))
 
 -- each event keeps calls in order
 calls_cases : (setting : Setting) (w : World) → Calls w → EventCases setting w Calls
@@ -468,11 +480,8 @@ calls_cases setting w calls = record {
         left = left_fewer LeavesOwn w.up w.nodes w.after brick.0 _ calls.left;
       })
       (let own = calls.left brick.0 (not-true (w.up brick.0) down.0) in
-      let found_called : Called w.packets (put w.nodes brick.0 (w.after brick.0))
-      = subst (λ (l : List Packet). Called l (put w.nodes brick.0 (w.after brick.0))) (append_none w.packets)
-      (called_after w.packets w.nodes calls.called brick.0 (w.after brick.0) [] (found_calls brick.0 (w.nodes brick.0) (w.after brick.0) own)) in
       record {
-        called = started_calls w.packets (put w.nodes brick.0 (w.after brick.0)) found_called brick.0 openings some;
+        called = started_calls w.packets (put w.nodes brick.0 (w.after brick.0)) (found_called w.packets w.nodes calls.called brick.0 (w.after brick.0) own) brick.0 openings some;
         left = subst (λ (nodes : ℕ → Node). (k : ℕ) → put w.up brick.0 true k ≡ false → LeavesOwn (nodes k) (w.after k))
             (sym (put_twice w.nodes brick.0 (w.after brick.0) (restarted openings (put w.nodes brick.0 (w.after brick.0) brick.0))))
             (left_fewer LeavesOwn w.up w.nodes w.after brick.0 (restarted openings (put w.nodes brick.0 (w.after brick.0) brick.0)) calls.left);
@@ -492,11 +501,6 @@ calls_cases setting w calls = record {
               (subst (λ (after : ℕ → Node). (k : ℕ) → x.up k ≡ false → LeavesOwn (put x.nodes brick.0 step.node k) (after k)) (sym same.1)
               (left_stays LeavesOwn x.up x.nodes x.after brick.0 step.node up left));
         }
-
-    found_calls : (i : ℕ) (node left : Node) → LeavesOwn node left → StepCalls i node left []
-    found_calls i node left own =
-        ends_calls i node left [] own.boot (let same = own.seq in omega (arith, same)) (let same = own.round in omega (arith, same)) own.proposal
-        (each_none NamesNone)
 
 -- calls are in order in every world that a run reaches
 pub always_calls : (setting : Setting) (events : List Event) → Calls (run setting events (first_world setting.layout))

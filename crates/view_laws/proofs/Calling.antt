@@ -1,6 +1,6 @@
 -- Each call of a proposal has one ballot, which is its brick's own, and no later call or ballot has its number.
-use Rattle.std.proofs.Common.{◌≡◌, ◌≢◌, ℕ, ◌+◌, ◌-◌, ◌<◌, ◌≤◌, Bool, true, false, cond, ◌&&◌, ◌⊎◌, inl, inr, ⊎_elim, List, [], ◌∷◌, ◌++◌, Option, Some, None, refl, sym, ap, ◌∙◌, subst, arith, nat_lt, nat_eq}
-use Rattle.std.specs.Prelude.{slice_get, if◌then◌else◌, not}
+use Rattle.std.proofs.Common.{◌≡◌, ◌≢◌, ℕ, ◌+◌, ◌<◌, ◌≤◌, Bool, cond, ◌&&◌, ◌⊎◌, inl, inr, ⊎_elim, List, ◌++◌, Option, Some, None, refl, sym, ap, ◌∙◌, subst, arith, nat_eq}
+use Rattle.std.specs.Prelude.{slice_get}
 use Rattle.std.proofs.lemmas.Bool.{cond_both, and_parts, and_from, eqb-true, eq-eqb}
 use Rattle.std.proofs.lemmas.Option.{same_Some}
 use Rattle.fab_base.specs.declared.identities.BrickId.{BrickId}
@@ -11,10 +11,9 @@ use Rattle.messages.specs.declared.packets.Packet.{Packet}
 use Rattle.messages.specs.declared.requests.Request.{Request}
 use Rattle.protocol.specs.Proposals.{Proposal}
 use Rattle.protocol.specs.Nodes.{Node, put}
-use Rattle.protocol.proofs.Puts.{put_other}
 use Rattle.protocol.proofs.Tables.{put_each, put_same, get_grown}
 use Rattle.view_laws.proofs.FirstTold.{first_told, first_stays, first_found, first_some, first_of_later}
-use Rattle.view_laws.proofs.Histories.{IsSent, ballot_asked, called_by, ballot_called, accept_in, accept_is}
+use Rattle.view_laws.proofs.Histories.{ballot_asked, called_by, ballot_called, accept_in, accept_is}
 use Rattle.view_laws.proofs.Owning.{KeepsOwn}
 
 -- ---- what holds of the ballot that a message names

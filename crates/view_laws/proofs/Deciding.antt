@@ -1,8 +1,7 @@
 -- What a quorum of replies decides: the list that a proposal asks for is safe, and the one that was accepted is chosen.
-use Rattle.std.proofs.Common.{◌≡◌, ℕ, zero, suc, ◌+◌, ◌-◌, ◌<◌, ◌≤◌, Bool, true, false, cond, ◌⊎◌, inl, inr, ⊎_elim, List, [], ◌∷◌, ◌++◌, length, map, All, Option, Some, None, refl, sym, ap, ◌∙◌, subst, arith, nat_lt, nat_eq}
+use Rattle.std.proofs.Common.{◌≡◌, ℕ, ◌≤◌, Bool, true, false, inl, inr, ⊎_elim, List, [], ◌∷◌, ◌++◌, length, Option, Some, None, refl, sym, ap, ◌∙◌, subst, arith, nat_lt}
 use Rattle.std.specs.Prelude.{slice_get}
 use Rattle.std.specs.Option.{option_map}
-use Rattle.std.proofs.lemmas.Bool.{cond_both}
 use Rattle.std.proofs.lemmas.Bool.Decides.{nat_tests}
 use Rattle.std.proofs.lemmas.List.{length-map, map-append}
 use Rattle.std.proofs.lemmas.List.Elements.{All-from_recursion, All-map}
@@ -11,8 +10,7 @@ use Rattle.fab_base.specs.declared.identities.BrickId.{BrickId}
 use Rattle.fab_base.specs.declared.identities.ViewNo.{ViewNo}
 use Rattle.fab_base.specs.declared.member_lists.View.{View}
 use Rattle.fab_base.specs.declared.stamps.Ballot.{Ballot}
-use Rattle.fab_base.specs.Stamps.{ballot_below}
-use Rattle.fab_base.specs.Layouts.{Layout, Group, group_of, first_view, seat_in, brick_at}
+use Rattle.fab_base.specs.Layouts.{Layout, Group, group_of, first_view, brick_at}
 use Rattle.fab_base.proofs.Seats.{seat_within, brick_at_seat}
 use Rattle.messages.specs.declared.calls.Call.{Call}
 use Rattle.messages.specs.declared.packets.Message.{Message}
@@ -28,12 +26,11 @@ use Rattle.synod_laws.proofs.Greatest.{safe_replies, chosen_by}
 use Rattle.protocol.specs.declared.phases.Counted.{Counted}
 use Rattle.protocol.specs.Views.{members_of, kept_by, group_kept}
 use Rattle.protocol.specs.Proposals.{Proposal, answers_ballot, ballot_quorum, seat_voting, with_voice, told_choice, promises, greatest_choice, refused_by}
-use Rattle.protocol.specs.Nodes.{Node}
 use Rattle.protocol.proofs.Tables.{get_grown, get_one}
-use Rattle.view_laws.proofs.Histories.{ViewWorld, IsSent, IsNamed, named_in, group_named, ballot_called, history, seated, PacketSays, ReplySays, IsDecided, IsTaught, name_has_number, group_by_name, known_taught}
+use Rattle.view_laws.proofs.Histories.{ViewWorld, IsSent, IsNamed, named_in, group_named, ballot_called, history, seated, PacketSays, ReplySays, IsTaught, name_has_number, group_by_name, known_taught}
 use Rattle.view_laws.proofs.Agreeing.{IsSafeIn, Agreed}
 use Rattle.view_laws.proofs.Drafting.{CountedSays, DraftSays}
-use Rattle.view_laws.proofs.Voices.{VoiceCounts, voice_counts, has_seat_in, distinct_more, unrefused, promise_of, acceptance_of, of_each}
+use Rattle.view_laws.proofs.Voices.{voice_counts, has_seat_in, distinct_more, unrefused, promise_of, acceptance_of, of_each}
 
 -- each group of the layout is within the limits of a quorum
 abbrev pub HasLimits : Layout → Type 0

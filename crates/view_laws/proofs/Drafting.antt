@@ -1,13 +1,9 @@
 -- What is so of open proposals and operations; and what a brick's step owes, so that the agreement on views and this go on.
-use Rattle.std.proofs.Common.{◌≡◌, ◌≢◌, ℕ, zero, suc, ◌+◌, ◌-◌, ◌<◌, ◌≤◌, Bool, true, false, cond, ◌&&◌, ◌⊎◌, inl, inr, ⊎_elim, List, [], ◌∷◌, ◌++◌, length, map, Option, Some, None, refl, sym, ap, ◌∙◌, subst, arith, nat_lt, nat_eq}
+use Rattle.std.proofs.Common.{◌≡◌, ℕ, true, ◌⊎◌, inl, inr, ⊎_elim, List, ◌++◌, length, Option, Some, None, refl, sym, ap, ◌∙◌}
 use Rattle.std.specs.Prelude.{slice_get}
-use Rattle.std.proofs.lemmas.Bool.{cond_both}
-use Rattle.std.proofs.lemmas.Option.{same_Some}
 use Rattle.fab_base.specs.declared.identities.BrickId.{BrickId}
-use Rattle.fab_base.specs.declared.member_lists.View.{View}
 use Rattle.fab_base.specs.declared.stamps.Ballot.{Ballot}
 use Rattle.fab_base.specs.Layouts.{Layout, Group, group_of, seat_in}
-use Rattle.messages.specs.declared.calls.Call.{Call}
 use Rattle.messages.specs.declared.packets.Message.{Message}
 use Rattle.messages.specs.declared.packets.Packet.{Packet}
 use Rattle.quorum.proofs.Counts.{AreDistinctBelow}
@@ -16,11 +12,11 @@ use Rattle.synod_laws.proofs.Agreement.{grows_on}
 use Rattle.protocol.specs.declared.phases.Counted.{Counted}
 use Rattle.protocol.specs.Proposals.{Proposal, answers_ballot, promises}
 use Rattle.protocol.specs.Coordinators.{Coordinator}
-use Rattle.protocol.specs.Nodes.{Node, put, view_in}
+use Rattle.protocol.specs.Nodes.{Node, view_in}
 use Rattle.protocol.proofs.Tables.{put_each}
 use Rattle.view_laws.proofs.FirstTold.{first_told, first_found, first_of_later}
 use Rattle.view_laws.proofs.Histories.{ViewWorld, IsSent, IsNamed, accept_in, history, PacketSays, Extends, name_stays}
-use Rattle.view_laws.proofs.Agreeing.{IsSafeIn, Agreed, Turn, turned, turn_extends, turn_agrees, sending_more, sent_extends, MayPropose, safe_in_stays, sent_agrees}
+use Rattle.view_laws.proofs.Agreeing.{IsSafeIn, Agreed, Turn, turned, turn_extends, turn_agrees, sending_more, sent_extends, safe_in_stays, sent_agrees}
 use Rattle.view_laws.proofs.Calling.{Called}
 use Rattle.view_laws.proofs.Owning.{KeepsOwn}
 

@@ -1,19 +1,17 @@
 -- More is known after each event, and so after every longer run.
-use Rattle.std.proofs.Common.{◌≡◌, ℕ, true, List, [], ◌∷◌, ◌++◌, Option, Some, refl, sym, ap, ◌∙◌, subst, Bool, ◌&&◌}
+use Rattle.std.proofs.Common.{◌≡◌, ℕ, List, [], ◌∷◌, ◌++◌, refl, ap, ◌∙◌, subst, ◌&&◌}
 use Rattle.std.specs.Prelude.{not}
 use Rattle.std.proofs.lemmas.Bool.{and_parts, not-true}
-use Rattle.fab_base.specs.declared.identities.BrickId.{BrickId}
-use Rattle.fab_base.specs.declared.stamps.Ballot.{Ballot}
 use Rattle.fab_base.specs.Layouts.{Layout}
 use Rattle.messages.specs.declared.packets.Packet.{Packet}
 use Rattle.protocol.specs.Settings.{Setting, IsSound}
-use Rattle.protocol.specs.Nodes.{Node, NodeStep, put, invoked, proposed, ticked, stopped, restarted, may_open}
-use Rattle.protocol.specs.Worlds.{World, Event, first_world, is_up, run, happens}
+use Rattle.protocol.specs.Nodes.{Node, NodeStep, invoked, proposed, ticked, stopped, restarted, may_open}
+use Rattle.protocol.specs.Worlds.{World, Event, first_world, run, happens}
 use Rattle.protocol.proofs.Events.{EventCases, step_on, happens_each, started_each, run-append}
-use Rattle.view_laws.proofs.Histories.{ViewWorld, view_world, history, Extends}
+use Rattle.view_laws.proofs.Histories.{ViewWorld, view_world, Extends}
 use Rattle.view_laws.proofs.Agreeing.{turned, turn_extends, turned_placed, placed, placed_extends, sending_more}
 use Rattle.view_laws.proofs.CallSteps.{Calls, always_calls, put_back}
-use Rattle.view_laws.proofs.Drafting.{StepSays, step_extends, extends_on}
+use Rattle.view_laws.proofs.Drafting.{step_extends, extends_on}
 use Rattle.view_laws.proofs.Deciding.{HasLimits}
 use Rattle.view_laws.proofs.Beginning.{invoked_says, proposed_says, ticked_says}
 use Rattle.view_laws.proofs.Agreements.{Agreement, packet_sent, received_says, invoked_keeps, always_agreed}
@@ -32,7 +30,7 @@ stopped_extends : (layout : Layout) (v : ViewWorld) (i : ℕ) → Extends layout
 unfolding stopped
 stopped_extends layout v i = placed_extends layout v i (stopped (v.nodes i)) (refl, refl)
 
-restarted_extends : (layout : Layout) (v : ViewWorld) (i openings : ℕ) → Extends layout v (placed v i (restarted openings (v.nodes i)))
+pub restarted_extends : (layout : Layout) (v : ViewWorld) (i openings : ℕ) → Extends layout v (placed v i (restarted openings (v.nodes i)))
 unfolding restarted
 restarted_extends layout v i openings = placed_extends layout v i (restarted openings (v.nodes i)) (refl, refl)
 

@@ -1,13 +1,12 @@
 -- Every run follows its views: the members of a view that is known are those that its name tells, and where a view is known, a quorum of each view before has closed it.
-use Rattle.std.proofs.Common.{◌≡◌, ◌≢◌, ℕ, zero, suc, ◌+◌, ◌-◌, ◌<◌, ◌≤◌, Bool, true, false, cond, ◌&&◌, ◌||◌, ◌⊎◌, inl, inr, ⊎_elim, List, [], ◌∷◌, ◌++◌, length, map, Option, Some, None, refl, sym, ap, ◌∙◌, subst, arith, nat_lt, nat_eq, is_some}
-use Rattle.std.specs.Prelude.{slice_get, not, ◌^◌, if◌then◌else◌}
+use Rattle.std.proofs.Common.{◌≡◌, ℕ, zero, suc, ◌+◌, ◌-◌, ◌<◌, ◌≤◌, Bool, true, false, cond, ◌&&◌, ⊎_elim, List, [], ◌∷◌, ◌++◌, length, map, Option, Some, None, refl, sym, ap, ◌∙◌, subst, arith, nat_lt, nat_eq, is_some}
+use Rattle.std.specs.Prelude.{not, ◌^◌}
 use Rattle.std.specs.Option.{option_map, unwrap_or}
 use Rattle.std.specs.List.{IsDistinct, AllByRecursion, list_all}
-use Rattle.std.proofs.lemmas.Bool.{cond_both, and_parts, and_from, or_left, or_right, or_parts, or_cases, not-true, not-false, eqb-true, eq-eqb, cases_Bool}
+use Rattle.std.proofs.lemmas.Bool.{cond_both, and_parts, and_from, or_left, or_right, or_parts, or_cases, not-true, eqb-true}
 use Rattle.std.proofs.lemmas.Bool.Decides.{nat_tests}
 use Rattle.std.proofs.lemmas.Option.{same_Some}
 use Rattle.fab_base.specs.declared.identities.BrickId.{BrickId}
-use Rattle.fab_base.specs.declared.identities.GroupId.{GroupId}
 use Rattle.fab_base.specs.declared.member_lists.View.{View}
 use Rattle.fab_base.specs.declared.stamps.Ballot.{Ballot}
 use Rattle.fab_base.specs.declared.stamps.Stamp.{Stamp}
@@ -16,23 +15,23 @@ use Rattle.fab_base.specs.Layouts.{Layout, Group, group_of, first_view, brick_at
 use Rattle.fab_base.proofs.StampOrder.{stamp_below_irrefl, stamp_below_asym, stamp_not_below_trans}
 use Rattle.messages.specs.declared.packets.Message.{Message}
 use Rattle.messages.specs.declared.packets.Packet.{Packet}
-use Rattle.quorum.specs.Quorums.{count, quorum_of, IsWithinLimits}
+use Rattle.quorum.specs.Quorums.{IsWithinLimits}
 use Rattle.quorum.specs.Memberships.{stands_in, are_distinct, is_membership}
 use Rattle.quorum.proofs.Counts.{count_monotone}
 use Rattle.synod_laws.specs.Synods.{Kept, IsAtMost, last_of}
 use Rattle.protocol.specs.Settings.{Setting, IsSound}
-use Rattle.protocol.specs.Views.{Views, members_of, layout_views, floor_of, kept_by, group_kept, group_in, learn_in, first_learn, views_in}
+use Rattle.protocol.specs.Views.{members_of, layout_views, floor_of, group_kept, group_in, learn_in, first_learn, views_in}
 use Rattle.protocol.specs.Replicas.{stamp_max, top_of}
 use Rattle.protocol.specs.Nodes.{Node, view_at, has_accepted, view_floor, top_at}
 use Rattle.protocol.specs.Worlds.{World, Event, first_world, run}
 use Rattle.protocol.proofs.Events.{run-append}
-use Rattle.view_laws.specs.Following.{AtQuorum, IsGuarded, Follows, RunFollows, EveryRunFollowsItsViews}
+use Rattle.view_laws.specs.Following.{IsGuarded, Follows, EveryRunFollowsItsViews}
 use Rattle.view_laws.specs.Successors.{has_closed}
 use Rattle.view_laws.proofs.FirstTold.{either, first_told}
-use Rattle.view_laws.proofs.Histories.{ViewWorld, view_world, IsNamed, named_in, history, seated, IsDecided, Extends, kept_at, kept_is, name_has_number, name_is, known_taught}
+use Rattle.view_laws.proofs.Histories.{ViewWorld, view_world, IsNamed, named_in, IsDecided, Extends, kept_is, name_has_number, name_is, known_taught}
 use Rattle.view_laws.proofs.Agreeing.{Agreed}
-use Rattle.view_laws.proofs.Deciding.{HasLimits, view_limits, first_is}
-use Rattle.view_laws.proofs.Agreements.{Agreement, always_agreed}
+use Rattle.view_laws.proofs.Deciding.{view_limits, first_is}
+use Rattle.view_laws.proofs.Agreements.{always_agreed}
 use Rattle.view_laws.proofs.Extending.{run_extends}
 
 -- ---- the members of views
@@ -203,7 +202,7 @@ below_known layout v g e (suc d) view agreed some number named =
 -- ---- following
 
 -- each list of the members that are named is within the limits of its group, and distinct
-named_fits : (setting : Setting) (w : World) (g e : ℕ) (group : Group) → IsSound setting → Agreed setting.layout (view_world w)
+pub named_fits : (setting : Setting) (w : World) (g e : ℕ) (group : Group) → IsSound setting → Agreed setting.layout (view_world w)
     → group_in setting.layout (views_in setting.layout w.packets) g e ≡ Some group
     → IsWithinLimits group.m (length group.members) × IsDistinct nat_eq (map (λ (member : BrickId). member.0) group.members)
 named_fits setting w g e group sound agreed is = by (named_in setting.layout w.packets g e) refl
@@ -239,6 +238,17 @@ decided_guards layout w g e s view agreed some decided number =
     (subst (λ (z : ℕ). w.choices.votes (brick_at group k) g z decided.ballot ≡ Some view.members) number (decided.chosen.2 k below member))))) in
     omega (arith, many, more)
 
+-- a view's prior members are those of the view before, which has a name
+prior_named : (layout : Layout) (packets : List Packet) (g e : ℕ) (view before : View) → view.prior ≡ before.members
+    → named_in layout packets g e ≡ Some before → view.prior ≡ views_in layout packets g e
+prior_named layout packets g e view before prior named = prior ∙ sym (views_of_name layout packets g e before named)
+
+-- the group that the members of a view keep is the one of its name
+same_group_named : (layout : Layout) (packets : List Packet) (g e : ℕ) (view : View) (one other : Group) → group_kept layout view.members g ≡ Some one
+    → named_in layout packets g e ≡ Some view → group_in layout (views_in layout packets) g e ≡ Some other → one ≡ other
+same_group_named layout packets g e view one other kept named found =
+    same_Some one other (sym kept ∙ sym (group_of_name layout packets g e view named) ∙ found)
+
 -- a world follows the members that the packets of a later one name
 pub follows_later : (setting : Setting) (w later : World) → IsSound setting → Agreed setting.layout (view_world w) → Agreed setting.layout (view_world later)
     → Extends setting.layout (view_world w) (view_world later) → Follows setting.layout (views_in setting.layout later.packets) w
@@ -252,9 +262,9 @@ follows_later setting w later sound agreed agreed_later extends = record {
       = (known_taught setting.layout (view_world w) g ((w.nodes i).learnt g).view agreed.says (agreed.learnt i g) above).1 in
       let next = decided.next in
       let number : decided.before.number.0 ≡ view_at (w.nodes i) g - 1 = omega (arith, next) in
-      decided.prior ∙ sym (views_of_name setting.layout later.packets g (view_at (w.nodes i) g - 1) decided.before
+      prior_named setting.layout later.packets g (view_at (w.nodes i) g - 1) ((w.nodes i).learnt g).view decided.before decided.prior
       (subst (λ (z : ℕ). named_in setting.layout later.packets g z ≡ Some decided.before) number
-      (extends.named g decided.before.number.0 decided.before decided.named)));
+      (extends.named g decided.before.number.0 decided.before decided.named));
   passed = λ i g e s group some before found.
       let known = below_known setting.layout (view_world w) g e (view_at (w.nodes i) g - (e + 1)) ((w.nodes i).learnt g).view agreed some
       (omega (arith, before)) (agreed.learnt i g) in
@@ -267,7 +277,7 @@ follows_later setting w later sound agreed agreed_later extends = record {
       = subst (λ (z : ℕ). named_in setting.layout later.packets g z ≡ Some decided.before) number_before
       (extends.named g decided.before.number.0 decided.before decided.named) in
       let same : decided.group ≡ group
-      = same_Some decided.group group (sym decided.group_is ∙ sym (group_of_name setting.layout later.packets g e decided.before named) ∙ found) in
+      = same_group_named setting.layout later.packets g e decided.before decided.group group decided.group_is named found in
       subst (λ (z : Group). IsGuarded w g s z (floor_of (e + 1))) same
       (decided_guards setting.layout w g e s known.0 agreed some decided number_before);
 }

@@ -1,6 +1,6 @@
 -- What the agreement on views rests on: the packets, what bricks accepted, and the bricks; and the history of the choice of each view's successor, by brick.
-use Rattle.std.proofs.Common.{◌≡◌, ◌≢◌, ℕ, ◌+◌, ◌-◌, ◌<◌, ◌≤◌, Bool, true, false, not, cond, ◌&&◌, ◌||◌, ◌⊎◌, inl, inr, ⊎_elim, List, [], ◌∷◌, ◌++◌, length, Option, Some, None, refl, sym, ap, ◌∙◌, subst, arith, nat_lt, nat_eq}
-use Rattle.std.specs.Prelude.{slice_get, if◌then◌else◌, ◌^◌}
+use Rattle.std.proofs.Common.{◌≡◌, ℕ, ◌+◌, ◌<◌, ◌≤◌, Bool, true, false, cond, ◌&&◌, ◌||◌, List, ◌++◌, length, Option, Some, None, refl, sym, ap, ◌∙◌, subst, arith, nat_lt, nat_eq}
+use Rattle.std.specs.Prelude.{slice_get, if◌then◌else◌}
 use Rattle.std.specs.Option.{option_map}
 use Rattle.std.proofs.lemmas.Bool.{cond_both, and_parts, eqb-true}
 use Rattle.std.proofs.lemmas.Bool.Decides.{nat_tests}
@@ -10,6 +10,7 @@ use Rattle.fab_base.specs.declared.identities.BrickId.{BrickId}
 use Rattle.fab_base.specs.declared.identities.GroupId.{GroupId}
 use Rattle.fab_base.specs.declared.member_lists.View.{View}
 use Rattle.fab_base.specs.declared.stamps.Ballot.{Ballot}
+use Rattle.fab_base.specs.Stamps.{ballot_below}
 use Rattle.fab_base.specs.Layouts.{Layout, Group, group_of, first_view, brick_at}
 use Rattle.messages.specs.declared.calls.Call.{Call}
 use Rattle.messages.specs.declared.packets.Message.{Message}
@@ -18,14 +19,15 @@ use Rattle.messages.specs.declared.requests.Request.{Request}
 use Rattle.messages.specs.declared.replies.Reply.{Reply}
 use Rattle.quorum.specs.Quorums.{quorum_of}
 use Rattle.quorum.specs.Memberships.{is_membership}
-use Rattle.synod_laws.specs.Synods.{Synod, Grows, IsChosen, IsSafe, Kept, SaysPromise, ballot_same, is_promised_above}
+use Rattle.synod_laws.specs.Synods.{Synod, Grows, IsChosen, Kept, SaysPromise, ballot_same, is_promised_above}
 use Rattle.synod_laws.proofs.Ballots.{ballot_same_true}
 use Rattle.synod_laws.proofs.Acceptors.{said_stays}
-use Rattle.synod_laws.proofs.Agreement.{chosen_stays, safe_stays}
+use Rattle.synod_laws.proofs.Agreement.{chosen_stays}
 use Rattle.protocol.specs.Views.{members_of, learn_in, kept_by, group_kept}
 use Rattle.protocol.specs.Proposals.{told_choice}
 use Rattle.protocol.specs.Nodes.{Node, view_at}
 use Rattle.protocol.specs.Worlds.{World}
+pub use Rattle.view_laws.specs.Successors.{is_past}
 use Rattle.view_laws.proofs.FirstTold.{first_told, first_stays, first_found}
 
 -- the packets, what bricks accepted (by brick, group, view and ballot), and the bricks
@@ -74,10 +76,6 @@ accept_of b request = None
 abbrev pub accept_in : ℕ → ℕ → Ballot → Message → Option (List BrickId)
 accept_in g e b (Message.Request call request) = if nat_eq call.group.0 g && nat_eq call.view.0 e then accept_of b request else None
 accept_in g e b message = None
-
--- a ballot is past for a brick: it has learnt a later view, or has promised to a greater ballot
-abbrev pub is_past : Node → ℕ → ℕ → Ballot → Bool
-is_past node g e b = nat_lt e (view_at node g) || (nat_eq e (view_at node g) && is_promised_above (node.ballots g) b)
 
 -- what a brick keeps of ballots for the successor of a view
 abbrev pub kept_at : Node → ℕ → ℕ → Kept (List BrickId)
@@ -133,12 +131,21 @@ pub record IsDecided (layout : Layout) (v : ViewWorld) (g : ℕ) (view : View) :
 abbrev pub IsTaught : Layout → ViewWorld → ℕ → View → Type 0
 IsTaught layout v g view = IsNamed layout v.packets g view × IsDecided layout v g view
 
+-- a greater ballot is told to a request that named a lower one
+pub record OutbidSays (packets : List Packet) (from to : ℕ) (call : Call) (greater : Ballot) : Type 0 where
+  pub request : Request
+  pub ballot : Ballot
+  pub asked : ballot_asked request ≡ Some ballot
+  pub sent : IsSent packets (record { from = record { 0 = to }; to = record { 0 = from }; message = Message.Request call request })
+  pub below : ballot_below ballot greater ≡ true
+
 -- what a request says: a list to accept was proposed so
 abbrev pub RequestSays : ViewWorld → Call → Request → Type 0
 RequestSays v call (Request.Accept ballot members) = (history v call.group.0 call.view.0).proposals ballot ≡ Some members
 RequestSays v call request = Unit {0}
 
--- what a reply says of the ballot of its call: it is promised to, or a list was accepted under it; and a later view that it tells is taught
+-- What a reply says of the ballot of its call: it is promised to, or a list was accepted under it, or the ballot that is told is greater. A later view that it tells
+-- is taught, or else the brick has accepted a list to follow the call's.
 abbrev pub ReplySays : Layout → ViewWorld → ℕ → ℕ → Call → Reply → Type 0
 ReplySays layout v from to call (Reply.Promise accepted) =
     (b : Ballot) × (ballot_called v.packets to call.boot call.seq ≡ Some b)
@@ -148,6 +155,9 @@ ReplySays layout v from to call Reply.Accepted =
     × (v.votes from call.group.0 call.view.0 b ≡ Some members)
 ReplySays layout v from to call (Reply.Moved number (Some lineage)) =
     IsTaught layout v call.group.0 (record { number = number; members = lineage.members; prior = lineage.prior })
+ReplySays layout v from to call (Reply.Moved number None) =
+    (number.0 ≡ call.view.0 + 1) × (b : Ballot) × (members : List BrickId) × (v.votes from call.group.0 call.view.0 b ≡ Some members)
+ReplySays layout v from to call (Reply.Outbid greater) = OutbidSays v.packets from to call greater
 ReplySays layout v from to call reply = Unit {0}
 
 -- what a message says
@@ -227,7 +237,8 @@ module _ (layout : Layout) (v next : ViewWorld) (extends : Extends layout v next
     extends.called to call.boot call.seq says.0 says.2,
     (extends.grows call.group.0 call.view.0).votes from says.0 says.1 says.3,
   )
-  reply_stays from to call (Reply.Moved number None) says = tt
+  reply_stays from to call (Reply.Moved number None) says =
+      (says.0, says.1, says.2, (extends.grows call.group.0 call.view.0).votes from says.1 says.2 says.3)
   reply_stays from to call (Reply.Moved number (Some lineage)) says =
       taught_stays layout v next call.group.0 (record { number = number; members = lineage.members; prior = lineage.prior }) extends says
   reply_stays from to call (Reply.Found order newest) says = tt
@@ -239,7 +250,8 @@ module _ (layout : Layout) (v next : ViewWorld) (extends : Extends layout v next
   reply_stays from to call (Reply.Full live) says = tt
   reply_stays from to call (Reply.Old found) says = tt
   reply_stays from to call Reply.Retired says = tt
-  reply_stays from to call (Reply.Outbid ballot) says = tt
+  reply_stays from to call (Reply.Outbid greater) says =
+      record { request = says.request; ballot = says.ballot; asked = says.asked; sent = extends.sent _ says.sent; below = says.below }
   reply_stays from to call Reply.NotSynced says = tt
 
   pub message_stays : (from to : ℕ) (message : Message) → MessageSays layout v from to message → MessageSays layout next from to message

@@ -1,11 +1,10 @@
 -- What handling a message leaves of a brick's own: its counters, its open operations and its proposal. And what an operation's phases keep: its view.
-use Rattle.std.proofs.Common.{◌≡◌, ℕ, Bool, true, false, List, Option, Some, None, refl, sym, ap, ◌∙◌, subst, nat_lt}
-use Rattle.std.specs.Prelude.{nat_eq, if◌then◌else◌, length}
+use Rattle.std.proofs.Common.{◌≡◌, ℕ, Option, Some, None, refl, nat_lt}
+use Rattle.std.specs.Prelude.{length}
 use Rattle.std.proofs.lemmas.Bool.{cond_both}
 use Rattle.fab_base.specs.declared.identities.BrickId.{BrickId}
 use Rattle.fab_base.specs.declared.identities.GroupId.{GroupId}
 use Rattle.fab_base.specs.declared.member_lists.View.{View}
-use Rattle.fab_base.specs.declared.stamps.Ballot.{Ballot}
 use Rattle.fab_base.specs.declared.stamps.Stamp.{Stamp}
 use Rattle.fab_base.specs.Layouts.{Layout, group_of}
 use Rattle.messages.specs.declared.calls.Call.{Call}
@@ -20,9 +19,8 @@ use Rattle.protocol.specs.declared.phases.Refuser.{Refuser}
 use Rattle.protocol.specs.declared.phases.FullMember.{FullMember}
 use Rattle.protocol.specs.declared.phases.Mover.{Mover}
 use Rattle.protocol.specs.Settings.{Setting, Code}
-use Rattle.protocol.specs.Views.{Learnt, learns, is_later}
-use Rattle.protocol.specs.Proposals.{Proposal}
-use Rattle.protocol.specs.Coordinators.{Coordinator, Next, Ignores, Waits, Sends, Makes, Ends, in_phase, restoring, modifying, reordering, forgetting, most_rounds, aborted_by, ordered_again, once_ordered, unless_refused, unless_told_full, unless_told_moved, answered_fast, answered_fast_at, fast_version, fast_version_at, common_version, common_version_at, read_back, pieces_at, modified_if, once_modified, some_behind, rebuilt, answer_with, greatest_refuser, greatest_found, lowest_full, lowest_mover, decided, with_reply, once_full, counted_at, counts_at, on_reply}
+use Rattle.protocol.specs.Views.{learns, is_later}
+use Rattle.protocol.specs.Coordinators.{Coordinator, Next, Ignores, Waits, Sends, Makes, Ends, in_phase, reordering, forgetting, most_rounds, aborted_by, once_ordered, unless_refused, unless_told_full, unless_told_moved, answered_fast, answered_fast_at, fast_version, fast_version_at, common_version_at, read_back, pieces_at, modified_if, once_modified, some_behind, rebuilt, greatest_refuser, greatest_found, lowest_full, lowest_mover, decided, with_reply, once_full, counted_at, counts_at, on_reply}
 use Rattle.protocol.specs.Nodes.{Node, NodeStep, view_in, with_learnt, node_taught, node_taught_by, may_teach, node_learnt, lists_fit, view_counted, requested, absorbed}
 use Rattle.protocol.proofs.Served.{request_each}
 

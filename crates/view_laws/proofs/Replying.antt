@@ -1,6 +1,6 @@
 -- What a brick owes when it handles a reply: to an open operation, or to its proposal.
-use Rattle.std.proofs.Common.{◌≡◌, ◌≢◌, ℕ, zero, suc, ◌+◌, ◌-◌, ◌<◌, ◌≤◌, Bool, true, false, cond, ◌⊎◌, inl, inr, ⊎_elim, List, [], ◌∷◌, ◌++◌, length, Option, Some, None, refl, sym, ap, ◌∙◌, subst, arith, nat_lt, nat_eq}
-use Rattle.std.specs.Prelude.{slice_get, max}
+use Rattle.std.proofs.Common.{◌≡◌, ℕ, ◌+◌, ◌<◌, ◌≤◌, Bool, true, false, cond, inr, List, [], ◌∷◌, ◌++◌, length, Option, Some, None, refl, sym, ap, ◌∙◌, subst, arith, nat_lt, nat_eq}
+use Rattle.std.specs.Prelude.{slice_get}
 use Rattle.std.proofs.lemmas.Bool.{cond_both, and_from, eq-eqb}
 use Rattle.std.proofs.lemmas.Bool.Decides.{nat_tests}
 use Rattle.std.proofs.lemmas.Option.{same_Some}
@@ -9,7 +9,6 @@ use Rattle.fab_base.specs.declared.identities.GroupId.{GroupId}
 use Rattle.fab_base.specs.declared.identities.ViewNo.{ViewNo}
 use Rattle.fab_base.specs.declared.member_lists.View.{View}
 use Rattle.fab_base.specs.declared.stamps.Ballot.{Ballot}
-use Rattle.fab_base.specs.declared.stamps.Stamp.{Stamp}
 use Rattle.fab_base.specs.Layouts.{Layout, Group, group_of, first_view}
 use Rattle.messages.specs.declared.calls.Call.{Call}
 use Rattle.messages.specs.declared.packets.Message.{Message}
@@ -21,28 +20,23 @@ use Rattle.quorum.specs.Quorums.{quorum_of}
 use Rattle.synod_laws.specs.Synods.{IsChosen, ballot_same, value_or}
 use Rattle.synod_laws.proofs.Ballots.{ballot_same_refl}
 use Rattle.synod_laws.proofs.Agreement.{two_chosen, chosen_stays}
-use Rattle.protocol.specs.declared.phases.Counted.{Counted}
-use Rattle.protocol.specs.declared.phases.Phase.{Phase}
-use Rattle.protocol.specs.declared.phases.Phase.TheVariants.{Looks, LooksAt, Orders, OrdersAt, Recovers, Descends, Modifies, Bases, Stores}
-use Rattle.protocol.specs.declared.tellings.ViewAnswer.{ViewAnswer}
-use Rattle.protocol.specs.declared.tellings.ViewAnswer.TheVariants as answer
 use Rattle.protocol.specs.Settings.{Setting, Code}
-use Rattle.protocol.specs.Views.{Learnt, members_of, view_told, learn_in, kept_by, group_kept}
-use Rattle.protocol.specs.Proposals.{Proposal, Voting, Ignored, Waited, Asks, Ended, ballot_quorum, ballot_request, ballot_packets, seat_voting, with_voice, refused_by, greatest_choice, asking, voted}
-use Rattle.protocol.specs.Coordinators.{Coordinator, Next, Ignores, Waits, Sends, Makes, Ends, request_of, on_reply, has_seat}
-use Rattle.protocol.specs.Nodes.{Node, NodeStep, put, no_step, with_known, with_round, with_call, known_after, phase_packets, collect_packets, fresh_stamp, view_in, carried_out, resent_to, learn_packets, decided_view, ended_packets, carried_ballot, replied_ballot, replied_at, counts_here, view_counted, node_taught_by, replied, lists_fit, heard}
+use Rattle.protocol.specs.Views.{members_of, view_told, learn_in, group_kept}
+use Rattle.protocol.specs.Proposals.{Proposal, Voting, Ignored, Waited, Asks, Ended, ballot_quorum, ballot_packets, seat_voting, with_voice, refused_by, greatest_choice, asking, voted}
+use Rattle.protocol.specs.Coordinators.{Coordinator, Next, Ignores, Waits, Sends, Makes, Ends, request_of, on_reply}
+use Rattle.protocol.specs.Nodes.{Node, NodeStep, put, no_step, with_known, with_round, known_after, phase_packets, fresh_stamp, view_in, carried_out, resent_to, learn_packets, decided_view, ended_packets, carried_ballot, replied_ballot, replied_at, counts_here, view_counted, node_taught_by, replied, lists_fit, heard}
 use Rattle.protocol.proofs.Packets.{OfEach, each_none, each_member, each_collect, each_ballot, each_learn}
 use Rattle.protocol.proofs.Tables.{put_each}
-use Rattle.view_laws.proofs.FirstTold.{first_told, first_stays, first_found, first_some, first_of_later, first_alike}
-use Rattle.view_laws.proofs.Histories.{ViewWorld, IsSent, IsNamed, named_in, group_named, accept_in, accept_is, IsAccept, learn_is, history, seated, seated_grows, PacketSays, MessageSays, IsDecided, IsTaught, Extends, name_stays, name_has_number, names_once, known_taught, name_is, ballot_called}
+use Rattle.view_laws.proofs.FirstTold.{first_told, first_some, first_of_later, first_alike}
+use Rattle.view_laws.proofs.Histories.{ViewWorld, IsSent, IsNamed, named_in, accept_in, accept_is, IsAccept, history, seated, seated_grows, PacketSays, MessageSays, IsDecided, IsTaught, Extends, name_stays, name_has_number, names_once, known_taught, name_is, ballot_called}
 use Rattle.view_laws.proofs.Agreeing.{IsSafeIn, Agreed, KeepsViews, Turn, turned, sending_more}
 use Rattle.view_laws.proofs.Calling.{Called, OfBallot}
 use Rattle.view_laws.proofs.CallSteps.{phase_names_none}
-use Rattle.view_laws.proofs.Owning.{KeepsOwn, SameCall, KeepsView, taught_own, reply_view_kept}
+use Rattle.view_laws.proofs.Owning.{SameCall, KeepsView, taught_own, reply_view_kept}
 use Rattle.view_laws.proofs.Voices.{refused_sends_none}
-use Rattle.view_laws.proofs.Votings.{EachVoting, voting_each}
-use Rattle.view_laws.proofs.Drafting.{DraftSays, Drafting, draft_stays, still_unproposed, AcceptsNone, StepSays, BodySays, body_own, step_extends, still_body}
-use Rattle.view_laws.proofs.Deciding.{HasLimits, voice_says, group_at_draft, group_is, group_named_is, within, majority, agrees, asks_safely, asked_chosen, chosen_fits}
+use Rattle.view_laws.proofs.Votings.{voting_each}
+use Rattle.view_laws.proofs.Drafting.{DraftSays, Drafting, draft_stays, still_unproposed, AcceptsNone, StepSays, BodySays, body_own, step_extends}
+use Rattle.view_laws.proofs.Deciding.{HasLimits, voice_says, group_at_draft, group_is, within, majority, agrees, asks_safely, asked_chosen, chosen_fits}
 use Rattle.view_laws.proofs.Requesting.{no_turn, taught_turn}
 
 -- ---- what a reply teaches

@@ -1,8 +1,8 @@
 -- What a brick owes when it handles a request, or a message that teaches a view.
-use Rattle.std.proofs.Common.{◌≡◌, ◌≢◌, ℕ, zero, suc, ◌+◌, ◌-◌, ◌<◌, ◌≤◌, Bool, true, false, cond, ◌&&◌, ◌||◌, ◌⊎◌, inl, inr, ⊎_elim, List, [], ◌∷◌, ◌++◌, length, Option, Some, None, refl, sym, ap, ◌∙◌, subst, arith, nat_lt, nat_eq}
-use Rattle.std.specs.Prelude.{slice_get, not, is_some, if◌then◌else◌, ◌^◌}
+use Rattle.std.proofs.Common.{◌≡◌, ℕ, ◌+◌, ◌-◌, ◌<◌, ◌≤◌, Bool, true, false, cond, ◌&&◌, ◌||◌, ◌⊎◌, inl, inr, ⊎_elim, List, [], Option, Some, None, refl, sym, ap, ◌∙◌, subst, arith, nat_lt, nat_eq}
+use Rattle.std.specs.Prelude.{not, is_some, ◌^◌}
 use Rattle.std.specs.Option.{option_map}
-use Rattle.std.proofs.lemmas.Bool.{cond_both, and_parts, or_parts, eqb-true, eqb-false, ne_eqb, not-false}
+use Rattle.std.proofs.lemmas.Bool.{cond_both, and_parts, or_parts, eqb-true, eqb-false, eq-eqb, ne_eqb, not-false, false≢true}
 use Rattle.std.proofs.lemmas.Bool.Decides.{nat_tests}
 use Rattle.std.proofs.lemmas.Option.{same_Some}
 use Rattle.fab_base.specs.declared.identities.BrickId.{BrickId}
@@ -11,34 +11,33 @@ use Rattle.fab_base.specs.declared.member_lists.View.{View}
 use Rattle.fab_base.specs.declared.stamps.Ballot.{Ballot}
 use Rattle.fab_base.specs.declared.stamps.Stamp.{Stamp}
 use Rattle.fab_base.specs.Stamps.{ballot_below, stamp_below, stamp_same}
-use Rattle.fab_base.specs.Layouts.{Layout, Group, group_of, seat_in}
+use Rattle.fab_base.specs.Layouts.{Layout, Group, group_of}
 use Rattle.messages.specs.declared.calls.Call.{Call}
 use Rattle.messages.specs.declared.packets.Message.{Message}
 use Rattle.messages.specs.declared.packets.Packet.{Packet}
 use Rattle.messages.specs.declared.requests.Request.{Request}
 use Rattle.messages.specs.declared.requests.Version.{Version}
-use Rattle.messages.specs.declared.replies.Choice.{Choice}
 use Rattle.messages.specs.declared.replies.Reply.{Reply}
 use Rattle.messages.specs.declared.replies.Reply.TheVariants as reply
 use Rattle.quorum.specs.Memberships.{is_membership}
 use Rattle.synod_laws.specs.Synods.{SaysPromise, Kept, is_promised_above, last_of}
 use Rattle.synod_laws.proofs.Acceptors.{said_stays}
 use Rattle.protocol.specs.Settings.{Setting, Code}
-use Rattle.protocol.specs.Views.{Learnt, kept_by, is_later, learns}
-use Rattle.protocol.specs.Replicas.{Replica, Reaction, is_held, top_of, stays, unless_full, promised, stored, modified_on, newest_of, collected, handle}
-use Rattle.protocol.specs.Ballots.{Voted, choice_of, moved_to, outbidding, ballot_refusal, granting, unless_barred, voting}
+use Rattle.protocol.specs.Views.{Learnt, is_later, learns}
+use Rattle.protocol.specs.Replicas.{Replica, Reaction, is_held, top_of, stays, unless_full, promised, stored, modified_on, newest_of, handle}
+use Rattle.protocol.specs.Ballots.{choice_of, moved_to, outbidding, ballot_refusal, granting, unless_barred, voting}
 use Rattle.protocol.specs.Proposals.{told_choice}
-use Rattle.protocol.specs.Nodes.{Node, NodeStep, view_at, has_accepted, group_at, put, no_step, sending, full_at, replica_at, reply_packets, reacted, requested_at, is_now, has_successor, fits, seat_now, is_void, moved_at, served_unless, vote_at, voted_on, requested_as, requested_in, requested, with_learnt, node_taught, may_teach, node_learnt}
-use Rattle.protocol.proofs.Packets.{OfEach, each_none, each_reply}
+use Rattle.protocol.specs.Nodes.{Node, NodeStep, view_at, has_accepted, group_at, put, no_step, full_at, replica_at, reply_packets, reacted, requested_at, is_now, has_successor, fits, seat_now, is_void, moved_at, served_unless, vote_at, voted_on, requested_as, requested_in, requested, with_learnt, node_taught, may_teach, node_learnt}
+use Rattle.protocol.proofs.Packets.{each_reply}
 use Rattle.protocol.proofs.Puts.{put_other}
 use Rattle.protocol.proofs.Tables.{put_same}
 use Rattle.view_laws.proofs.FirstTold.{first_stays}
-use Rattle.view_laws.proofs.Histories.{ViewWorld, IsSent, IsNamed, accept_in, ballot_called, history, PacketSays, ReplySays, IsTaught, Extends, taught_stays, known_taught, kept_is}
-use Rattle.view_laws.proofs.Agreeing.{Agreed, KeepsViews, StaysAt, VoteFits, vote_request, VotesAt, LearnsAt, Turn, turned, promise_says, accepted_says, sending_more, sent_grows}
-use Rattle.view_laws.proofs.Calling.{OfBallots, IsBallotOf, Called}
+use Rattle.view_laws.proofs.Histories.{ViewWorld, IsSent, IsNamed, accept_in, ballot_asked, ballot_called, history, PacketSays, ReplySays, IsTaught, Extends, taught_stays, known_taught, kept_is}
+use Rattle.view_laws.proofs.Agreeing.{Agreed, KeepsViews, StaysAt, vote_request, VotesAt, LearnsAt, Turn, turned, last_noted, promise_says, accepted_says, sending_more, sent_grows}
+use Rattle.view_laws.proofs.Calling.{Called}
 use Rattle.view_laws.proofs.CallSteps.{put_back}
 use Rattle.view_laws.proofs.Owning.{learnt_own}
-use Rattle.view_laws.proofs.Drafting.{Drafting, AcceptsNone, StepSays, BodySays, body_own, step_extends, still_body}
+use Rattle.view_laws.proofs.Drafting.{Drafting, StepSays, BodySays, body_own, step_extends, still_body}
 
 -- ---- turns
 
@@ -99,15 +98,15 @@ learn_turn layout packets node group view named =
 abbrev pub IsPlain : Reply → Type 0
 IsPlain (reply.Promise accepted) = ⊥
 IsPlain reply.Accepted = ⊥
-IsPlain (reply.Moved view (Some lineage)) = ⊥
+IsPlain (reply.Moved view lineage) = ⊥
+IsPlain (reply.Outbid ballot) = ⊥
 IsPlain said = Unit {0}
 
 -- it owes nothing
 pub plain_says : (layout : Layout) (v : ViewWorld) (from to : ℕ) (call : Call) (said : Reply) → IsPlain said → ReplySays layout v from to call said
 plain_says layout v from to call (reply.Promise accepted) plain = absurd plain
 plain_says layout v from to call reply.Accepted plain = absurd plain
-plain_says layout v from to call (reply.Moved view None) plain = tt
-plain_says layout v from to call (reply.Moved view (Some lineage)) plain = absurd plain
+plain_says layout v from to call (reply.Moved view lineage) plain = absurd plain
 plain_says layout v from to call (reply.Found order newest) plain = tt
 plain_says layout v from to call reply.Ordered plain = tt
 plain_says layout v from to call (reply.OrderedRead found) plain = tt
@@ -117,7 +116,7 @@ plain_says layout v from to call (reply.Later stamp) plain = tt
 plain_says layout v from to call (reply.Full live) plain = tt
 plain_says layout v from to call (reply.Old found) plain = tt
 plain_says layout v from to call reply.Retired plain = tt
-plain_says layout v from to call (reply.Outbid ballot) plain = tt
+plain_says layout v from to call (reply.Outbid ballot) plain = absurd plain
 plain_says layout v from to call reply.NotSynced plain = tt
 
 -- a reaction replies plainly, if it replies
@@ -199,27 +198,42 @@ refusal_none view learnt kept ballot =
         (λ (z : Option Ballot). option_map (λ greater. reply.Outbid greater) z ≡ None → ballot_below ballot promise ≡ false)
         (λ below some. absurd (let never : Some (reply.Outbid promise) ≡ None = some in cc)) (λ isnt none. isnt) none
 
--- how it refuses: by a later view that it has learnt, or plainly
+-- a reply tells a greater ballot
+record Outbids (ballot : Ballot) (said : Reply) : Type 0 where
+  greater : Ballot
+  is : said ≡ reply.Outbid greater
+  below : ballot_below ballot greater ≡ true
+
+-- how it refuses: by a later view that it has learnt, by a greater ballot, or plainly
 refusal_is : (view : ℕ) (learnt : Learnt) (kept : Kept (List BrickId)) (ballot : Ballot) (said : Reply) → ballot_refusal view learnt kept ballot ≡ Some said
-    → ((nat_lt view learnt.view.number.0 ≡ true) × (said ≡ moved_to learnt.view)) ⊎ IsPlain said
+    → ((nat_lt view learnt.view.number.0 ≡ true) × (said ≡ moved_to learnt.view)) ⊎ (Outbids ballot said ⊎ IsPlain said)
 refusal_is view learnt kept ballot said =
     cond_both (nat_lt view learnt.view.number.0) (Some (moved_to learnt.view)) _
-    (λ (z : Option Reply). z ≡ Some said → ((nat_lt view learnt.view.number.0 ≡ true) × (said ≡ moved_to learnt.view)) ⊎ IsPlain said)
+    (λ (z : Option Reply). z ≡ Some said → ((nat_lt view learnt.view.number.0 ≡ true) × (said ≡ moved_to learnt.view)) ⊎ (Outbids ballot said ⊎ IsPlain said))
     (λ later some. inl (later, sym (same_Some (moved_to learnt.view) said some)))
     (λ isnt.
     cond_both learnt.synced (option_map (λ greater. reply.Outbid greater) (outbidding kept ballot)) (Some reply.NotSynced)
-    (λ (z : Option Reply). z ≡ Some said → ((nat_lt view learnt.view.number.0 ≡ true) × (said ≡ moved_to learnt.view)) ⊎ IsPlain said)
-    (λ synced some. inr (outbid (outbidding kept ballot) some))
-    (λ unsynced some. inr (one_plain reply.NotSynced said tt some)))
+    (λ (z : Option Reply). z ≡ Some said → ((nat_lt view learnt.view.number.0 ≡ true) × (said ≡ moved_to learnt.view)) ⊎ (Outbids ballot said ⊎ IsPlain said))
+    (λ synced some. inr (inl (outbid kept some)))
+    (λ unsynced some. inr (inr (one_plain reply.NotSynced said tt some))))
   where
-    outbid : (z : Option Ballot) → option_map (λ greater. reply.Outbid greater) z ≡ Some said → IsPlain said
+    outbid : (z : Kept (List BrickId)) → option_map (λ greater. reply.Outbid greater) (outbidding z ballot) ≡ Some said → Outbids ballot said
     outbid None some = absurd (let never : None ≡ Some said = some in cc)
-    outbid (Some greater) some = one_plain (reply.Outbid greater) said tt some
+    outbid (Some (promise, accepted)) some =
+        cond_both (ballot_below ballot promise) (Some promise) None
+        (λ (z : Option Ballot). option_map (λ greater. reply.Outbid greater) z ≡ Some said → Outbids ballot said)
+        (λ below told. record { greater = promise; is = sym (same_Some (reply.Outbid promise) said told); below = below })
+        (λ isnt none. absurd (let never : None ≡ Some said = none in cc)) some
 
 -- a choice that is told is the one that was accepted
 told_back : (last : Option (Ballot × List BrickId)) → told_choice (reply.Promise (option_map choice_of last)) ≡ last
 told_back None = refl
 told_back (Some accepted) = refl
+
+-- a request that asks for a vote names its ballot
+vote_names : (ballot : Ballot) (asks : Option (List BrickId)) → ballot_asked (vote_request ballot asks) ≡ Some ballot
+vote_names ballot None = refl
+vote_names ballot (Some members) = refl
 
 -- what is so of a request that is not void
 record IsOpen (layout : Layout) (me : BrickId) (node : Node) (call : Call) (request : Request) (group : Group) : Type 0 where
@@ -274,10 +288,27 @@ module _ (setting : Setting) (v : ViewWorld) (called : Called v.packets v.nodes)
       (known_taught setting.layout v call.group.0 (node.learnt call.group.0).view agreed.says (agreed.learnt me.0 call.group.0)
       (let above : call.view.0 < view_at node call.group.0 = grind (arith, nat_tests, later) in omega (arith, positive, above)))
 
+  -- where it has accepted a list to follow its view, it has done so under some ballot
+  accepted_noted : call.view.0 ≡ view_at node call.group.0 → has_accepted node call.group.0 ≡ true
+      → (b : Ballot) × (members : List BrickId) × (v.votes me.0 call.group.0 call.view.0 b ≡ Some members)
+  accepted_noted now has =
+      by (last_of (node.ballots call.group.0)) refl
+      (and_parts (nat_lt (view_at node call.group.0) (2 ^ 32 - 1)) (is_some (last_of (node.ballots call.group.0))) has).1
+    where
+      by : (z : Option (Ballot × List BrickId)) → last_of (node.ballots call.group.0) ≡ z → is_some z ≡ true
+          → (b : Ballot) × (members : List BrickId) × (v.votes me.0 call.group.0 call.view.0 b ≡ Some members)
+      by None is some = absurd (false≢true some)
+      by (Some accepted) is some = (
+        accepted.0,
+        accepted.1,
+        last_noted setting.layout v me.0 node agreed call.group.0 call.view.0 accepted.0 accepted.1
+            (ap (λ (t : Bool). cond t (last_of (node.ballots call.group.0)) None) (eq-eqb call.view.0 (view_at node call.group.0) now) ∙ is),
+      )
+
   -- it tells that it moved
-  moved_says : 1 ≤ call.view.0 → (said : Reply) → moved_at node call ≡ Some said → (last : ViewWorld) → Extends setting.layout v last
+  moved_says : 1 ≤ call.view.0 → call.view.0 ≤ view_at node call.group.0 → (said : Reply) → moved_at node call ≡ Some said → (last : ViewWorld) → Extends setting.layout v last
       → ReplySays setting.layout last me.0 from.0 call said
-  moved_says positive said is last extends =
+  moved_says positive known said is last extends =
       cond_both (nat_lt call.view.0 (view_at node call.group.0)) (Some (moved_to (node.learnt call.group.0).view)) _
       (λ (z : Option Reply). z ≡ Some said → ReplySays setting.layout last me.0 from.0 call said)
       (λ later some.
@@ -286,7 +317,12 @@ module _ (setting : Setting) (v : ViewWorld) (called : Called v.packets v.nodes)
       (λ isnt.
       cond_both (has_accepted node call.group.0) (Some (reply.Moved (record { 0 = call.view.0 + 1 }) None)) None
       (λ (z : Option Reply). z ≡ Some said → ReplySays setting.layout last me.0 from.0 call said)
-      (λ has some. plain_says setting.layout last me.0 from.0 call said (one_plain (reply.Moved (record { 0 = call.view.0 + 1 }) None) said tt some))
+      (λ has some.
+      let now : call.view.0 ≡ view_at node call.group.0 = grind (arith, nat_tests, isnt, known) in
+      let vote = accepted_noted now has in
+      subst (λ (z : Reply). ReplySays setting.layout last me.0 from.0 call z)
+      (same_Some (reply.Moved (record { 0 = call.view.0 + 1 }) None) said some)
+      (refl, vote.0, vote.1, (extends.grows call.group.0 call.view.0).votes me.0 vote.0 vote.1 vote.2))
       (λ hasnt none. absurd (let never : None ≡ Some said = none in cc)))
       is
 
@@ -301,16 +337,16 @@ module _ (setting : Setting) (v : ViewWorld) (called : Called v.packets v.nodes)
       (handle_plain setting.code m (full_at setting.layout.records node.live) seat (replica_at node call) request one is))
 
   -- a request is served, unless the brick moved
-  served_says : 1 ≤ call.view.0 → (m : ℕ) (request : Request) (seat : Option ℕ)
+  served_says : 1 ≤ call.view.0 → call.view.0 ≤ view_at node call.group.0 → (m : ℕ) (request : Request) (seat : Option ℕ)
       → (let step = served_unless setting m me from node call request seat (moved_at node call) in StepSays setting.layout v me.0 step.node step.packets)
-  served_says positive m request seat = by (moved_at node call) refl
+  served_says positive known m request seat = by (moved_at node call) refl
     where
       by : (z : Option Reply) → moved_at node call ≡ z
           → (let step = served_unless setting m me from node call request seat z in StepSays setting.layout v me.0 step.node step.packets)
       by None is = seat_says m request seat
       by (Some said) is =
           replies_says node (refl, refl) refl refl (Some said)
-          (λ one same last extends. moved_says positive one (is ∙ same) last extends)
+          (λ one same last extends. moved_says positive known one (is ∙ same) last extends)
 
   -- the ballot of a request that asks for a vote is its call's
   vote_called : (ballot : Ballot) (asks : Option (List BrickId))
@@ -421,11 +457,12 @@ module _ (setting : Setting) (v : ViewWorld) (called : Called v.packets v.nodes)
       }
 
   -- where it refuses
-  refuses_says : (ballot : Ballot) (refused : Reply) → 1 ≤ call.view.0
+  refuses_says : (ballot : Ballot) (asks : Option (List BrickId)) (refused : Reply)
+      → IsSent v.packets (record { from = from; to = me; message = Message.Request call (vote_request ballot asks) }) → 1 ≤ call.view.0
       → ballot_refusal call.view.0 (node.learnt call.group.0) (node.ballots call.group.0) ballot ≡ Some refused
       → StepSays setting.layout v me.0 (record node { ballots = put node.ballots call.group.0 (node.ballots call.group.0) })
       (reply_packets me from call (Some refused))
-  refuses_says ballot refused positive is =
+  refuses_says ballot asks refused sent positive is =
       replies_says (record node { ballots = put node.ballots call.group.0 (node.ballots call.group.0) }) (refl, put_back node.ballots call.group.0) refl refl
       (Some refused)
       (λ one same last extends.
@@ -433,7 +470,18 @@ module _ (setting : Setting) (v : ViewWorld) (called : Called v.packets v.nodes)
       (⊎_elim
       (λ (moved : (nat_lt call.view.0 (view_at node call.group.0) ≡ true) × (refused ≡ moved_to (node.learnt call.group.0).view)).
       subst (λ (z : Reply). ReplySays setting.layout last me.0 from.0 call z) (sym moved.1) (learnt_taught positive moved.0 last extends))
+      (λ (other : Outbids ballot refused ⊎ IsPlain refused). ⊎_elim
+      (λ (outbids : Outbids ballot refused).
+      subst (λ (z : Reply). ReplySays setting.layout last me.0 from.0 call z) (sym outbids.is)
+      (record {
+        request = vote_request ballot asks;
+        ballot = ballot;
+        asked = vote_names ballot asks;
+        sent = extends.sent (record { from = from; to = me; message = Message.Request call (vote_request ballot asks) }) sent;
+        below = outbids.below;
+      }))
       (λ (plain : IsPlain refused). plain_says setting.layout last me.0 from.0 call refused plain)
+      other)
       (refusal_is call.view.0 (node.learnt call.group.0) (node.ballots call.group.0) ballot refused is)))
 
   -- a ballot is voted on
@@ -449,7 +497,7 @@ module _ (setting : Setting) (v : ViewWorld) (called : Called v.packets v.nodes)
       by : (z : Option Reply) → ballot_refusal call.view.0 (node.learnt call.group.0) (node.ballots call.group.0) ballot ≡ z
           → (let step = voted_on me from node call (unless_barred z (node.ballots call.group.0) (granting (node.ballots call.group.0) ballot asks)) in
           StepSays setting.layout v me.0 step.node step.packets)
-      by (Some refused) is = refuses_says ballot refused positive is
+      by (Some refused) is = refuses_says ballot asks refused sent positive is
       by None is =
           let facts = refusal_none call.view.0 (node.learnt call.group.0) (node.ballots call.group.0) ballot is in
           let ahead = facts.0 in
@@ -459,13 +507,13 @@ module _ (setting : Setting) (v : ViewWorld) (called : Called v.packets v.nodes)
   as_says : (group : Group) → group_at setting.layout node call.group.0 ≡ Some group → (request : Request)
       → IsSent v.packets (record { from = from; to = me; message = Message.Request call request }) → IsOpen setting.layout me node call request group
       → (let step = requested_as setting group me from node call request in StepSays setting.layout v me.0 step.node step.packets)
-  as_says group at (Request.Read want) sent opens = served_says opens.positive group.m (Request.Read want) (seat_now me node call group)
-  as_says group at (Request.Order t) sent opens = served_says opens.positive group.m (Request.Order t) (seat_now me node call group)
+  as_says group at (Request.Read want) sent opens = served_says opens.positive opens.known group.m (Request.Read want) (seat_now me node call group)
+  as_says group at (Request.Order t) sent opens = served_says opens.positive opens.known group.m (Request.Order t) (seat_now me node call group)
   as_says group at (Request.OrderRead t look want) sent opens =
-      served_says opens.positive group.m (Request.OrderRead t look want) (seat_now me node call group)
-  as_says group at (Request.Write t block) sent opens = served_says opens.positive group.m (Request.Write t block) (seat_now me node call group)
+      served_says opens.positive opens.known group.m (Request.OrderRead t look want) (seat_now me node call group)
+  as_says group at (Request.Write t block) sent opens = served_says opens.positive opens.known group.m (Request.Write t block) (seat_now me node call group)
   as_says group at (Request.Modify t base j delta) sent opens =
-      served_says opens.positive group.m (Request.Modify t base j delta) (seat_now me node call group)
+      served_says opens.positive opens.known group.m (Request.Modify t base j delta) (seat_now me node call group)
   as_says group at (Request.Collect t) sent opens = seat_says group.m (Request.Collect t) (seat_now me node call group)
   as_says group at (Request.OldRead bound) sent opens = quiet_says
   as_says group at (Request.Prepare ballot) sent opens =

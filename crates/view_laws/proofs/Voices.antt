@@ -1,6 +1,6 @@
 -- The replies that count in a phase of a proposal: what makes one count, and what they are where none refuses.
-use Rattle.std.proofs.Common.{◌≡◌, ℕ, zero, suc, ◌+◌, ◌<◌, Bool, true, false, ◌&&◌, List, [], ◌∷◌, ◌++◌, length, map, Option, Some, None, refl, sym, ap, ◌∙◌, subst, nat_lt, nat_eq}
-use Rattle.std.specs.Prelude.{slice_get, not, is_some}
+use Rattle.std.proofs.Common.{◌≡◌, ℕ, zero, suc, ◌<◌, true, false, List, [], ◌∷◌, ◌++◌, map, Option, Some, None, refl, sym, ◌∙◌, subst, nat_lt, nat_eq}
+use Rattle.std.specs.Prelude.{slice_get}
 use Rattle.std.specs.Option.{option_map}
 use Rattle.std.specs.List.{AllByRecursion}
 use Rattle.std.proofs.lemmas.Bool.{cond_both, eqb-true, eqb-false, ne_eqb, and_parts, or_parts, or_from}
@@ -10,7 +10,6 @@ use Rattle.fab_base.specs.declared.stamps.Ballot.{Ballot}
 use Rattle.fab_base.specs.Layouts.{Layout, seat_in}
 use Rattle.fab_base.specs.Stamps.{ballot_below}
 use Rattle.messages.specs.declared.calls.Call.{Call}
-use Rattle.messages.specs.declared.packets.Packet.{Packet}
 use Rattle.messages.specs.declared.replies.Choice.{Choice}
 use Rattle.messages.specs.declared.replies.Reply.{Reply}
 use Rattle.messages.specs.declared.replies.Reply.TheVariants as reply
@@ -138,7 +137,7 @@ none_alone seat None is = refl
 none_alone seat (Some x) is = cc
 
 -- how three kinds of refusal answer
-answer_of : Option (ℕ × ViewNo) → Option (ℕ × BrickId) → Option Ballot → Option ViewAnswer
+unfoldable pub answer_of : Option (ℕ × ViewNo) → Option (ℕ × BrickId) → Option Ballot → Option ViewAnswer
 answer_of a b c =
     first_answer (option_map (λ (told : ℕ × ViewNo). answer.Moved told.1) a)
     (first_answer (option_map (λ (told : ℕ × BrickId). answer.NotSynced told.1) b)

@@ -1,14 +1,13 @@
 -- What a proposal does with a reply, by cases; and what a phase of an operation asks for names no ballot.
-use Rattle.std.proofs.Common.{◌≡◌, ℕ, ◌+◌, ◌≤◌, true, false, List, [], ◌∷◌, length, Option, Some, None, refl, nat_lt}
+use Rattle.std.proofs.Common.{◌≡◌, ℕ, ◌+◌, false, List, length, Option, Some, None, refl, nat_lt}
 use Rattle.std.proofs.lemmas.Bool.{cond_both}
 use Rattle.fab_base.specs.declared.identities.BrickId.{BrickId}
 use Rattle.messages.specs.declared.calls.Call.{Call}
 use Rattle.messages.specs.declared.replies.Reply.{Reply}
-use Rattle.protocol.specs.declared.phases.Counted.{Counted}
 use Rattle.protocol.specs.declared.tellings.ViewAnswer.{ViewAnswer}
 use Rattle.protocol.specs.declared.tellings.ViewAnswer.TheVariants as answer
 use Rattle.synod_laws.specs.Synods.{value_or}
-use Rattle.protocol.specs.Proposals.{Proposal, Voting, Ignored, Waited, Asks, Ended, ballot_quorum, seat_voting, with_voice, refused_by, greatest_choice, asking, goes_on, unless_voted_down, ballot_decided, once_voted, voted_at, voted}
+use Rattle.protocol.specs.Proposals.{Proposal, Voting, Ignored, Waited, Asks, Ended, ballot_quorum, seat_voting, with_voice, refused_by, greatest_choice, asking, goes_on, unless_voted_down, ballot_decided, voted_at, voted}
 
 -- The seat at which a reply counts, and what a proposal does with it, hold what is asked: it leaves it out; or the reply counts, and it waits, asks for a list, decides the list that it asked for, or
 -- is refused.

@@ -1,5 +1,5 @@
 -- The successors of views: a quorum of a view's members chooses the list that follows it, and from then on the view is closed.
-use Rattle.std.specs.Prelude.{◌≡◌, ℕ, ◌+◌, ◌<◌, ◌≤◌, Bool, true, false, nat_eq, nat_lt, ◌&&◌, ◌||◌, ◌⊎◌, List, ◌++◌, length, Option, Some, slice_get}
+use Rattle.std.specs.Prelude.{◌≡◌, ℕ, ◌+◌, ◌<◌, ◌≤◌, Bool, true, false, nat_eq, nat_lt, ◌&&◌, ◌||◌, ◌⊎◌, List, ◌++◌, length, Some, None, slice_get}
 use Rattle.fab_base.specs.declared.identities.BrickId.{BrickId}
 use Rattle.fab_base.specs.declared.identities.GroupId.{GroupId}
 use Rattle.fab_base.specs.declared.identities.ViewNo.{ViewNo}
@@ -12,6 +12,7 @@ use Rattle.messages.specs.declared.packets.Packet.{Packet}
 use Rattle.messages.specs.declared.replies.Lineage.{Lineage}
 use Rattle.messages.specs.declared.replies.Reply.{Reply}
 use Rattle.messages.specs.declared.requests.Version.{Version}
+use Rattle.synod_laws.specs.Synods.{is_promised_above}
 use Rattle.protocol.specs.declared.tellings.Report.TheVariants as report
 use Rattle.protocol.specs.declared.tellings.ViewAnswer.TheVariants as answer
 use Rattle.protocol.specs.Settings.{Setting, IsSound}
@@ -29,6 +30,12 @@ pub record WasChosen (w : World) (number view : ℕ) (group : Group) (members : 
   pub many : AtQuorum group seats
   pub accepted : (seat : ℕ) → seat < length group.members → seats seat ≡ true
       → w.choices.votes (brick_at group seat) number view ballot ≡ Some members
+
+-- a brick has accepted a list to follow a view of a group, under some ballot
+pub record HasVoted (w : World) (number view brick : ℕ) : Type 0 where
+  pub ballot : Ballot
+  pub members : List BrickId
+  pub accepted : w.choices.votes brick number view ballot ≡ Some members
 
 -- a brick reported this
 abbrev pub WasReported : World → BrickId → Report → Type 0
@@ -59,13 +66,17 @@ abbrev pub OneSuccessor : Type 0
 OneSuccessor = (setting : Setting) (events : List Event) → IsSound setting → OneSuccessorIn setting.layout (run setting events (first_world setting.layout))
 
 -- Whatever names the members of a later view than view 1 names those that were chosen to follow the view before: each message that teaches a view, each reply that
--- tells of one with its members, each answer that a list was decided, and what a brick has learnt.
+-- tells of one with its members, each answer that a list was decided, and what a brick has learnt. A reply that tells of the next view without its members is of a
+-- brick that has accepted a list to be that.
 pub record NamesAreChosenIn (layout : Layout) (w : World) : Type 0 where
   pub taught : (from to : BrickId) (number : GroupId) (view : View)
       → WasSent w (record { from = from; to = to; message = Message.Learn number view }) → Succeeds layout w number.0 view
   pub moved : (from to : BrickId) (call : Call) (later : ViewNo) (lineage : Lineage)
       → WasSent w (record { from = from; to = to; message = Message.Reply call (Reply.Moved later (Some lineage)) })
       → Succeeds layout w call.group.0 (record { number = later; members = lineage.members; prior = lineage.prior })
+  pub accepted : (from to : BrickId) (call : Call) (later : ViewNo)
+      → WasSent w (record { from = from; to = to; message = Message.Reply call (Reply.Moved later None) })
+      → (later.0 ≡ call.view.0 + 1) × HasVoted w call.group.0 call.view.0 from.0
   pub decided : (brick : BrickId) (number : GroupId) (call : Call) (next : ViewNo) (members : List BrickId)
       → WasReported w brick (report.View number (Some call) (answer.Decided next members))
       → (next.0 ≡ call.view.0 + 1)
@@ -75,6 +86,30 @@ pub record NamesAreChosenIn (layout : Layout) (w : World) : Type 0 where
 -- in every world that a run reaches the names of members are those that were chosen
 abbrev pub NamesAreChosen : Type 0
 NamesAreChosen = (setting : Setting) (events : List Event) → IsSound setting → NamesAreChosenIn setting.layout (run setting events (first_world setting.layout))
+
+-- ---- what was chosen holds
+
+-- A ballot for the successor of a view is past for a brick: it has promised to a greater one, or has learnt a later view.
+abbrev pub is_past : Node → ℕ → ℕ → Ballot → Bool
+is_past node number view ballot =
+    nat_lt view (view_at node number) || (nat_eq view (view_at node number) && is_promised_above (node.ballots number) ballot)
+
+-- What a brick has accepted it has accepted in each later world, and what was chosen is chosen there. A ballot that is past for a brick stays past, over each stop and
+-- start, so no promise is taken back; and it accepts nothing under one that it had not accepted.
+pub record ChoicesHoldIn (w later : World) : Type 0 where
+  pub accepted : (brick number view : ℕ) (ballot : Ballot) (members : List BrickId) → w.choices.votes brick number view ballot ≡ Some members
+      → later.choices.votes brick number view ballot ≡ Some members
+  pub past : (brick number view : ℕ) (ballot : Ballot) → is_past (w.nodes brick) number view ballot ≡ true
+      → is_past (later.nodes brick) number view ballot ≡ true
+  pub barred : (brick number view : ℕ) (ballot : Ballot) (members : List BrickId) → is_past (w.nodes brick) number view ballot ≡ true
+      → later.choices.votes brick number view ballot ≡ Some members → w.choices.votes brick number view ballot ≡ Some members
+  pub chosen : (number view : ℕ) (group : Group) (members : List BrickId) → WasChosen w number view group members → WasChosen later number view group members
+
+-- so it is however a run goes on
+abbrev pub ChoicesHold : Type 0
+ChoicesHold =
+    (setting : Setting) (events more : List Event) → IsSound setting
+    → ChoicesHoldIn (run setting events (first_world setting.layout)) (run setting (events ++ more) (first_world setting.layout))
 
 -- ---- closed views
 
