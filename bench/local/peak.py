@@ -60,19 +60,23 @@ def listens(port):
 def peak(program, layout, stores, port, written, piece):
     """The most bytes that were resident in the program, with a client that writes so many bytes by requests of so many."""
     served = subprocess.Popen([program, "nbd", layout, stores, str(port), str(10**15)], stdout=subprocess.PIPE, text=True)
-    while not listens(port):
-        if served.poll() is not None:
+    try:
+        while not listens(port):
+            if served.poll() is not None:
+                raise SystemExit(f"nbd ended with {served.returncode}")
+            time.sleep(0.005)
+        does = CLIENT.format(port=port, written=written, piece=piece)
+        client = subprocess.Popen(["/usr/bin/python3", "-m", "nbd", "-c", does], stdin=subprocess.PIPE, stdout=subprocess.PIPE, text=True)
+        if client.stdout.readline() != "ready\n":
+            raise SystemExit("the client was not served")
+        with open(f"/proc/{served.pid}/status") as status:
+            most = int(re.search(r"VmHWM:\s+(\d+) kB", status.read())[1]) * 1024
+        client.communicate("\n", timeout=60)
+        if served.communicate(timeout=60)[0] != "nbd disc\n":
             raise SystemExit(f"nbd ended with {served.returncode}")
-        time.sleep(0.005)
-    does = CLIENT.format(port=port, written=written, piece=piece)
-    client = subprocess.Popen(["/usr/bin/python3", "-m", "nbd", "-c", does], stdin=subprocess.PIPE, stdout=subprocess.PIPE, text=True)
-    if client.stdout.readline() != "ready\n":
-        raise SystemExit("the client was not served")
-    with open(f"/proc/{served.pid}/status") as status:
-        most = int(re.search(r"VmHWM:\s+(\d+) kB", status.read())[1]) * 1024
-    client.communicate("\n", timeout=60)
-    if served.communicate(timeout=60)[0] != "nbd disc\n":
-        raise SystemExit(f"nbd ended with {served.returncode}")
+    finally:
+        # It is still there if something went wrong.
+        served.kill()
     return most
 
 
