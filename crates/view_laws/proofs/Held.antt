@@ -22,6 +22,7 @@ extended_holds setting w later extends = record {
   };
 }
 
+-- so it is however a run goes on
 pub choices_hold : ChoicesHold
 choices_hold setting events more sound =
     let w : World = run setting events (first_world setting.layout) in

@@ -213,6 +213,7 @@ taught_stays layout v next g view extends was =
 
 -- what was said stays so
 module _ (layout : Layout) (v next : ViewWorld) (extends : Extends layout v next) where
+  -- of a request
   request_stays : (call : Call) (request : Request) → RequestSays v call request → RequestSays next call request
   request_stays call (Request.Accept ballot members) says = (extends.grows call.group.0 call.view.0).proposals ballot members says
   request_stays call (Request.Read want) says = tt
@@ -224,6 +225,7 @@ module _ (layout : Layout) (v next : ViewWorld) (extends : Extends layout v next
   request_stays call (Request.OldRead bound) says = tt
   request_stays call (Request.Prepare ballot) says = tt
 
+  -- of a reply
   reply_stays : (from to : ℕ) (call : Call) (reply : Reply) → ReplySays layout v from to call reply → ReplySays layout next from to call reply
   reply_stays from to call (Reply.Promise accepted) says = (
     says.0,
@@ -254,6 +256,7 @@ module _ (layout : Layout) (v next : ViewWorld) (extends : Extends layout v next
       record { request = says.request; ballot = says.ballot; asked = says.asked; sent = extends.sent _ says.sent; below = says.below }
   reply_stays from to call Reply.NotSynced says = tt
 
+  -- of a message
   pub message_stays : (from to : ℕ) (message : Message) → MessageSays layout v from to message → MessageSays layout next from to message
   message_stays from to (Message.Request call request) says = request_stays call request says
   message_stays from to (Message.Reply call reply) says = reply_stays from to call reply says
@@ -271,6 +274,7 @@ pub record IsAccept (g e : ℕ) (b : Ballot) (message : Message) (members : List
   pub group : call.group.0 ≡ g
   pub view : call.view.0 ≡ e
 
+-- what a request is that asks to accept this list under a ballot
 accept_of_is : (b : Ballot) (request : Request) (members : List BrickId) → accept_of b request ≡ Some members → request ≡ Request.Accept b members
 accept_of_is b (Request.Accept ballot named) members is =
     cond_both (ballot_same b ballot) (Some named) None (λ (z : Option (List BrickId)). z ≡ Some members → Request.Accept ballot named ≡ Request.Accept b members)
@@ -287,6 +291,7 @@ accept_of_is b (Request.Collect t) members is = cc
 accept_of_is b (Request.OldRead bound) members is = cc
 accept_of_is b (Request.Prepare ballot) members is = cc
 
+-- and what a message is
 pub accept_is : (g e : ℕ) (b : Ballot) (message : Message) (members : List BrickId) → accept_in g e b message ≡ Some members → IsAccept g e b message members
 accept_is g e b (Message.Request call request) members is =
     cond_both (nat_eq call.group.0 g && nat_eq call.view.0 e) (accept_of b request) None
@@ -410,6 +415,7 @@ known_taught layout v g view says =
 abbrev synod_of : {A : Type 0} → (ℕ → Ballot → Option A) → (ℕ → Ballot → Bool) → (Ballot → Option A) → Synod A
 synod_of votes past proposals = record { votes = votes; past = past; proposals = proposals }
 
+-- so they are one history
 pub synod_is : {A : Type 0} (s t : Synod A) → ((k : ℕ) (b : Ballot) → s.votes k b ≡ t.votes k b) → ((k : ℕ) (b : Ballot) → s.past k b ≡ t.past k b)
     → ((b : Ballot) → s.proposals b ≡ t.proposals b) → s ≡ t
 synod_is {A = A} s t votes past proposals =
