@@ -10,7 +10,7 @@ use Rattle.protocol.specs.declared.tellings.ViewAnswer.TheVariants as answer
 use Rattle.protocol.specs.Settings.{Setting}
 use Rattle.protocol.specs.Proposals.{ballot_packets}
 use Rattle.protocol.specs.Nodes.{Node, NodeStep, sending, reporting, new_proposal, proposing, proposed, proposed_in}
-use Rattle.protocol.specs.Worlds.{World, Proposes, may_propose, reports_of, world_stepped, happens}
+use Rattle.protocol.specs.Worlds.{reports_of, world_stepped, happens}
 use Rattle.view_laws.specs.Ends.{BadMembersEndAtOnce}
 
 -- what is reported once a list is proposed

@@ -1,5 +1,5 @@
 -- What the agreement on views rests on: the packets, what bricks accepted, and the bricks; and the history of the choice of each view's successor, by brick.
-use Rattle.std.proofs.Common.{◌≡◌, ℕ, ◌+◌, ◌<◌, ◌≤◌, Bool, true, false, cond, ◌&&◌, ◌||◌, List, ◌++◌, length, Option, Some, None, refl, sym, ap, ◌∙◌, subst, arith, nat_lt, nat_eq}
+use Rattle.std.proofs.Common.{◌≡◌, ℕ, ◌+◌, ◌<◌, ◌≤◌, Bool, true, false, cond, ◌&&◌, List, ◌++◌, length, Option, Some, None, refl, sym, ap, ◌∙◌, subst, arith, nat_lt, nat_eq}
 use Rattle.std.specs.Prelude.{slice_get, if◌then◌else◌}
 use Rattle.std.specs.Option.{option_map}
 use Rattle.std.proofs.lemmas.Bool.{cond_both, and_parts, eqb-true}
@@ -19,7 +19,7 @@ use Rattle.messages.specs.declared.requests.Request.{Request}
 use Rattle.messages.specs.declared.replies.Reply.{Reply}
 use Rattle.quorum.specs.Quorums.{quorum_of}
 use Rattle.quorum.specs.Memberships.{is_membership}
-use Rattle.synod_laws.specs.Synods.{Synod, Grows, IsChosen, Kept, SaysPromise, ballot_same, is_promised_above}
+use Rattle.synod_laws.specs.Synods.{Synod, Grows, IsChosen, Kept, SaysPromise, ballot_same}
 use Rattle.synod_laws.proofs.Ballots.{ballot_same_true}
 use Rattle.synod_laws.proofs.Acceptors.{said_stays}
 use Rattle.synod_laws.proofs.Agreement.{chosen_stays}
