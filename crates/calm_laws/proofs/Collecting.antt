@@ -82,7 +82,7 @@ module _ (stage : Stage) (c : Coordinator) (first : World) (me : BrickId) (t : S
       (λ down. keeps))
     where
       counted : World
-      counted = record w { replies = replies_with stage.setting w (collect to phase); reached = put w.reached number true }
+      counted = record w { replies = replies_with stage.setting w (collect to phase); choices = voiced stage.setting w (collect to phase); reached = put w.reached number true }
 
       by_step : (step : NodeStep) → step.told ≡ [] → step.answers ≡ [] → step.node.learnt ≡ (w.nodes to.0).learnt
           → step.node.ballots ≡ (w.nodes to.0).ballots → Keeps stage c first (world_stepped stage.setting counted to step) brick log
@@ -106,7 +106,14 @@ module _ (stage : Stage) (c : Coordinator) (first : World) (me : BrickId) (t : S
       (received stage.setting brick (w.clocks brick.0) (w.nodes brick.0) (collect brick phase))) w) brick (not_below t log)) (sym keeps.member.up)
       (subst (λ (z : NodeStep). Keeps stage c first (world_stepped stage.setting counted brick z) brick (not_below t log))
       (sym (member_step stage w me (call_in phase) (record { seat = seat; brick = brick }) (Request.Collect t)
-      (record { up = keeps.member.up; group = keeps.member.group; served = keeps.member.served }) seat_is refl))
+      (record {
+        up = keeps.member.up;
+        group = keeps.member.group;
+        stripe = keeps.member.stripe;
+        from_one = keeps.member.from_one;
+        view = keeps.member.view;
+        free = keeps.member.free;
+      }) seat_is tt refl))
       (keeps_on stage c first w (world_stepped stage.setting counted brick (reacted brick me (w.nodes brick.0) (call_in phase) change)) brick log
       (not_below t log) (reacted brick me (w.nodes brick.0) (call_in phase) change).packets keeps refl
       (put_field (λ (z : Node). z.learnt) w.nodes brick.0 (with_replica (w.nodes brick.0) (call_in phase) change) refl)
@@ -119,7 +126,7 @@ module _ (stage : Stage) (c : Coordinator) (first : World) (me : BrickId) (t : S
       refl)))
     where
       counted : World
-      counted = record w { replies = replies_with stage.setting w (collect brick phase); reached = put w.reached number true }
+      counted = record w { replies = replies_with stage.setting w (collect brick phase); choices = voiced stage.setting w (collect brick phase); reached = put w.reached number true }
 
       change : Reaction
       change =

@@ -1,9 +1,11 @@
 -- A reply is delivered: what the coordinator decides on the scene it does in the world.
 use Rattle.protocol_laws.proofs.Books.{version_after}
-use Rattle.std.proofs.Common.{Bool, List, None, Option, Some, [], ap, ap₂, refl, subst, true, ℕ, ◌++◌, ◌+◌, ◌∙◌, ◌∷◌, ◌≡◌}
+use Rattle.fab_base.specs.declared.member_lists.View.{View}
+use Rattle.fab_base.specs.Layouts.{group_of}
+use Rattle.std.proofs.Common.{Bool, false, not, ◌||◌, List, None, Option, Some, [], ap, ap₂, refl, subst, true, ℕ, ◌++◌, ◌+◌, ◌∙◌, ◌∷◌, ◌≡◌}
 use Rattle.std.proofs.lemmas.Bool.{and_parts}
 use Rattle.std.proofs.lemmas.List.{append-nil}
-use Rattle.std.specs.Prelude.{filter, max, nat_lt, ◌-◌}
+use Rattle.std.specs.Prelude.{filter, if◌then◌else◌, is_some, max, nat_lt, ◌-◌}
 use Rattle.calm_laws.proofs.Plays.{Finishes, finishes_by, HasEnded, ends_by}
 use Rattle.calm_laws.proofs.Queues.{IsDelivered, IsHead}
 use Rattle.calm_laws.proofs.Scenes.{Each, IsNext, SameCall, Scene, Stage, decision, heard, made, replying, sent, waits, EndsAt}
@@ -18,7 +20,7 @@ use Rattle.messages.specs.declared.replies.Reply.{Reply}
 use Rattle.messages.specs.declared.requests.Request.{Request}
 use Rattle.protocol.specs.Calms.{goes_among, is_left, open_at, operation_of}
 use Rattle.protocol.specs.Coordinators.{Coordinator, Ends, Ignores, Makes, Next, Sends, Waits, on_reply, request_of}
-use Rattle.protocol.specs.Nodes.{Node, carried_out, fresh_stamp, known_after, phase_packets, put, received, replica_at, replied, replied_at, to_members, with_call, with_known, collect_packets}
+use Rattle.protocol.specs.Nodes.{Node, carried_out, fresh_stamp, known_after, phase_packets, put, received, replica_at, replied, replied_at, to_members, with_call, with_known, with_round, may_teach, no_step, then_taught, counts_here, collect_packets}
 use Rattle.protocol.specs.Replicas.{Replica}
 use Rattle.protocol.specs.Worlds.{Operation, World, is_answer, number_of, with_answer, with_made, with_seen}
 
@@ -26,20 +28,34 @@ use Rattle.protocol.specs.Worlds.{Operation, World, is_answer, number_of, with_a
 heard_step : (stage : Stage) (n : ℕ) (w : World) (s : Scene) (from : BrickId) (call : Call) (reply : Reply) (rest : List Packet)
     → Shows stage n w s → IsNext stage s from call reply rest
     → received stage.setting stage.me (w.clocks stage.me.0) (w.nodes stage.me.0) (replying stage from call reply)
-    ≡ carried_out stage.setting stage.me (w.nodes stage.me.0) (known_after s.known reply) s.c (decision stage s from call reply)
+    ≡ carried_out stage.setting stage.me (with_round (w.nodes stage.me.0) reply) (known_after s.known reply) s.c (decision stage s from call reply)
 unfolding received replied
 heard_step stage n w s from call reply rest shows next =
-    ap (λ (z : Option Coordinator). replied_at stage.setting stage.me (w.clocks stage.me.0) from (w.nodes stage.me.0) call reply z)
+    ap (λ (z : Option View). if not (is_some z) || may_teach stage.setting.layout z (group_of stage.setting.layout call.group.0)
+    then replied stage.setting stage.me (w.clocks stage.me.0) from (w.nodes stage.me.0) call reply
+    else no_step (with_known node (known_after (w.nodes stage.me.0).known reply))) next.plain
+    ∙ ap (λ (z : Option View). then_taught stage.setting.layout.block call.group.0 z
+    (replied_at stage.setting stage.me (w.clocks stage.me.0) from node call reply ((w.nodes stage.me.0).calls call.seq)))
+    (none_counted (counts_here stage.setting.layout from call reply (w.nodes stage.me.0).proposal ((w.nodes stage.me.0).calls call.seq)) next.plain)
+    ∙ ap (λ (z : Option Coordinator). replied_at stage.setting stage.me (w.clocks stage.me.0) from node call reply z)
     (ap (λ (k : ℕ). (w.nodes stage.me.0).calls k) next.seq.1 ∙ shows.call)
-    ∙ ap (λ (k : ℕ). carried_out stage.setting stage.me (w.nodes stage.me.0) (known_after k reply) s.c
+    ∙ ap (λ (k : ℕ). carried_out stage.setting stage.me node (known_after k reply) s.c
     (on_reply stage.setting.layout.block stage.setting.code
     (fresh_stamp stage.me s.c.call.view (w.clocks stage.me.0) (w.nodes stage.me.0).boot (known_after k reply)) s.c from call reply)) shows.known
-    ∙ ap (λ (b : ℕ). carried_out stage.setting stage.me (w.nodes stage.me.0) (known_after s.known reply) s.c
+    ∙ ap (λ (b : ℕ). carried_out stage.setting stage.me node (known_after s.known reply) s.c
     (on_reply stage.setting.layout.block stage.setting.code
     (fresh_stamp stage.me s.c.call.view (w.clocks stage.me.0) b (known_after s.known reply)) s.c from call reply)) shows.node_boot
-    ∙ ap (λ (t : ℕ). carried_out stage.setting stage.me (w.nodes stage.me.0) (known_after s.known reply) s.c
+    ∙ ap (λ (t : ℕ). carried_out stage.setting stage.me node (known_after s.known reply) s.c
     (on_reply stage.setting.layout.block stage.setting.code
     (fresh_stamp stage.me s.c.call.view t s.c.call.boot (known_after s.known reply)) s.c from call reply)) shows.clock
+  where
+    node : Node
+    node = with_round (w.nodes stage.me.0) reply
+
+    -- a reply that teaches no view teaches none that counts
+    none_counted : (counts : Bool) {z : Option View} → z ≡ None → (if counts then z else None) ≡ None
+    none_counted true none = none
+    none_counted false none = refl
 
 -- The coordinator's brick after a reply, where its operation goes on: it knows a time, and has a coordinator; the rest is as before.
 pub record IsHeard (stage : Stage) (w : World) (c : Coordinator) (node : Node) (d : Coordinator) (known : ℕ) : Type 0 where
@@ -174,7 +190,7 @@ module _ (stage : Stage) (n : ℕ) (w : World) (s : Scene) (from : BrickId) (cal
   known = known_after s.known reply
 
   abbrev me_node : Node
-  me_node = w.nodes stage.me.0
+  me_node = with_round (w.nodes stage.me.0) reply
 
   -- it is known what follows the delivery
   after_step : (z : Next) (d : Coordinator) → SameCall s.c d → decision stage s from call reply ≡ z

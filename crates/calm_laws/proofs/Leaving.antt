@@ -205,7 +205,14 @@ module _ (setting : Setting) (events : List Event) (n : ℕ) (bricks : List Bric
           (subst (λ (z : Stamp). not_below z log ≡ newest.0 ∷ []) newest.2 (only_newest log newest.0 ascends once newest.1))
           numbers last collects.each own.0 own.1 own.2 own.3
           (inl (record {
-            member = record { up = member.up; group = member.group; served = member.served };
+            member = record {
+              up = member.up;
+              group = member.group;
+              stripe = member.stripe;
+              from_one = member.from_one;
+              view = member.view;
+              free = member.free;
+            };
             log_is = refl;
             packets = λ number packet is. is;
           })) in (

@@ -14,7 +14,7 @@ use Rattle.messages.specs.declared.calls.Call.{Call}
 use Rattle.messages.specs.declared.packets.Packet.{Packet}
 use Rattle.protocol.specs.Calms.{goes_among, is_left, is_one_of, open_at}
 use Rattle.protocol.specs.Coordinators.{Coordinator}
-use Rattle.protocol.specs.Nodes.{Node, NodeStep, group_at, is_served, put, received, replica_at, view_at, has_accepted}
+use Rattle.protocol.specs.Nodes.{Node, NodeStep, group_at, put, received, replica_at, view_at, has_accepted}
 use Rattle.protocol.specs.Views.{Learnt, group_kept}
 use Rattle.protocol.specs.Worlds.{Delivers, Operation, World, delivered, happens, is_up, packet_of, replies_with, world_stepped}
 
@@ -25,11 +25,14 @@ put_field g f k v same i = ⊎_elim
     (λ (other : put f k v i ≡ f i). ap g other)
     (put_cases f k v i)
 
--- a brick that hears the coordinator is up, and serves the call's view
+-- a brick that hears the coordinator is up, and serves the call's view, which is none before the first; and the call's stripe is one of the group
 pub record IsMember (stage : Stage) (w : World) (call : Call) (brick : BrickId) : Type 0 where
   pub up : is_up stage.setting.layout w brick ≡ true
   pub group : group_at stage.setting.layout (w.nodes brick.0) call.group.0 ≡ Some stage.group
-  pub served : is_served stage.group (w.nodes brick.0) call ≡ true
+  pub stripe : nat_lt call.stripe.0 stage.group.stripes ≡ true
+  pub from_one : nat_eq call.view.0 0 ≡ false
+  pub view : view_at (w.nodes brick.0) call.group.0 ≡ call.view.0
+  pub free : has_accepted (w.nodes brick.0) call.group.0 ≡ false
 
 -- the brick's part
 pub record IsPart (node : Node) (call : Call) (part : Part) : Type 0 where
@@ -92,13 +95,12 @@ serves_on stage w later c d brick same up learnt ballots member =
     subst (λ (call : Call). IsMember stage later call brick) (sym (call_same_but c d same)) (record {
       up = ap (λ (f : ℕ → Bool). nat_lt brick.0 stage.setting.layout.bricks && f brick.0) up ∙ member.up;
       group = ap (λ (f : ℕ → Learnt). group_kept stage.setting.layout (f c.call.group.0).view.members c.call.group.0) (learnt brick.0) ∙ member.group;
-      served =
-          ap (λ (f : ℕ → Learnt). nat_lt c.call.stripe.0 stage.group.stripes && (nat_eq c.call.view.0 (f c.call.group.0).view.number.0
-          && not (has_accepted (record (later.nodes brick.0) { learnt = f }) c.call.group.0))) (learnt brick.0)
-          ∙ ap (λ (f : ℕ → Kept (List BrickId)). nat_lt c.call.stripe.0 stage.group.stripes
-          && (nat_eq c.call.view.0 (view_at (w.nodes brick.0) c.call.group.0)
-          && not (has_accepted (record (w.nodes brick.0) { ballots = f }) c.call.group.0))) (ballots brick.0)
-          ∙ member.served;
+      stripe = member.stripe;
+      from_one = member.from_one;
+      view = ap (λ (f : ℕ → Learnt). (f c.call.group.0).view.number.0) (learnt brick.0) ∙ member.view;
+      free =
+          ap (λ (f : ℕ → Learnt). has_accepted (record (later.nodes brick.0) { learnt = f }) c.call.group.0) (learnt brick.0)
+          ∙ ap (λ (f : ℕ → Kept (List BrickId)). has_accepted (record (w.nodes brick.0) { ballots = f }) c.call.group.0) (ballots brick.0) ∙ member.free;
     })
 
 part_on : (node : Node) (c d : Coordinator) (part : Part) → SameCall c d → IsPart node c.call part → IsPart node d.call part
@@ -148,7 +150,7 @@ open_at_is w o me boot seq brick_is boot_is seq_is up node_boot =
 -- the world once a packet was delivered to a brick that is up, by the step that this makes
 abbrev pub world_by : Stage → World → ℕ → Packet → NodeStep → World
 world_by stage w number packet step =
-    world_stepped stage.setting (record w { replies = replies_with stage.setting w packet; reached = put w.reached number true }) packet.to step
+    world_stepped stage.setting (record w { replies = replies_with stage.setting w packet; choices = voiced stage.setting w packet; reached = put w.reached number true }) packet.to step
 
 pub delivers_so : (stage : Stage) (w : World) (place : ℕ) (packet : Packet) → slice_get w.packets place ≡ Some packet
     → is_up stage.setting.layout w packet.to ≡ true
