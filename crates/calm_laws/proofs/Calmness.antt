@@ -212,7 +212,7 @@ module _ (setting : Setting) (sound : IsSound setting) (lengths : EncodesBlocks 
         (λ held. ⊎_elim
             (λ (kept : is_held floor (logs y.brick.0) ≡ true). kept)
             (λ (lower : stamp_below floor (known.logs.lowest y.brick.0) ≡ true). absurd (false≢true (sym most.0 ∙ lower)))
-            (known.logs.logged y.brick.0 floor
+            (known.logs.logged y.brick.0 floor ((ready y.brick seated.0.1).view ∙ known.call.view)
             (subst (λ (i : ℕ). w.held i c.call.group.0 c.call.stripe.0 floor ≡ true) (brick_at_seat c.group y.brick.0 y.seat seated.0.0) held))),
         both ys seated.1 most.1,
       )
@@ -302,14 +302,13 @@ module _ (setting : Setting) (sound : IsSound setting) (lengths : EncodesBlocks 
       let is = ready brick one in
       record {
         up = is.up;
-        group = ap (λ (g : GroupId). group_at setting.layout (w.nodes brick.0) g.0) known.call.of_group ∙ known.call.groups brick.0;
-        served =
-            let inside : nat_lt c.call.stripe.0 c.group.stripes ≡ true
-            = ap (λ (z : StripeNo). nat_lt z.0 c.group.stripes) known.call.stripe ∙ lt_so c.ask.stripe.0 c.group.stripes known.call.within in
-            ap (λ (b : Bool). b && (nat_eq c.call.view.0 (view_at (w.nodes brick.0) c.call.group.0)
-            && not (has_accepted (w.nodes brick.0) c.call.group.0))) inside
-            ∙ ap (λ (b : Bool). b && not (has_accepted (w.nodes brick.0) c.call.group.0)) (eq-eqb c.call.view.0 (view_at (w.nodes brick.0) c.call.group.0) (sym is.view))
-            ∙ ap (λ (b : Bool). not b) is.serves;
+        group = ap (λ (g : GroupId). group_at setting.layout (w.nodes brick.0) g.0) known.call.of_group
+            ∙ known.call.groups brick.0
+            (ap (λ (g : GroupId). view_at (w.nodes brick.0) g.0) (sym known.call.of_group) ∙ is.view ∙ known.call.view);
+        stripe = ap (λ (z : StripeNo). nat_lt z.0 c.group.stripes) known.call.stripe ∙ lt_so c.ask.stripe.0 c.group.stripes known.call.within;
+        from_one = ap (λ (e : ℕ). nat_eq e 0) known.call.view;
+        view = is.view;
+        free = is.serves;
       }
     where
       lt_so : (a b : ℕ) → a < b → nat_lt a b ≡ true

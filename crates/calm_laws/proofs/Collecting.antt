@@ -1,9 +1,9 @@
 -- Collects are delivered, and nothing else: a brick that keeps their version as its newest is left with that only.
 use Rattle.std.proofs.Common.{◌≡◌, ℕ, zero, suc, Bool, true, false, not, ◌||◌, cond, List, [], ◌∷◌, ◌++◌, map, ◌≢◌, ◌⊎◌, inl, inr, ⊎_elim, Option, Some, refl, sym, ap, ◌∙◌, subst}
-use Rattle.std.specs.Prelude.{slice_get}
+use Rattle.std.specs.Prelude.{None, slice_get}
 use Rattle.std.proofs.lemmas.Bool.{cond_both, cases_eq, false≢true}
 use Rattle.fab_base.proofs.StampOrder.{stamp_below_irrefl, stamp_same_refl}
-use Rattle.fab_base.specs.Layouts.{seat_in}
+use Rattle.fab_base.specs.Layouts.{Group, seat_in}
 use Rattle.fab_base.specs.Stamps.{stamp_below, stamp_same}
 use Rattle.fab_base.specs.declared.identities.BrickId.{BrickId}
 use Rattle.fab_base.specs.declared.stamps.Stamp.{Stamp}
@@ -13,13 +13,13 @@ use Rattle.messages.specs.declared.packets.Packet.{Packet}
 use Rattle.messages.specs.declared.requests.Request.{Request}
 use Rattle.messages.specs.declared.requests.Version.{Version}
 use Rattle.protocol.specs.Coordinators.{Coordinator}
-use Rattle.protocol.specs.Nodes.{Node, NodeStep, full_at, no_step, put, reacted, received, replica_at, with_replica}
+use Rattle.protocol.specs.Settings.{Setting}
+use Rattle.protocol.specs.Nodes.{Node, NodeStep, full_at, group_at, is_void, no_step, put, reacted, received, replica_at, requested, requested_as, requested_at, requested_in, seat_now, with_replica}
 use Rattle.protocol.specs.Replicas.{Reaction, Replica, handle, ignored, is_held, not_below}
 use Rattle.protocol.specs.Settings.{Code}
-use Rattle.protocol.specs.Worlds.{Delivers, World, delivered, happens, is_up, packet_of, replies_with, run, world_stepped}
+use Rattle.protocol.specs.Worlds.{Delivers, World, delivered, happens, is_up, packet_of, replies_with, voiced, run, world_stepped}
 use Rattle.protocol_laws.proofs.BooksEvents.{brick_of}
 use Rattle.protocol.proofs.Puts.{put_other}
-use Rattle.protocol.proofs.Served.{request_each}
 use Rattle.protocol.proofs.Tables.{put_same}
 use Rattle.calm_laws.proofs.Fresh.{packet_kept}
 use Rattle.calm_laws.proofs.Plays.{member_step, part_put}
@@ -54,6 +54,24 @@ collected_log code m full seat r t held =
     cond_both (is_held t r.log) _ (ignored r) (λ (z : Reaction). z.replica.log ≡ not_below t r.log)
     (λ is. refl) (λ isnt. absurd (false≢true (sym isnt ∙ held)))
 
+-- a brick ignores a Collect, or handles it at its seat
+collect_each : (P : NodeStep → Type 0) (setting : Setting) (me from : BrickId) (node : Node) (call : Call) (t : Stamp) → P (no_step node)
+    → ((group : Group) (seat : ℕ) → P (reacted me from node call (handle setting.code group.m (full_at setting.layout.records node.live) seat
+    (replica_at node call) (Request.Collect t))))
+    → P (requested setting me from node call (Request.Collect t))
+unfolding requested
+collect_each P setting me from node call t ignored handled = in_group (group_at setting.layout node call.group.0)
+  where
+    at_seat : (group : Group) (z : Option ℕ) → P (requested_at setting group.m me from node call (Request.Collect t) z)
+    at_seat group None = ignored
+    at_seat group (Some seat) = handled group seat
+
+    in_group : (z : Option Group) → P (requested_in setting me from node call (Request.Collect t) z)
+    in_group None = ignored
+    in_group (Some group) =
+        cond_both (is_void setting.layout me node call (Request.Collect t) group) (no_step node)
+        (requested_as setting group me from node call (Request.Collect t)) P (λ void. ignored) (λ isnt. at_seat group (seat_now me node call group))
+
 module _ (stage : Stage) (c : Coordinator) (first : World) (me : BrickId) (t : Stamp) (brick : BrickId) (seat : ℕ)
     (seat_is : seat_in stage.group.members brick.0 ≡ Some seat) where
   -- the call in a phase
@@ -73,10 +91,10 @@ module _ (stage : Stage) (c : Coordinator) (first : World) (me : BrickId) (t : S
       (cond_both (is_up stage.setting.layout w to)
       (world_stepped stage.setting counted to (received stage.setting to (w.clocks to.0) (w.nodes to.0) (collect to phase))) w
       (λ (z : World). Keeps stage c first z brick log)
-      (λ up. request_each (λ (step : NodeStep). Keeps stage c first (world_stepped stage.setting counted to step) brick log) stage.setting to me
-      (w.nodes to.0) (call_in phase) (Request.Collect t)
+      (λ up. collect_each (λ (step : NodeStep). Keeps stage c first (world_stepped stage.setting counted to step) brick log) stage.setting to me
+      (w.nodes to.0) (call_in phase) t
       (by_step (no_step (w.nodes to.0)) refl refl refl refl)
-      (λ group place here at view. by_step (reacted to me (w.nodes to.0) (call_in phase)
+      (λ group place. by_step (reacted to me (w.nodes to.0) (call_in phase)
       (handle stage.setting.code group.m (full_at stage.setting.layout.records (w.nodes to.0).live) place (replica_at (w.nodes to.0) (call_in phase))
       (Request.Collect t))) refl refl refl refl))
       (λ down. keeps))

@@ -16,7 +16,7 @@ use Rattle.protocol.specs.Calms.{goes_among, is_left, is_one_of, open_at}
 use Rattle.protocol.specs.Coordinators.{Coordinator}
 use Rattle.protocol.specs.Nodes.{Node, NodeStep, group_at, put, received, replica_at, view_at, has_accepted}
 use Rattle.protocol.specs.Views.{Learnt, group_kept}
-use Rattle.protocol.specs.Worlds.{Delivers, Operation, World, delivered, happens, is_up, packet_of, replies_with, world_stepped}
+use Rattle.protocol.specs.Worlds.{Delivers, Operation, World, delivered, happens, is_up, packet_of, replies_with, voiced, world_stepped}
 
 -- what the changed value has in common with the old one
 pub put_field : {A B : Type 0} (g : A → B) (f : ℕ → A) (k : ℕ) (v : A) → g v ≡ g (f k) → (i : ℕ) → g (put f k v i) ≡ g (f i)
