@@ -223,7 +223,7 @@ module _ (setting : Setting) (sound : IsSound setting) (encodes : EncodesBlocks 
         ∙ encodes c.group.m (w.contents c.call.group.0 c.call.stripe.0 version.stamp) seat;
     short = λ i.
         let inside : length (part_in w c.call.group.0 1 c.call.stripe.0 i).log ≤ (w.nodes i).live + 1
-        = log_within setting.layout (w.nodes i) c.call.group.0 c.call.stripe.0 c.group (counts i) call_group stripe_within in
+        = log_within setting.layout (w.nodes i) c.call.group.0 1 c.call.stripe.0 c.group (counts i) call_group stripe_within ((in_views.nodes i).views c.call.group.0) in
         let same_long : length (replica_at (w.nodes i) c.call).log ≡ length (part_in w c.call.group.0 1 c.call.stripe.0 i).log
         = ap (λ (r : Replica). length r.log) (part i) in
         let most = (counts i).most in
