@@ -2,7 +2,7 @@
 use Rattle.std.proofs.Common.{Bool, List, None, Option, Some, [], ap, cond, inl, inr, map, refl, subst, sym, ℕ, ⊎_elim, ◌++◌, ◌∙◌, ◌∷◌, ◌≡◌, ◌≢◌, ◌⊎◌}
 use Rattle.std.proofs.lemmas.Bool.{cases_eq, eq-eqb, ne_eqb}
 use Rattle.std.proofs.lemmas.List.{append-nil, append_assoc}
-use Rattle.calm_laws.proofs.Scenes.{Asks, Closes, Each, Fits, IsSeated, Part, Scene, Seated, Stage, asked, asking, part_after, reaction, replies_from, replying, with_queue}
+use Rattle.calm_laws.proofs.Scenes.{asked_of, Asks, Closes, Each, Fits, IsSeated, Part, Scene, Seated, Stage, asked, asking, part_after, reaction, replies_from, replying, with_queue}
 use Rattle.fab_base.specs.declared.identities.BrickId.{BrickId}
 use Rattle.messages.specs.declared.calls.Call.{Call}
 use Rattle.messages.specs.declared.packets.Packet.{Packet}

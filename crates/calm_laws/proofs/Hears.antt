@@ -2,10 +2,10 @@
 use Rattle.protocol_laws.proofs.Books.{version_after}
 use Rattle.fab_base.specs.declared.member_lists.View.{View}
 use Rattle.fab_base.specs.Layouts.{group_of}
-use Rattle.std.proofs.Common.{Bool, false, not, ◌||◌, List, None, Option, Some, [], ap, ap₂, refl, subst, true, ℕ, ◌++◌, ◌+◌, ◌∙◌, ◌∷◌, ◌≡◌}
+use Rattle.std.proofs.Common.{Bool, cond, false, not, ◌||◌, List, None, Option, Some, [], ap, ap₂, refl, subst, true, ℕ, ◌++◌, ◌+◌, ◌∙◌, ◌∷◌, ◌≡◌}
 use Rattle.std.proofs.lemmas.Bool.{and_parts}
 use Rattle.std.proofs.lemmas.List.{append-nil}
-use Rattle.std.specs.Prelude.{filter, if◌then◌else◌, is_some, max, nat_lt, ◌-◌}
+use Rattle.std.specs.Prelude.{filter, is_some, max, nat_lt, ◌-◌}
 use Rattle.calm_laws.proofs.Plays.{Finishes, finishes_by, HasEnded, ends_by}
 use Rattle.calm_laws.proofs.Queues.{IsDelivered, IsHead}
 use Rattle.calm_laws.proofs.Scenes.{Each, IsNext, SameCall, Scene, Stage, decision, heard, made, replying, sent, waits, EndsAt}
@@ -31,9 +31,9 @@ heard_step : (stage : Stage) (n : ℕ) (w : World) (s : Scene) (from : BrickId) 
     ≡ carried_out stage.setting stage.me (with_round (w.nodes stage.me.0) reply) (known_after s.known reply) s.c (decision stage s from call reply)
 unfolding received replied
 heard_step stage n w s from call reply rest shows next =
-    ap (λ (z : Option View). if not (is_some z) || may_teach stage.setting.layout z (group_of stage.setting.layout call.group.0)
-    then replied stage.setting stage.me (w.clocks stage.me.0) from (w.nodes stage.me.0) call reply
-    else no_step (with_known node (known_after (w.nodes stage.me.0).known reply))) next.plain
+    ap (λ (z : Option View). cond (not (is_some z) || may_teach stage.setting.layout z (group_of stage.setting.layout call.group.0))
+    (replied stage.setting stage.me (w.clocks stage.me.0) from (w.nodes stage.me.0) call reply)
+    (no_step (with_known node (known_after (w.nodes stage.me.0).known reply)))) next.plain
     ∙ ap (λ (z : Option View). then_taught stage.setting.layout.block call.group.0 z
     (replied_at stage.setting stage.me (w.clocks stage.me.0) from node call reply ((w.nodes stage.me.0).calls call.seq)))
     (none_counted (counts_here stage.setting.layout from call reply (w.nodes stage.me.0).proposal ((w.nodes stage.me.0).calls call.seq)) next.plain)
@@ -53,7 +53,7 @@ heard_step stage n w s from call reply rest shows next =
     node = with_round (w.nodes stage.me.0) reply
 
     -- a reply that teaches no view teaches none that counts
-    none_counted : (counts : Bool) {z : Option View} → z ≡ None → (if counts then z else None) ≡ None
+    none_counted : (counts : Bool) {z : Option View} → z ≡ None → cond counts z None ≡ None
     none_counted true none = none
     none_counted false none = refl
 

@@ -1,5 +1,5 @@
 -- A phase alone: what is left of earlier phases is left out, each member is asked, and the first quorum of them decides.
-use Rattle.std.proofs.Common.{List, [], ap, ap₂, arith, false, length, map, refl, subst, sym, true, zero-add, ℕ, ◌++◌, ◌+◌, ◌<◌, ◌∙◌, ◌∷◌, ◌≡◌, ◌≤◌}
+use Rattle.std.proofs.Common.{None, List, [], ap, ap₂, arith, false, length, map, refl, subst, sym, true, zero-add, ℕ, ◌++◌, ◌+◌, ◌<◌, ◌∙◌, ◌∷◌, ◌≡◌, ◌≤◌}
 use Rattle.std.specs.Prelude.{◌-◌, ◌^◌}
 use Rattle.calm_laws.proofs.Asking.{Gives, Holds, IsReply, Keeps, Replies, all_given, asks_pass, each_then, holds_on, reacted_all, reaction_teaches, told_all, told_exactly, told_replies}
 use Rattle.calm_laws.proofs.Counts.{AreNew, Carries, counted_of, decides, new_from, replies_pass, told}
