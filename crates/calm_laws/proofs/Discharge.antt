@@ -177,6 +177,14 @@ module _ (setting : Setting) (sound : IsSound setting) (encodes : EncodesBlocks 
           (((in_views.nodes i).parts c.call.group.0 1 c.call.stripe.0).log 0 x (ap (λ (l : List Version). slice_get l 0) some)) was))
           (said.lowest c.call.group.0 1 c.call.stripe.0 i x log (omega (arith, from)) some)
 
+  -- such a brick keeps each version
+  kept_most : (i : ℕ) (t : Stamp) → view_at (w.nodes i) c.call.group.0 ≡ 1 → first_kept ((w.nodes i).learnt c.call.group.0) ≤ view_of t
+  kept_most i t one = let from = kept_from i one in let some = most_one t.view.0 in omega (arith, from, some)
+    where
+      most_one : (e : ℕ) → 1 ≤ max e 1
+      most_one zero = omega arith
+      most_one (suc e) = omega arith
+
   -- a version that a brick of view 1 has held is of view 1
   held_view : (i : ℕ) (t : Stamp) → view_at (w.nodes i) c.call.group.0 ≡ 1 → w.held i c.call.group.0 c.call.stripe.0 t ≡ true → view_of t ≡ 1
   held_view i t one held = ⊎_elim
@@ -186,14 +194,6 @@ module _ (setting : Setting) (sound : IsSound setting) (encodes : EncodesBlocks 
       (others_empty setting.layout (w.nodes i) c.call.group.0 (in_views.nodes i) one (view_of t) c.call.stripe.0 other)
       (said.logged.kept i c.call.group.0 c.call.stripe.0 t (kept_most i t one) held))))
       (cases_eq (view_of t) 1)
-
-  -- and kept, if it is not dropped
-  kept_most : (i : ℕ) (t : Stamp) → view_at (w.nodes i) c.call.group.0 ≡ 1 → first_kept ((w.nodes i).learnt c.call.group.0) ≤ view_of t
-  kept_most i t one = let from = kept_from i one in let some = most_one t.view.0 in omega (arith, from, some)
-    where
-      most_one : (e : ℕ) → 1 ≤ max e 1
-      most_one zero = omega arith
-      most_one (suc e) = omega arith
 
   known_logs : KnownLogs setting w c
   known_logs = record {

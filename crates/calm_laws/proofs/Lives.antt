@@ -385,11 +385,13 @@ before_within f e (suc n) within = ⊎_elim
 
 -- of views that have none there is nothing to add
 before_more : (f : ℕ → ℕ) (n more : ℕ) → ((j : ℕ) → n ≤ j → f j ≡ 0) → live_before (more + n) f ≡ live_before n f
-before_more f n zero none = refl
+before_more f n zero none = ap (λ (k : ℕ). live_before k f) (let same : 0 + n ≡ n = omega arith in same)
 before_more f n (suc more) none =
     let rest = before_more f n more none in
     let last = none (more + n) (omega arith) in
-    omega (arith, rest, last)
+    let next : live_before (suc more + n) f ≡ live_before (more + n) f + f (more + n)
+    = ap (λ (k : ℕ). live_before k f) (let same : suc more + n ≡ suc (more + n) = omega arith in same) in
+    omega (arith, rest, last, next)
 
 -- the views before one are dropped
 abbrev dropped : ℕ → (ℕ → ℕ) → ℕ → ℕ
@@ -403,12 +405,21 @@ before_none f first (suc n) within =
     omega (arith, rest, last)
 
 before_dropped : (f : ℕ → ℕ) (first more : ℕ) → live_before (more + first) (dropped first f) + live_before first f ≡ live_before (more + first) f
-before_dropped f first zero = let none = before_none f first first (omega arith) in omega (arith, none)
+before_dropped f first zero =
+    let none = before_none f first first (omega arith) in
+    let same : 0 + first ≡ first = omega arith in
+    let new : live_before (0 + first) (dropped first f) ≡ live_before first (dropped first f) = ap (λ (k : ℕ). live_before k (dropped first f)) same in
+    let old : live_before (0 + first) f ≡ live_before first f = ap (λ (k : ℕ). live_before k f) same in
+    omega (arith, none, new, old)
 before_dropped f first (suc more) =
     let rest = before_dropped f first more in
     let last : dropped first f (more + first) ≡ f (more + first)
     = cond-false (nat_lt (more + first) first) 0 (f (more + first)) (le-ltb (more + first) first (omega arith)) in
-    omega (arith, rest, last)
+    let same : suc more + first ≡ suc (more + first) = omega arith in
+    let new : live_before (suc more + first) (dropped first f) ≡ live_before (more + first) (dropped first f) + dropped first f (more + first)
+    = ap (λ (k : ℕ). live_before k (dropped first f)) same in
+    let old : live_before (suc more + first) f ≡ live_before (more + first) f + f (more + first) = ap (λ (k : ℕ). live_before k f) same in
+    omega (arith, rest, last, new, old)
 
 -- the live records that a brick counts of a group, up to the view that it has learnt
 abbrev pub group_lives : Node → ℕ → ℕ
