@@ -1,14 +1,15 @@
 -- Every run has numbers that are operations', and fresh operations where no message reached.
 use Rattle.protocol_laws.proofs.BooksEvents.{BeginFits, books, begin_fits, group_there, fits_at}
-use Rattle.std.proofs.Common.{◌≡◌, not, List, Option, Some, None, refl, sym, subst, arith, is_some, true}
-use Rattle.std.proofs.lemmas.Bool.{and_parts}
+use Rattle.std.proofs.Common.{ltb-true, nat_lt, ◌&&◌, ◌≡◌, not, List, Option, Some, None, refl, sym, subst, arith, is_some, true}
+use Rattle.std.proofs.lemmas.Bool.{and_parts, not-true}
 use Rattle.fab_base.specs.Layouts.{Group}
 use Rattle.protocol.specs.Settings.{Setting}
-use Rattle.protocol.specs.Nodes.{put, invoked, began, refusal_of}
-use Rattle.protocol.specs.Worlds.{World, Event, first_world, may_begin, world_began, is_up, run, replies_with}
+use Rattle.protocol.specs.Nodes.{put, invoked, began, may_open, refusal_of}
+use Rattle.protocol.specs.Worlds.{World, Event, first_world, may_begin, world_began, is_up, run}
 use Rattle.protocol_laws.proofs.Books.{Books}
 use Rattle.calm_laws.proofs.Fresh.{IsNumbered, AreFresh, fresh_on}
-use Rattle.calm_laws.proofs.FreshDelivered.{delivered_numbered, delivered_fresh}
+use Rattle.view_laws.proofs.CallSteps.{Calls, always_calls}
+use Rattle.calm_laws.proofs.FreshDelivered.{delivered_numbered, delivered_fresh, proposed_numbered, proposed_fresh}
 use Rattle.calm_laws.proofs.FreshTicked.{ticked_numbered, ticked_fresh}
 use Rattle.calm_laws.proofs.FreshBegun.{began_numbered, began_fresh}
 use Rattle.calm_laws.proofs.FreshStopped.{stopped_numbered, stopped_fresh, started_numbered, started_fresh}

@@ -11,7 +11,7 @@ use Rattle.protocol.specs.Nodes.{Node, put, stopped, restarted}
 use Rattle.protocol.specs.Worlds.{World, Operation, Found, Before, After, world_stopped, world_found, world_started, reached_during, reached_at, packet_of}
 use Rattle.protocol_laws.proofs.Books.{Books}
 use Rattle.view_laws.proofs.CallSteps.{Calls}
-use Rattle.protocol.proofs.Tables.{put_each, put_same}
+use Rattle.protocol.proofs.Tables.{put_each, put_same, put_twice}
 use Rattle.protocol.proofs.Puts.{put_other}
 use Rattle.calm_laws.proofs.Queues.{operation_same}
 use Rattle.calm_laws.proofs.Fresh.{IsMadeBy, IsNumbered, AreFresh, made_put, IsOpenAt, opens_at, opens_in, put_before, packet_stands, fresh_kept}
@@ -101,17 +101,17 @@ module _ (setting : Setting) (w : World) (books : Books setting w) (calls : Call
 
   -- a stopped brick starts again
   -- a brick that starts has no proposal, and its boot rose
-  starts_so : (brick : BrickId) (openings : ℕ) (next : World) (node : Node) → 0 < openings → node.boot ≡ (w.nodes brick.0).boot
-      → next.nodes ≡ put w.nodes brick.0 (restarted openings node) → next.numbers ≡ w.numbers → next.packets ≡ w.packets → next.reached ≡ w.reached
+  starts_so : (brick : BrickId) (openings : ℕ) (node : Node) → 0 < openings → node.boot ≡ (w.nodes brick.0).boot
       → IsNumbered (record w { nodes = put w.nodes brick.0 (restarted openings node) })
   unfolding restarted
-  starts_so brick openings next node some boot nodes numbers packets reached = record {
+  starts_so brick openings node some boot = record {
     numbers = numbered.numbers;
     drafts = λ i p is.
         put_each (λ j (n : Node). n.proposal ≡ Some p → w.numbers j p.call.boot p.call.seq ≡ 0) w.nodes brick.0 (restarted openings node)
         (λ none. absurd (let never : None ≡ Some p = none in cc)) (λ j other was. numbered.drafts j p was) i is;
     packets = λ k packet at.
-        made_put w.nodes brick.0 (restarted openings node) (inl (omega (arith, some, boot))) packet (numbered.packets k packet at);
+        made_put w.nodes brick.0 (restarted openings node) 
+        (inl (let more : (w.nodes brick.0).boot < node.boot + openings = omega (arith, some, boot) in more)) packet (numbered.packets k packet at);
     reached = numbered.reached;
   }
 
@@ -119,15 +119,12 @@ module _ (setting : Setting) (w : World) (books : Books setting w) (calls : Call
       → IsNumbered (world_started (world_found w brick found) brick openings)
   started_numbered brick openings found some down = of found
     where
-      again : (node : Node) → node.boot ≡ (w.nodes brick.0).boot → IsNumbered (record w { nodes = put w.nodes brick.0 (restarted openings node) })
-      again node boot = starts_so brick openings (record w { nodes = put w.nodes brick.0 (restarted openings node) }) node some boot refl refl refl refl
-
       of : (z : Found) → IsNumbered (world_started (world_found w brick z) brick openings)
       of Before =
-          let is = again (w.nodes brick.0) refl in
+          let is = starts_so brick openings (w.nodes brick.0) some refl in
           record { numbers = is.numbers; drafts = is.drafts; packets = is.packets; reached = is.reached }
       of After =
-          let is = again (w.after brick.0) (calls.left brick.0 down).boot in
+          let is = starts_so brick openings (w.after brick.0) some (calls.left brick.0 down).boot in
           let twice = found_twice brick openings in
           record {
             numbers = is.numbers;

@@ -170,6 +170,9 @@ module _ (setting : Setting) (w : World) (books : Books setting w) (calls : Call
           let one : was.0 ≡ o = same_Some was.0 o (sym was.1 ∙ ap (λ a. w.operations a) same ∙ at.operation_is) in
           other (sym was.4 ∙ ap (λ x. x.seq) one)
 
+      from_one : 1 ≤ n
+      from_one = (books.operations n o at.operation_is).from_one
+
       resent_other : (k : ℕ) → k ≢ o.seq → filter is_n (resent setting brick ((w.nodes brick.0).calls k)) ≡ []
       resent_other k other =
           filter_none is_n (resent setting brick ((w.nodes brick.0).calls k))
@@ -178,9 +181,6 @@ module _ (setting : Setting) (w : World) (books : Books setting w) (calls : Call
           (λ (of : (operation_of w packet ≡ number_of w brick.0 k) × (1 ≤ number_of w brick.0 k)). other_call k other of.1 (sym of.0 ∙ same))
           (λ (none : operation_of w packet ≡ 0). let from = from_one in omega (arith, none, same, from))
           (call_are k ((w.nodes brick.0).calls k) refl j packet at')))
-
-      from_one : 1 ≤ n
-      from_one = (books.operations n o at.operation_is).from_one
 
       -- what teaches a view is no operation's
       learn_none : nat_eq 0 n ≡ false

@@ -122,7 +122,7 @@ request_is_of setting w me from call request =
         each_reply (λ (packet : Packet). IsKeyed from.0 call.boot call.seq packet ⊎ IsOfViews packet.message) me from call o
         (λ r is. inl (refl, refl, refl))
 
--- a brick that is as it was in its boot, its open operations and its proposal
+-- a brick that is as it was in its boot and its open operations
 pub record IsSelf (old new : Node) : Type 0 where
   pub boot : new.boot ≡ old.boot
   pub calls : new.calls ≡ old.calls
@@ -133,11 +133,11 @@ module _ (setting : Setting) (w : World) (books : Books setting w) (me : BrickId
   its : CallBooks setting w me.0 c.call.seq c
   its = books.calls me.0 c.call.seq c is
 
-  abbrev boot : ℕ
-  boot = (w.nodes me.0).boot
+  abbrev its_boot : ℕ
+  its_boot = (w.nodes me.0).boot
 
-  abbrev seq : ℕ
-  seq = c.call.seq
+  abbrev its_seq : ℕ
+  its_seq = c.call.seq
 
   -- the other calls stay
   other_calls : (z : Option Coordinator) (k : ℕ) → number_of w me.0 k ≢ number_of w me.0 c.call.seq
@@ -150,12 +150,12 @@ module _ (setting : Setting) (w : World) (books : Books setting w) (me : BrickId
   other_operations m change a other = put_other w.operations m (change (w.operations m)) a other
 
   collects_are : (stored : Option Stamp)
-      → OfEach (λ packet. IsKeyed me.0 boot seq packet ⊎ IsOfViews packet.message) (collect_packets me c stored)
+      → OfEach (λ packet. IsKeyed me.0 its_boot its_seq packet ⊎ IsOfViews packet.message) (collect_packets me c stored)
   collects_are None = none_at
-  collects_are (Some t) = keyed_members me c.call (λ seat. Request.Collect t) me.0 boot seq refl its.call_boot refl c.group.members
+  collects_are (Some t) = keyed_members me c.call (λ seat. Request.Collect t) me.0 its_boot its_seq refl its.call_boot refl c.group.members
 
   pub next_is_of : (fresh : Option Stamp) (d : Coordinator) (z : Next) → d.call ≡ c.call → NextFits fresh d z
-      → StepIsOf setting w me (carried_out setting me node known c z) me.0 boot seq
+      → StepIsOf setting w me (carried_out setting me node known c z) me.0 its_boot its_seq
   next_is_of fresh d Ignores same fits = absurd fits
   next_is_of fresh d (Waits e) same fits = record {
     boot_is = self.boot;
@@ -165,14 +165,14 @@ module _ (setting : Setting) (w : World) (books : Books setting w) (me : BrickId
   }
   next_is_of fresh d (Sends e) same fits = record {
     boot_is = self.boot;
-    packets = keyed_members me e.call (request_of setting.code e) me.0 boot seq refl (fits.same.boot ∙ ap (λ call. call.boot) same ∙ its.call_boot)
+    packets = keyed_members me e.call (request_of setting.code e) me.0 its_boot its_seq refl (fits.same.boot ∙ ap (λ call. call.boot) same ∙ its.call_boot)
         (fits.same.seq ∙ ap (λ call. call.seq) same) e.group.members;
     calls = other_calls (Some e);
     operations = λ replies choices reached a other. refl;
   }
   next_is_of fresh d (Makes e) same fits = record {
     boot_is = self.boot;
-    packets = keyed_members me e.call (request_of setting.code e) me.0 boot seq refl (fits.same.boot ∙ ap (λ call. call.boot) same ∙ its.call_boot)
+    packets = keyed_members me e.call (request_of setting.code e) me.0 its_boot its_seq refl (fits.same.boot ∙ ap (λ call. call.boot) same ∙ its.call_boot)
         (fits.same.seq ∙ ap (λ call. call.seq) same) e.group.members;
     calls = other_calls (Some e);
     operations = λ replies choices reached a other. other_operations (number_of w me.0 c.call.seq) (with_made e.stamp e.base) a other;
@@ -247,7 +247,7 @@ reply_is_of setting w books me now from call reply =
     call reply)
 
 -- the brick, boot and number of a packet's call; of a packet of no call these are 0
-abbrev pub key_of : (BrickId → BrickId → Message → ℕ × ℕ × ℕ)
+abbrev pub key_of : BrickId → BrickId → Message → ℕ × ℕ × ℕ
 key_of from to (Message.Request call request) = (from.0, call.boot, call.seq)
 key_of from to (Message.Reply call reply) = (to.0, call.boot, call.seq)
 key_of from to message = (0, 0, 0)
