@@ -706,7 +706,8 @@ view_counts setting group node view has later counts = record {
     -- the count of the group, without what is dropped
     group_now : group_lives next group + live_before first (node.live_in group) ≡ group_lives node group
     group_now =
-        let most : view.number.0 ≡ first + 1 = let low = rises in omega (arith, low) in
+        let first_is : first ≡ view.number.0 - 1 = refl in
+        let most : view.number.0 ≡ first + 1 = let low = rises in omega (arith, low, first_is) in
         let long : suc view.number.0 ≡ 2 + first = omega (arith, most) in
         let new : group_lives next group ≡ live_before (2 + first) (dropped first (node.live_in group))
         = ap (λ (l : Learnt). live_before (suc l.view.number.0) (next.live_in group)) learnt_is
