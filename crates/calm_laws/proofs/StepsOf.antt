@@ -12,7 +12,8 @@ use Rattle.protocol.specs.Settings.{Setting}
 use Rattle.protocol.specs.Replicas.{handle}
 use Rattle.protocol.specs.declared.phases.Counted.{Counted}
 use Rattle.protocol.specs.Coordinators.{Coordinator, Next, Ignores, Waits, Sends, Makes, Ends, counts_at, counted_at, once_full, with_reply, request_of, on_reply}
-use Rattle.protocol.specs.Nodes.{Node, NodeStep, Report, put, no_step, with_known, with_round, with_replica, replica_at, full_at, known_after, fresh_stamp, reply_packets, requested, replied_at, carried_out, received, heard, collect_packets, to_members, vote_at, voted_on, node_taught_by, node_learnt, view_counted}
+use Rattle.protocol.specs.declared.tellings.Report.{Report}
+use Rattle.protocol.specs.Nodes.{Node, NodeStep, put, no_step, with_known, with_round, with_replica, replica_at, full_at, known_after, fresh_stamp, reply_packets, requested, replied_at, carried_out, received, heard, collect_packets, to_members, vote_at, voted_on, node_taught_by, node_learnt, view_counted}
 use Rattle.protocol.proofs.Packets.{OfEach, each_member, each_reply}
 use Rattle.protocol_laws.proofs.Proposing.{IsOfViews, ballot_each}
 use Rattle.protocol_laws.proofs.Teaching.{heard_each, told_each, learnt_each}
@@ -70,11 +71,11 @@ pub record StepIsOf (setting : Setting) (w : World) (me : BrickId) (step : NodeS
       → (world_stepped setting (record w { replies = replies; choices = choices; reached = reached }) me step).operations a ≡ w.operations a
 
 -- none of these packets is of anything
-none_at : {P : Packet → Type 0} (j : ℕ) (packet : Packet) → slice_get [] j ≡ Some packet → P packet
-none_at j packet at = let never : ⊥ = cc in absurd never
+none_at : (i boot seq j : ℕ) (packet : Packet) → slice_get [] j ≡ Some packet → IsKeyed i boot seq packet ⊎ IsOfViews packet.message
+none_at i boot seq j packet at = let never : ⊥ = cc in absurd never
 
 -- a step that only changes what a brick keeps, or knows, and sends such packets
-quiet_is_of : (setting : Setting) (w : World) (me : BrickId) (node : Node) (packets : List Packet) (reports : List Report) (i boot seq : ℕ)
+pub quiet_is_of : (setting : Setting) (w : World) (me : BrickId) (node : Node) (packets : List Packet) (reports : List Report) (i boot seq : ℕ)
     → node.boot ≡ (w.nodes me.0).boot → node.calls ≡ (w.nodes me.0).calls
     → ((j : ℕ) (packet : Packet) → slice_get packets j ≡ Some packet → IsKeyed i boot seq packet ⊎ IsOfViews packet.message)
     → StepIsOf setting w me (record { node = node; packets = packets; told = []; answers = []; reports = reports }) i boot seq
@@ -105,7 +106,7 @@ request_is_of : (setting : Setting) (w : World) (me from : BrickId) (call : Call
     → StepIsOf setting w me (requested setting me from (w.nodes me.0) call request) from.0 call.boot call.seq
 request_is_of setting w me from call request =
     request_each (λ (step : NodeStep). StepIsOf setting w me step from.0 call.boot call.seq) setting me from (w.nodes me.0) call request
-    (quiet_is_of setting w me (w.nodes me.0) [] [] from.0 call.boot call.seq refl refl none_at)
+    (quiet_is_of setting w me (w.nodes me.0) [] [] from.0 call.boot call.seq refl refl (none_at from.0 call.boot call.seq))
     (λ reply is. quiet_is_of setting w me (w.nodes me.0) (reply_packets me from call (Some reply)) [] from.0 call.boot call.seq refl refl (replied_to (Some reply)))
     (λ group seat here is.
     let reaction = handle setting.code group.m (full_at setting.layout.records (w.nodes me.0).live) seat (replica_at (w.nodes me.0) call) request in
@@ -151,7 +152,7 @@ module _ (setting : Setting) (w : World) (books : Books setting w) (me : BrickId
 
   collects_are : (stored : Option Stamp)
       → OfEach (λ packet. IsKeyed me.0 its_boot its_seq packet ⊎ IsOfViews packet.message) (collect_packets me c stored)
-  collects_are None = none_at
+  collects_are None = none_at me.0 its_boot its_seq
   collects_are (Some t) = keyed_members me c.call (λ seat. Request.Collect t) me.0 its_boot its_seq refl its.call_boot refl c.group.members
 
   pub next_is_of : (fresh : Option Stamp) (d : Coordinator) (z : Next) → d.call ≡ c.call → NextFits fresh d z
@@ -159,7 +160,7 @@ module _ (setting : Setting) (w : World) (books : Books setting w) (me : BrickId
   next_is_of fresh d Ignores same fits = absurd fits
   next_is_of fresh d (Waits e) same fits = record {
     boot_is = self.boot;
-    packets = none_at;
+    packets = none_at me.0 its_boot its_seq;
     calls = other_calls (Some e);
     operations = λ replies choices reached a other. refl;
   }
@@ -200,7 +201,7 @@ unfolding on_reply
 replied_is_of setting w books me now from node self call reply = at_call ((w.nodes me.0).calls call.seq) refl
   where
     quiet : (next : Node) → next.boot ≡ node.boot → next.calls ≡ node.calls → StepIsOf setting w me (no_step next) me.0 call.boot call.seq
-    quiet next boot calls = quiet_is_of setting w me next [] [] me.0 call.boot call.seq (boot ∙ self.boot) (calls ∙ self.calls) none_at
+    quiet next boot calls = quiet_is_of setting w me next [] [] me.0 call.boot call.seq (boot ∙ self.boot) (calls ∙ self.calls) (none_at me.0 call.boot call.seq)
 
     at_seat : (c : Coordinator) → IsCall w me.0 call.seq c → (z : Option ℕ) → counts_at setting.layout.block c from.0 call reply ≡ z
         → StepIsOf setting w me (carried_out setting me node (known_after node.known reply) c
@@ -238,7 +239,7 @@ reply_is_of : (setting : Setting) (w : World) (books : Books setting w) (me : Br
 reply_is_of setting w books me now from call reply =
     heard_each (λ (step : NodeStep). StepIsOf setting w me step me.0 call.boot call.seq) setting me now from (w.nodes me.0) call reply
     (quiet_is_of setting w me (with_known (with_round (w.nodes me.0) reply) (known_after (w.nodes me.0).known reply)) [] [] me.0 call.boot call.seq refl refl
-    none_at)
+    (none_at me.0 call.boot call.seq))
     (λ fit.
     replied_is_of setting w books me now from
     (node_taught_by setting.layout.block call.group.0 (with_round (w.nodes me.0) reply) (view_counted setting.layout from (w.nodes me.0) call reply))
@@ -261,10 +262,10 @@ unfolding received
 message_is_of setting w books now from to (Message.Request call request) = request_is_of setting w to from call request
 message_is_of setting w books now from to (Message.Reply call reply) = reply_is_of setting w books to now from call reply
 message_is_of setting w books now from to (Message.Learn group view) =
-    quiet_is_of setting w to (node_learnt setting.layout (w.nodes to.0) group view) [] [] 0 0 0 learnt.boot learnt.calls none_at
+    quiet_is_of setting w to (node_learnt setting.layout (w.nodes to.0) group view) [] [] 0 0 0 learnt.boot learnt.calls (none_at 0 0 0)
   where
     learnt : IsSelf (w.nodes to.0) (node_learnt setting.layout (w.nodes to.0) group view)
     learnt =
         learnt_each (λ (n : Node). IsSelf (w.nodes to.0) n) setting.layout (w.nodes to.0) group view (record { boot = refl; calls = refl })
         (λ later. record { boot = refl; calls = refl })
-message_is_of setting w books now from to message = quiet_is_of setting w to (w.nodes to.0) [] [] 0 0 0 refl refl none_at
+message_is_of setting w books now from to message = quiet_is_of setting w to (w.nodes to.0) [] [] 0 0 0 refl refl (none_at 0 0 0)
