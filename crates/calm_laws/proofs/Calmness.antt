@@ -1,7 +1,7 @@
 -- A calm operation, of whose world this is known, is answered alone.
 use Rattle.calm_laws.proofs.Plays.{Finishes}
-use Rattle.std.proofs.Common.{Bool, List, None, Option, Some, [], ap, ap₂, arith, drop, false, inl, le_of_lt, le_trans, length, map, not, refl, subst, suc, sym, take, true, zero-add, ℕ, ⊎_elim, ◌&&◌, ◌++◌, ◌+◌, ◌<◌, ◌∙◌, ◌∷◌, ◌≡◌, ◌≤◌, is_some, take_all}
-use Rattle.std.proofs.lemmas.Bool.{and_from, and_parts, cond_both, eq-eqb, eqb-true, false≢true, ltb-true}
+use Rattle.std.proofs.Common.{List, None, Option, Some, [], ap, ap₂, arith, drop, false, inl, le_of_lt, le_trans, length, map, refl, subst, suc, sym, take, true, zero-add, ℕ, ⊎_elim, ◌++◌, ◌+◌, ◌<◌, ◌∙◌, ◌∷◌, ◌≡◌, ◌≤◌, is_some, take_all}
+use Rattle.std.proofs.lemmas.Bool.{and_from, and_parts, cond_both, eqb-true, false≢true, ltb-true}
 use Rattle.std.proofs.lemmas.Bool.Decides.{nat_tests}
 use Rattle.std.proofs.lemmas.List.{append_assoc, length-take-le, take-append-drop}
 use Rattle.std.specs.Prelude.{filter, nat_eq, nat_lt, slice_get, ◌*◌}
@@ -39,7 +39,7 @@ use Rattle.messages.specs.declared.requests.Version.{Version}
 use Rattle.messages.specs.declared.requests.Want.{Want}
 use Rattle.protocol.specs.Calms.{IsCalm, IsReady, early, goes_among, is_one_of}
 use Rattle.protocol.specs.Coordinators.{Coordinator, block_written}
-use Rattle.protocol.specs.Nodes.{first_phase, group_at, has_block, has_length, phase_packets, replica_at, view_at, has_accepted}
+use Rattle.protocol.specs.Nodes.{first_phase, group_at, has_block, has_length, phase_packets, replica_at, view_at}
 use Rattle.protocol.specs.Replicas.{Replica, below, is_held, newest_of, top_of}
 use Rattle.protocol.specs.Settings.{IsSound, Setting, are_bytes}
 use Rattle.protocol.specs.Worlds.{Operation, World}

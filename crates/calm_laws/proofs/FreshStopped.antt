@@ -110,7 +110,7 @@ module _ (setting : Setting) (w : World) (books : Books setting w) (calls : Call
         put_each (λ j (n : Node). n.proposal ≡ Some p → w.numbers j p.call.boot p.call.seq ≡ 0) w.nodes brick.0 (restarted openings node)
         (λ none. absurd (let never : None ≡ Some p = none in cc)) (λ j other was. numbered.drafts j p was) i is;
     packets = λ k packet at.
-        made_put w.nodes brick.0 (restarted openings node) 
+        made_put w.nodes brick.0 (restarted openings node)
         (inl (let more : (w.nodes brick.0).boot < node.boot + openings = omega (arith, some, boot) in more)) packet (numbered.packets k packet at);
     reached = numbered.reached;
   }

@@ -1,7 +1,6 @@
 -- What holds of what a brick keeps, and is ended by no request and by no view that it is taught, holds in every run.
-use Rattle.std.proofs.Common.{◌≡◌, ℕ, true, false, List, Option, Some, None, refl, sym, ap, subst, ⊎_elim}
+use Rattle.std.proofs.Common.{◌≡◌, ℕ, true, false, List, Option, Some, None, refl, sym, subst, ⊎_elim}
 use Rattle.fab_base.specs.declared.identities.BrickId.{BrickId}
-use Rattle.fab_base.specs.declared.identities.GroupId.{GroupId}
 use Rattle.fab_base.specs.declared.member_lists.View.{View}
 use Rattle.fab_base.specs.Layouts.{Group}
 use Rattle.messages.specs.declared.calls.Call.{Call}
@@ -9,9 +8,9 @@ use Rattle.messages.specs.declared.packets.Message.{Message}
 use Rattle.messages.specs.declared.packets.Packet.{Packet}
 use Rattle.messages.specs.declared.replies.Reply.{Reply}
 use Rattle.messages.specs.declared.requests.Request.{Request}
-use Rattle.protocol.specs.Views.{Learnt, is_later, view_told}
+use Rattle.protocol.specs.Views.{is_later, view_told}
 use Rattle.protocol.specs.Coordinators.{Coordinator, Next, Ignores, Waits, Sends, Makes, Ends, on_reply}
-use Rattle.protocol.specs.Nodes.{Node, NodeStep, put, requested, replied_at, received, carried_out, known_after, fresh_stamp, invoked, began, group_at, stopped, restarted, first_node, proposed, heard, no_step, with_known, with_round, with_learnt, node_taught_by, node_learnt, view_counted, lists_fit}
+use Rattle.protocol.specs.Nodes.{Node, NodeStep, put, requested, replied_at, received, carried_out, known_after, fresh_stamp, invoked, began, group_at, stopped, restarted, first_node, proposed, heard, with_known, with_round, with_learnt, node_taught_by, view_counted, lists_fit}
 use Rattle.protocol.specs.Settings.{Setting}
 use Rattle.protocol.specs.Worlds.{World, Event, Found, Before, After, first_world, world_found, run}
 use Rattle.protocol_laws.specs.Laws.{WasSent}

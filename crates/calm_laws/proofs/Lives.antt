@@ -1,7 +1,7 @@
 -- A brick counts its live records: each order stamp above the first one, and each version but the one from the start. So no log is longer than that
 -- count by more than one.
 use Rattle.std.proofs.lemmas.Option.{same_Some}
-use Rattle.std.proofs.Common.{◌⊎◌, lt-ltb, le-ltb, ◌≡◌, ◌≢◌, ℕ, zero, suc, ◌+◌, ◌-◌, ◌≤◌, ◌<◌, Bool, true, false, not, ◌&&◌, cond, List, [], ◌∷◌, ◌++◌, length, Option, Some, None, refl, sym, ap, ◌∙◌, subst, ⊎_elim, arith, length-append, replicate, ltb-false}
+use Rattle.std.proofs.Common.{lt-ltb, le-ltb, ◌≡◌, ◌≢◌, ℕ, zero, suc, ◌+◌, ◌-◌, ◌≤◌, ◌<◌, Bool, true, false, not, ◌&&◌, cond, List, [], ◌∷◌, ◌++◌, length, Option, Some, None, refl, sym, ap, ◌∙◌, subst, ⊎_elim, arith, length-append, replicate, ltb-false}
 use Rattle.std.specs.Prelude.{slice_get, nat_eq, nat_lt, if◌then◌else◌}
 use Rattle.std.proofs.lemmas.Bool.{cond_both, cond-false, cond-true, cases_Bool, cases_eq, false≢true, and_parts, ltb-true, cases_lt, eqb-false}
 use Rattle.std.proofs.lemmas.List.Filters.{length-filter_both}
@@ -22,13 +22,12 @@ use Rattle.fab_base.specs.declared.member_lists.View.{View}
 use Rattle.protocol.specs.Views.{Learnt, is_later, kept_by}
 use Rattle.protocol.specs.Nodes.{Node, NodeStep, put, requested, with_replica, with_learnt, replica_at, full_at, group_at, live_before, view_at, first_node}
 use Rattle.protocol.specs.Worlds.{World, Event, first_world, run}
-use Rattle.fab_base.specs.Layouts.{seat_in}
 use Rattle.protocol.specs.Settings.{Setting}
 use Rattle.protocol_laws.proofs.StampViews.{NodeViews}
 use Rattle.protocol_laws.proofs.Teaching.{newly_learnt, dropped_each}
 use Rattle.std.specs.Option.{option_map}
 use Rattle.protocol.proofs.Served.{parts_each, request_each}
-use Rattle.protocol.proofs.Tables.{put_each, put_same}
+use Rattle.protocol.proofs.Tables.{put_same}
 use Rattle.protocol.proofs.Puts.{put_other}
 use Rattle.calm_laws.proofs.Kept.{IsLike, always_kept}
 use Rattle.protocol_laws.proofs.Reactions.{top_order, modified_each}

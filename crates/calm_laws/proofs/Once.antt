@@ -12,7 +12,7 @@ use Rattle.messages.specs.declared.replies.Reply.TheVariants.{Later, Stored, Ord
 use Rattle.messages.specs.declared.requests.Request.{Request}
 use Rattle.messages.specs.declared.requests.Request.TheVariants.{Read, Order, OrderRead, Write, Modify, Collect, OldRead, Prepare, Accept}
 use Rattle.messages.specs.declared.requests.Version.{Version}
-use Rattle.protocol.specs.Nodes.{Node, first_node, full_at, replica_at, requested, with_learnt}
+use Rattle.protocol.specs.Nodes.{Node, full_at, replica_at, requested, with_learnt}
 use Rattle.protocol.specs.Replicas.{Replica, Reaction, top_of, is_held, newest_of, first_replica, fresh_replica, not_below, stays, unless_full, promised, stored, ignored, handle, modified_block, modified_on, is_wanted, told_version, looked_up}
 use Rattle.protocol.specs.Settings.{Code, Setting}
 use Rattle.protocol.specs.Worlds.{Event, first_world, run}

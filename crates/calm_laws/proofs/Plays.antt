@@ -2,7 +2,7 @@
 use Rattle.messages.specs.declared.requests.Request.{Request}
 use Rattle.fab_base.specs.declared.stamps.Stamp.{Stamp}
 use Rattle.protocol_laws.proofs.Books.{version_after}
-use Rattle.std.proofs.Common.{Bool, arith, false, not, ◌&&◌, ◌||◌, List, None, Option, Some, [], ap, cond, refl, subst, sym, true, ℕ, ⊎_elim, ◌++◌, ◌+◌, ◌∙◌, ◌∷◌, ◌≡◌, ◌≢◌}
+use Rattle.std.proofs.Common.{Bool, arith, false, not, ◌&&◌, List, None, Option, Some, [], ap, cond, refl, subst, sym, true, ℕ, ⊎_elim, ◌++◌, ◌+◌, ◌∙◌, ◌∷◌, ◌≡◌, ◌≢◌}
 use Rattle.std.proofs.lemmas.Bool.{and_parts, cases_eq, eq-eqb, or_from}
 use Rattle.std.proofs.lemmas.Bool.Decides.{nat_tests}
 use Rattle.std.specs.Prelude.{filter, is_some, nat_eq, nat_lt, ◌-◌}

@@ -1,7 +1,7 @@
 -- A world shows a scene: its coordinator, what its brick knows, the members' parts, and the messages that wait. A delivery of the first of these
 -- leads to a world that shows the next scene.
 use Rattle.synod_laws.specs.Synods.{Kept}
-use Rattle.std.proofs.Common.{false, Bool, List, None, Option, Some, ap, arith, cond, length, not, subst, suc, sym, true, ℕ, ⊎_elim, ◌&&◌, ◌++◌, ◌+◌, ◌<◌, ◌∙◌, ◌≡◌}
+use Rattle.std.proofs.Common.{false, Bool, List, None, Option, Some, ap, arith, cond, length, subst, suc, sym, true, ℕ, ⊎_elim, ◌&&◌, ◌++◌, ◌+◌, ◌<◌, ◌∙◌, ◌≡◌}
 use Rattle.std.proofs.lemmas.Bool.{eq-eqb, ne_eqb}
 use Rattle.std.proofs.lemmas.List.{length-append}
 use Rattle.std.proofs.lemmas.Option.{slice_get_within}

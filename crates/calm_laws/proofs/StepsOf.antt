@@ -1,4 +1,5 @@
--- A brick's step on a message concerns the operation of that message alone: its packets, its coordinator, and what is told of it.
+-- A brick's step on a message concerns the operation of that message alone: its packets, its coordinator, and what is told of it. Its other packets are of views
+-- alone.
 use Rattle.std.proofs.Common.{◌≡◌, ◌≢◌, ℕ, zero, suc, ◌+◌, List, [], ◌∷◌, Option, Some, None, refl, sym, ap, ◌∙◌, ◌⊎◌, inl, inr, subst, Bool}
 use Rattle.std.specs.Prelude.{slice_get}
 use Rattle.fab_base.specs.declared.identities.BrickId.{BrickId}
