@@ -73,6 +73,7 @@ rises_made node next boot seq rises made = ⊎_elim
     ((let low : boot ≤ next.boot = omega (arith, boots, old) in low), (λ same. let was = made.1 (same ∙ now.0) in omega (arith, was, more))))
     rises
 
+-- so it is with the call of a packet, where one brick's counters rose
 pub made_put : (nodes : ℕ → Node) (i : ℕ) (next : Node) → Rises (nodes i) next → (packet : Packet) → IsMadeBy nodes packet
     → IsMadeBy (put nodes i next) packet
 made_put nodes i next rises packet = of packet.from packet.to packet.message

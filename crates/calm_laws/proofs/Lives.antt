@@ -311,6 +311,7 @@ abbrev pub groups_sum : (ℕ → ℕ) → ℕ → List Group → ℕ
 groups_sum f g [] = 0
 groups_sum f g (group ∷ groups) = f g + groups_sum f (suc g) groups
 
+-- where no number from there on changes, neither does the sum
 sum_same : (old new : ℕ → ℕ) (groups : List Group) (g : ℕ) → ((j : ℕ) → g ≤ j → new j ≡ old j) → groups_sum new g groups ≡ groups_sum old g groups
 sum_same old new [] g same = refl
 sum_same old new (group ∷ groups) g same =
@@ -345,7 +346,7 @@ sum_within f (suc k) g (one ∷ groups) group at =
     let is : f (suc g + k) ≡ f (g + suc k) = ap f (let place : suc g + k ≡ g + suc k = omega arith in place) in
     omega (arith, rest, is)
 
--- the live records of the views before one, where those of a view change, and where they are dropped
+-- the live records of the views before one stay, where those of no such view change
 before_same : (old new : ℕ → ℕ) (n : ℕ) → ((j : ℕ) → j < n → new j ≡ old j) → live_before n new ≡ live_before n old
 before_same old new zero same = refl
 before_same old new (suc n) same =
@@ -353,6 +354,7 @@ before_same old new (suc n) same =
     let last = same n (omega arith) in
     omega (arith, rest, last)
 
+-- they change by what those of one view do
 before_put : (old new : ℕ → ℕ) (e n : ℕ) → e < n → ((j : ℕ) → j ≢ e → new j ≡ old j) → live_before n new + old e ≡ live_before n old + new e
 before_put old new e zero within same = absurd (omega (arith, within))
 before_put old new e (suc n) within same = ⊎_elim
@@ -370,6 +372,7 @@ before_put old new e (suc n) within same = ⊎_elim
     below : (n e : ℕ) → e < suc n → n ≢ e → e < n
     below n e within other = ⊎_elim (λ (less : e < n). less) (λ (most : n ≤ e). absurd (other (omega (arith, within, most)))) (cases_lt e n)
 
+-- those of one view are no more than all
 before_within : (f : ℕ → ℕ) (e n : ℕ) → e < n → f e ≤ live_before n f
 before_within f e zero within = absurd (omega (arith, within))
 before_within f e (suc n) within = ⊎_elim
@@ -392,10 +395,11 @@ before_more f n (suc more) none =
     = ap (λ (k : ℕ). live_before k f) (let same : suc more + n ≡ suc (more + n) = omega arith in same) in
     omega (arith, rest, last, next)
 
--- the views before one are dropped
+-- live records by view, once those of the views before one are dropped
 abbrev dropped : ℕ → (ℕ → ℕ) → ℕ → ℕ
 dropped first f view = if nat_lt view first then 0 else f view
 
+-- then there are none of those views
 before_none : (f : ℕ → ℕ) (first n : ℕ) → n ≤ first → live_before n (dropped first f) ≡ 0
 before_none f first zero within = refl
 before_none f first (suc n) within =
@@ -403,6 +407,7 @@ before_none f first (suc n) within =
     let last : dropped first f n ≡ 0 = cond-true (nat_lt n first) 0 (f n) (lt-ltb n first (omega (arith, within))) in
     omega (arith, rest, last)
 
+-- and of all views those are missing that were dropped
 before_dropped : (f : ℕ → ℕ) (first more : ℕ) → live_before (more + first) (dropped first f) + live_before first f ≡ live_before (more + first) f
 before_dropped f first zero =
     let none = before_none f first first (omega arith) in
@@ -433,6 +438,7 @@ pub record CountsLives (layout : Layout) (node : Node) : Type 0 where
   pub begins : (g e s : ℕ) → Begins (node.replicas g e s)
   pub most : node.live ≤ layout.records
 
+-- so it does where it keeps the same of parts and views
 counts_same : (layout : Layout) (old new : Node) → IsLike old new → CountsLives layout old → CountsLives layout new
 counts_same layout old new like counts = record {
   live_is = like.live ∙ counts.live_is
@@ -625,6 +631,7 @@ fresh_weight block e =
     (λ one. ap (λ (b : Bool). one_where (not b) + (1 - 1)) (stamp_same_refl first_stamp))
     (λ other. ap (λ (b : Bool). one_where (not b) + (0 - 0)) (stamp_same_refl first_stamp))
 
+-- nor have fresh parts of stripes
 fresh_stripes : (block e n : ℕ) → stripes_weight (λ s. fresh_replica block e) n ≡ 0
 fresh_stripes block e zero = refl
 fresh_stripes block e (suc n) =
@@ -632,6 +639,7 @@ fresh_stripes block e (suc n) =
     let own = fresh_weight block e in
     omega (arith, rest, own)
 
+-- a fresh part that begins with the first version does so
 fresh_begins : (block e : ℕ) → Begins (fresh_replica block e)
 fresh_begins block e =
     cond_both (nat_eq e 1) (first_replica block) _ Begins
@@ -765,6 +773,7 @@ none_live : (n : ℕ) → live_before n (λ e. 0) ≡ 0
 none_live zero = refl
 none_live (suc n) = let rest = none_live n in omega (arith, rest)
 
+-- what is 0 of each group is 0 of all
 none_at_all : (f : ℕ → ℕ) (groups : List Group) (g : ℕ) → ((j : ℕ) → f j ≡ 0) → groups_sum f g groups ≡ 0
 none_at_all f [] g none = refl
 none_at_all f (group ∷ groups) g none =

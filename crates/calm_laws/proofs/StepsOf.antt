@@ -118,6 +118,7 @@ request_is_of setting w me from call request =
     quiet_is_of setting w me (voted_on me from (w.nodes me.0) call vote).node (reply_packets me from call (Some vote.reply)) [] from.0 call.boot call.seq refl
     refl (replied_to (Some vote.reply)))
   where
+    -- the reply is under the call
     replied_to : (o : Option Reply) (j : ℕ) (packet : Packet) → slice_get (reply_packets me from call o) j ≡ Some packet
         → IsKeyed from.0 call.boot call.seq packet ⊎ IsOfViews packet.message
     replied_to o =
@@ -135,6 +136,7 @@ module _ (setting : Setting) (w : World) (books : Books setting w) (me : BrickId
   its : CallBooks setting w me.0 c.call.seq c
   its = books.calls me.0 c.call.seq c is
 
+  -- the boot and the number of its call
   abbrev its_boot : ℕ
   its_boot = (w.nodes me.0).boot
 
@@ -235,6 +237,7 @@ replied_is_of setting w books me now from node self call reply = at_call ((w.nod
         me.0 call.boot call.seq self.boot self.calls (λ j packet at. inr (are j packet at)))
     at_call (Some c) is = at_seat c is (counts_at setting.layout.block c from.0 call reply) refl
 
+-- a reply that is heard
 reply_is_of : (setting : Setting) (w : World) (books : Books setting w) (me : BrickId) (now : ℕ) (from : BrickId) (call : Call) (reply : Reply)
     → StepIsOf setting w me (heard setting me now from (w.nodes me.0) call reply) me.0 call.boot call.seq
 reply_is_of setting w books me now from call reply =

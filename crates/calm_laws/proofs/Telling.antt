@@ -16,18 +16,22 @@ use Rattle.protocol_laws.proofs.Reactions.{modified_each}
 abbrev pub TeachesNone : Option Reply → Type 0
 TeachesNone reply = (said : Reply) → reply ≡ Some said → view_told said ≡ None
 
+-- so does none
 none_teaches : TeachesNone None
 none_teaches said is = absurd (let never : None ≡ Some said = is in cc)
 
+-- and one that teaches none
 one_teaches : (reply : Reply) → view_told reply ≡ None → TeachesNone (Some reply)
 one_teaches reply none said is = subst (λ (r : Reply). view_told r ≡ None) (same_Some reply said is) none
 
+-- also where the store is full
 full_teaches : (full : Option ℕ) (r : Replica) (z : Reaction) → TeachesNone z.reply → TeachesNone (unless_full full r z).reply
 full_teaches None r z none = none
 full_teaches (Some live) r z none =
     cond_both (nat_lt z.drops z.adds) (stays r (Reply.Full live)) z (λ (x : Reaction). TeachesNone x.reply) (λ more. one_teaches (Reply.Full live) refl)
     (λ less. none)
 
+-- so does what a member replies to any request
 pub handle_teaches_none : (code : Code) (m : ℕ) (full : Option ℕ) (seat : ℕ) (r : Replica) (request : Request)
     → TeachesNone (handle code m full seat r request).reply
 unfolding handle
