@@ -44,6 +44,7 @@ module _ (setting : Setting) (w : World) (books : Books setting w) (calls : Call
   module _ (me : BrickId) (step : NodeStep) (i boot seq : ℕ) (step_is : StepIsOf setting w me step i boot seq) (made : IsMade (w.nodes i) boot seq)
       (own : StepCalls me.0 (w.nodes me.0) step.node step.packets) (replies : ℕ → ℕ → List Counted) (choices : Choices) (reached : ℕ → Bool)
       (reached_then : (k : ℕ) → reached k ≡ false → w.reached k ≡ false) (unreached : (k : ℕ) → length w.packets < k → reached k ≡ false) where
+    -- the world before it, the one after it, and the number of the call
     abbrev before : World
     before = record w { replies = replies; choices = choices; reached = reached }
 
@@ -53,6 +54,7 @@ module _ (setting : Setting) (w : World) (books : Books setting w) (calls : Call
     abbrev m : ℕ
     m = w.numbers i boot seq
 
+    -- what it leaves as it is
     numbers_same : after.numbers ≡ w.numbers
     numbers_same = same_told setting (λ v. v.numbers) me before step (numbers_told setting me) (λ v answered. refl)
 
@@ -171,6 +173,7 @@ module _ (setting : Setting) (w : World) (books : Books setting w) (calls : Call
 
   -- a message is delivered
   module _ (number : ℕ) (packet : Packet) (sent : packet_of w.packets number ≡ Some packet) where
+    -- the step, the world after it, and the packet's call
     abbrev step_of : NodeStep
     step_of = received setting packet.to (w.clocks packet.to.0) (w.nodes packet.to.0) packet
 
@@ -184,6 +187,7 @@ module _ (setting : Setting) (w : World) (books : Books setting w) (calls : Call
     place : (k : ℕ) × (number ≡ suc k) × (slice_get w.packets k ≡ Some packet)
     place = packet_stands w.packets number packet sent
 
+    -- the call was made
     key_made : IsMade (w.nodes key.0) key.1 key.2
     key_made = of packet.from packet.to packet.message (numbered.packets place.0 packet place.2)
       where
@@ -193,12 +197,14 @@ module _ (setting : Setting) (w : World) (books : Books setting w) (calls : Call
         of from to (Message.Reply call reply) made = made
         of from to message made = (omega arith, λ same. omega arith)
 
+    -- what was not sent is not delivered
     beyond : (k : ℕ) → length w.packets < k → put w.reached number true k ≡ false
     beyond k above =
         let inside : place.0 < length w.packets = slice_get_within w.packets place.0 packet place.2 in
         let number_is = place.1 in
         put_other w.reached number true k (λ same. absurd (omega (arith, above, inside, number_is, same))) ∙ numbered.reached k above
 
+    -- the step is of that call
     its_step : StepIsOf setting w packet.to step_of key.0 key.1 key.2
     its_step = message_is_of setting w books (w.clocks packet.to.0) packet.from packet.to packet.message
 
@@ -237,6 +243,7 @@ module _ (setting : Setting) (w : World) (books : Books setting w) (calls : Call
 
   -- a brick begins a proposal
   module _ (brick : BrickId) (group : GroupId) (members : List BrickId) where
+    -- its step is of no call, and changes no operation
     abbrev proposal_step : NodeStep
     proposal_step = proposed setting brick (w.nodes brick.0) group members
 

@@ -492,15 +492,11 @@ request_counts setting me from node call request has counts =
       most = handle_fits setting.code group.m setting.layout.records node.live seat (replica_at node call) request counts.most;
     }
       where
+        -- what it does with its part
         reaction : Reaction
         reaction = handle setting.code group.m (full_at setting.layout.records node.live) seat (replica_at node call) request
 
-        g0 : ℕ
-        g0 = call.group.0
-
-        e0 : ℕ
-        e0 = call.view.0
-
+        -- the brick after it
         next : Node
         next = with_replica node call reaction
 
