@@ -249,22 +249,22 @@ module _ (setting : Setting) (sound : IsSound setting) (lengths : EncodesBlocks 
     open_is = begins_open;
     quiet = refl;
     round = known.call.round;
-    view = known.call.stamp_view;
-    call_view = known.call.view;
+    view = known.call.stamp_view ∙ sym known.call.view;
+    from_one = let one = known.call.stamp_view in omega (arith, one);
     stamp_known = known.call.stamp_known;
     known_early = let low = calm.times.known in omega (arith, low);
     starts = each_then (IsSeated stage) (λ (x : Seated). ((parts x.brick.0).replica.log ≡ logs x.brick.0) × Room stage (parts x.brick.0)
-        × IsLow early (top_of (parts x.brick.0).replica)) (take q all)
+        × IsLow c.call.view.0 early (top_of (parts x.brick.0).replica)) (take q all)
         (λ x seated. (refl, inl (ready x.brick seated.1).room, low x seated))
         (each_take (IsSeated stage) q all all_seated);
     ascends = each_so (λ (x : Seated). LogAscends (logs x.brick.0)) (λ x. known.logs.ascends x.brick.0) (take q all);
   }
     where
-      low : (x : Seated) → IsSeated stage x → IsLow early (top_of (parts x.brick.0).replica)
+      low : (x : Seated) → IsSeated stage x → IsLow c.call.view.0 early (top_of (parts x.brick.0).replica)
       low x seated =
           let times = (ready x.brick seated.1).times in
           record {
-            view = known.logs.top_view x.brick.0;
+            view = let most = known.logs.top_view x.brick.0 in let one = known.call.view in omega (arith, most, one);
             time = top_early early (replica_at (w.nodes x.brick.0) c.call)
                 (le_of_lt (times.orders c.call.group.0 c.call.view.0 c.call.stripe.0))
                 (λ k version at. le_of_lt (times.logs c.call.group.0 c.call.view.0 c.call.stripe.0 k version at));

@@ -171,7 +171,7 @@ module _ (stage : Stage) (cast : Cast stage) (logs : ℕ → List Version) (lore
       both : (ys : List Seated)
           → Each (λ x. (k : ℕ) (version : Version) → slice_get (logs x.brick.0) k ≡ Some version → length version.block ≡ stage.setting.layout.block) ys
           → Each (λ x. ((s.parts x.brick.0).replica.log ≡ logs x.brick.0) × Room stage (s.parts x.brick.0)
-          × IsLow early (top_of (s.parts x.brick.0).replica)) ys
+          × IsLow s.c.call.view.0 early (top_of (s.parts x.brick.0).replica)) ys
           → Each (λ x. answers_phase stage.setting.layout.block s.c.stamp x.seat s.c.phase (f x) ≡ true) ys
       both [] long starts = tt
       both (y ∷ ys) long starts =
@@ -198,7 +198,7 @@ module _ (stage : Stage) (cast : Cast stage) (logs : ℕ → List Version) (lore
         quiet = looks_quiet stage s.c want looking_is.asks first.open_is.others before (max known s.c.stamp.time);
         round = first.round;
         view = first.view;
-        call_view = first.call_view;
+        from_one = first.from_one;
         stamp_known = omega arith;
         known_early = omega (arith, same, low, own);
         starts = both cast.xs still first.starts;
@@ -207,15 +207,15 @@ module _ (stage : Stage) (cast : Cast stage) (logs : ℕ → List Version) (lore
     where
       both : (ys : List Seated) → Holds (IsStill stage replicas) parts ys
           → Each (λ x. ((s.parts x.brick.0).replica.log ≡ logs x.brick.0) × Room stage (s.parts x.brick.0)
-          × IsLow early (top_of (s.parts x.brick.0).replica)) ys
+          × IsLow s.c.call.view.0 early (top_of (s.parts x.brick.0).replica)) ys
           → Each (λ x. ((parts x.brick.0).replica.log ≡ logs x.brick.0) × Room stage (parts x.brick.0)
-          × IsLow early (top_of (parts x.brick.0).replica)) ys
+          × IsLow s.c.call.view.0 early (top_of (parts x.brick.0).replica)) ys
       both [] still starts = tt
       both (y ∷ ys) still starts = (
         (
           ap (λ (r : Replica). r.log) still.0.0 ∙ starts.0.0,
           still.0.1,
-          subst (λ (r : Replica). IsLow early (top_of r)) (sym still.0.0) starts.0.2,
+          subst (λ (r : Replica). IsLow s.c.call.view.0 early (top_of r)) (sym still.0.0) starts.0.2,
         ),
         both ys still.1 starts.1,
       )
@@ -226,7 +226,7 @@ module _ (stage : Stage) (cast : Cast stage) (logs : ℕ → List Version) (lore
       open_run stage cast s first.open_is (IsStill stage replicas) f (omega (arith, early)) (λ x seated. looking_is.fits x)
       (still_keeps stage s.c want replicas looking_is.asks) (still_replies stage s.c want replicas looking_is.asks)
       (each_then (λ (x : Seated). ((s.parts x.brick.0).replica.log ≡ logs x.brick.0) × Room stage (s.parts x.brick.0)
-      × IsLow early_time (top_of (s.parts x.brick.0).replica)) (λ (x : Seated). IsStill stage replicas x.brick.0 (s.parts x.brick.0)) cast.xs
+      × IsLow s.c.call.view.0 early_time (top_of (s.parts x.brick.0).replica)) (λ (x : Seated). IsStill stage replicas x.brick.0 (s.parts x.brick.0)) cast.xs
       (λ x start. (refl, start.1)) first.starts)
       told_answers
       (λ before parts still. go before parts still
