@@ -563,6 +563,7 @@ sent_grows v new g e = record {
   closed = λ k b a past voted. voted;
 }
 
+-- so more is known
 pub sent_extends : (layout : Layout) (v : ViewWorld) (new : List Packet) → Extends layout v (sending_more v new)
 sent_extends layout v new = record {
   named = λ g e view is. name_stays layout v.packets new g e view is;

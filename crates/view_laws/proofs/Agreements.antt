@@ -113,6 +113,7 @@ pub record LeavesViews (layout : Layout) (packets : List Packet) (node left : No
   pub calls : left.calls ≡ no_calls
   pub proposal : left.proposal ≡ None
 
+-- it may be found so still as more is sent
 leaves_sent : (layout : Layout) (packets new : List Packet) (node left : Node) → LeavesViews layout packets node left
     → LeavesViews layout (packets ++ new) node left
 leaves_sent layout packets new node left was =
@@ -131,6 +132,7 @@ pub packet_sent : (packets : List Packet) (number : ℕ) (packet : Packet) → p
 packet_sent packets zero packet is = cc
 packet_sent packets (suc k) packet is = (k, is)
 
+-- so was one during whose handling a brick stopped
 pub during_sent : (packets : List Packet) (during : Option ℕ) (packet : Packet) → packet_during packets during ≡ Some packet → IsSent packets packet
 during_sent packets None packet is = cc
 during_sent packets (Some number) packet is = packet_sent packets number packet is

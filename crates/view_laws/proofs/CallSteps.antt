@@ -93,6 +93,7 @@ ends_calls i node next new boot seq round proposal none = record {
       (none k packet at);
 }
 
+-- nor does what a phase of an operation sends
 phase_none : (setting : Setting) (me : BrickId) (c : Coordinator) → OfEach NamesNone (phase_packets setting me c)
 phase_none setting me c =
     each_member NamesNone me c.call (request_of setting.code c) (λ seat to. phase_names_none (λ call b. ⊥) c.call setting.code c seat) 0 c.group.members

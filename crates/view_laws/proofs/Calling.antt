@@ -69,6 +69,7 @@ ballot_of Q call (Request.Modify t base j delta) b says is = cc
 ballot_of Q call (Request.Collect t) b says is = cc
 ballot_of Q call (Request.OldRead bound) b says is = cc
 
+-- so it holds of the ballot that is told of a call
 pub called_of : (Q : Call → Ballot → Type 0) (i boot seq from : ℕ) (message : Message) (b : Ballot) → OfBallots Q message
     → called_by i boot seq from message ≡ Some b → (call : Call) × (from ≡ i) × (call.boot ≡ boot) × (call.seq ≡ seq) × Q call b
 called_of Q i boot seq from (Message.Request call request) b says is =

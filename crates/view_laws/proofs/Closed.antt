@@ -78,10 +78,12 @@ module _ (layout : Layout) (w : World) (brick : BrickId) (next : Node) (new : Li
   closed_after g e i =
       put_each (λ k (n : Node). has_closed (w.nodes k) g e ≡ true → has_closed n g e ≡ true) w.nodes brick.0 next (λ is. turn g e is) (λ k other is. is) i
 
+  -- it has taken nothing for what was closed
   takes_after : (i : ℕ) → PartsTake layout (w.nodes i) (put w.nodes brick.0 next i)
   takes_after i =
       put_each (λ k (n : Node). PartsTake layout (w.nodes k) n) w.nodes brick.0 next says.takes (λ k other. parts_same layout (w.nodes k) (w.nodes k) refl) i
 
+  -- and it has served nothing of it
   tells_after : (k : ℕ) (packet : Packet) → slice_get new k ≡ Some packet → (call : Call) (said : Reply) → packet.message ≡ Message.Reply call said
       → has_closed (w.nodes packet.from.0) call.group.0 call.view.0 ≡ true → is_serving said ≡ false
   tells_after k packet at call said message is =
@@ -94,6 +96,7 @@ stopped_keeps : (layout : Layout) (node : Node)
 unfolding stopped
 stopped_keeps layout node = ((λ g e is. is), parts_same layout node (stopped node) refl)
 
+-- so does one that starts
 restarted_keeps : (layout : Layout) (node : Node) (openings : ℕ)
     → ((g e : ℕ) → has_closed node g e ≡ true → has_closed (restarted openings node) g e ≡ true) × PartsTake layout node (restarted openings node)
 unfolding restarted

@@ -154,6 +154,7 @@ taught_takes layout g node mid (Some view) same =
     (λ h other e s closed. parts_same layout node mid same h e s closed))
     (λ isnt. parts_same layout node mid same)
 
+-- so does one that a message teaches
 learnt_takes : (layout : Layout) (node : Node) (group : GroupId) (view : View) → PartsTake layout node (node_learnt layout node group view)
 unfolding node_learnt
 learnt_takes layout node group view =
@@ -205,6 +206,7 @@ request_serves : (me from to : BrickId) (node : Node) (call : Call) (request : R
     → ServesNone me node (record { from = from; to = to; message = Message.Request call request })
 request_serves me from to node call request other said is = cc
 
+-- nor is a message that teaches a view
 learn_serves : (me from to : BrickId) (node : Node) (group : GroupId) (view : View)
     → ServesNone me node (record { from = from; to = to; message = Message.Learn group view })
 learn_serves me from to node group view other said is = cc
@@ -276,6 +278,7 @@ sends_closes : (layout : Layout) (me : BrickId) (node next : Node) (new : List P
     → StepCloses layout me node next new
 sends_closes layout me node next new same tells = record { takes = parts_same layout node next same; tells = tells }
 
+-- what a phase of an operation sends is no reply
 phase_serves : (setting : Setting) (me : BrickId) (node : Node) (c : Coordinator) → OfEach (ServesNone me node) (phase_packets setting me c)
 phase_serves setting me node c =
     each_member (ServesNone me node) me c.call (request_of setting.code c) (λ seat to. request_serves me me to node c.call (request_of setting.code c seat)) 0
@@ -331,6 +334,7 @@ ended_serves layout me node p (answer.NotSynced brick) = each_none (ServesNone m
 ended_serves layout me node p (answer.Moved view) = each_none (ServesNone me node)
 ended_serves layout me node p answer.BadMembers = each_none (ServesNone me node)
 
+-- what a proposal decided is carried out
 ballot_closes : (layout : Layout) (me : BrickId) (node mid : Node) (p : Proposal) (decision : Voting) → mid.replicas ≡ node.replicas
     → (let step = carried_ballot layout me mid p decision in (step.node.replicas ≡ node.replicas) × OfEach (ServesNone me node) step.packets)
 ballot_closes layout me node mid p Ignored same = (same, each_none (ServesNone me node))
@@ -354,6 +358,7 @@ replied_closes setting me from now node call said (Some c) =
     carried_closes setting me node (with_round node said) (known_after node.known said) c
     (on_reply setting.layout.block setting.code (fresh_stamp me c.call.view now node.boot (known_after node.known said)) c from call said) refl
 
+-- so a reply has a brick take nothing, and serve nothing
 heard_closes : (setting : Setting) (me from : BrickId) (now : ℕ) (node : Node) (call : Call) (said : Reply)
     → (let step = heard setting me now from node call said in StepCloses setting.layout me node step.node step.packets)
 unfolding replied
@@ -459,6 +464,7 @@ left_takes setting brick node (Some packet) =
     cond_both (nat_eq packet.to.0 brick.0) (stopped (absorbed setting brick node packet)) (stopped node) (λ (n : Node). PartsTake setting.layout (stopped node) n)
     (λ here. absorbed_takes setting brick node packet) (λ elsewhere. parts_same setting.layout (stopped node) (stopped node) refl)
 
+-- each event keeps this
 left_cases : (setting : Setting) (w : World) → LeavesParts setting.layout w → EventCases setting w (LeavesParts setting.layout)
 left_cases setting w left = record {
   begins = λ brick ask may.
@@ -490,5 +496,6 @@ left_cases setting w left = record {
         (subst (λ (after : ℕ → Node). (k : ℕ) → x.up k ≡ false → PartsTake setting.layout (put x.nodes brick.0 step.node k) (after k)) (sym same.1)
         (left_stays (PartsTake setting.layout) x.up x.nodes x.after brick.0 step.node up left))
 
+-- so it is in every world that a run reaches
 pub always_left : (setting : Setting) (events : List Event) → LeavesParts setting.layout (run setting events (first_world setting.layout))
 always_left setting = always (LeavesParts setting.layout) setting (λ i down. absurd (false≢true (sym down))) (left_cases setting)

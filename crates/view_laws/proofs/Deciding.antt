@@ -131,9 +131,11 @@ module _ (layout : Layout) (limits : HasLimits layout) (v : ViewWorld) (agreed :
   abbrev g : ℕ
   g = q.call.group.0
 
+  -- the view's number
   abbrev e : ℕ
   e = q.view.number.0
 
+  -- the group, with the members of the view
   abbrev group : Group
   group = group_at_draft q says.group
 
@@ -141,15 +143,19 @@ module _ (layout : Layout) (limits : HasLimits layout) (v : ViewWorld) (agreed :
   pub group_is : group_kept layout q.view.members g ≡ Some group
   group_is = ap (option_map (kept_by q.view.members)) says.group_is
 
+  -- it is the one of the name
   pub group_named_is : group_named layout v.packets g e ≡ Some group
   group_named_is = group_by_name layout v.packets g e q.view says.named ∙ group_is
 
+  -- its members are within the limits of a quorum
   pub within : IsWithinLimits says.group.m (length q.view.members)
   within = view_limits layout v g q.view says.group limits agreed.says says.named says.group_is
 
+  -- so a quorum is more than half of them
   pub majority : IsMajority (length group.members) (quorum_of group)
   majority = quorums_are_majorities says.group.m (length q.view.members) within
 
+  -- and the invariant holds of their history
   pub agrees : Agrees (length group.members) (quorum_of group) (seated group (history v g e))
   agrees = agrees_seated layout v g e group agreed group_named_is
 

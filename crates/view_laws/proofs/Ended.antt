@@ -10,7 +10,7 @@ use Rattle.protocol.specs.declared.tellings.ViewAnswer.TheVariants as answer
 use Rattle.protocol.specs.Settings.{Setting}
 use Rattle.protocol.specs.Proposals.{ballot_packets}
 use Rattle.protocol.specs.Nodes.{Node, NodeStep, sending, reporting, new_proposal, proposing, proposed, proposed_in}
-use Rattle.protocol.specs.Worlds.{World, Proposes, may_propose, reports_of, world_stepped, happens}
+use Rattle.protocol.specs.Worlds.{reports_of, world_stepped, happens}
 use Rattle.view_laws.specs.Ends.{BadMembersEndAtOnce}
 
 -- what is reported once a list is proposed
@@ -23,6 +23,7 @@ chosen_reports : (may : Bool) (go bad : NodeStep) (brick : BrickId) (number : Gr
 chosen_reports true go bad brick number none one = ap (reports_of brick) none
 chosen_reports false go bad brick number none one = ap (reports_of brick) one
 
+-- what a brick reports once it is asked to propose a list
 proposed_reports : (setting : Setting) (brick : BrickId) (node : Node) (number : GroupId) (members : List BrickId) (group : Group)
     → group_of setting.layout number.0 ≡ Some group
     → reports_of brick (proposed setting brick node number members).reports ≡ at_once (is_membership group.m setting.layout.bricks members) brick number
@@ -33,6 +34,7 @@ proposed_reports setting brick node number members group is =
     (sending (proposing node (new_proposal brick node group.m number members)) (ballot_packets brick (new_proposal brick node group.m number members)))
     (reporting node [] (report.View number None answer.BadMembers)) brick number refl refl
 
+-- so a list that may not keep the group ends the proposal at once, and no other does
 pub bad_members_end : BadMembersEndAtOnce
 unfolding happens
 bad_members_end setting w brick number members group may is =

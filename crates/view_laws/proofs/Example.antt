@@ -18,12 +18,15 @@ use Rattle.protocol.specs.Worlds.{World, Event, Proposes, Delivers, first_world,
 use Rattle.view_laws.specs.Successors.{WasChosen, closes_in}
 use Rattle.view_laws.specs.Ends.{voices_of}
 
+-- the brick of a number
 abbrev brick : ℕ → BrickId
 brick i = record { 0 = i }
 
+-- the group in view 1
 abbrev group : Group
 group = record { members = brick 0 ∷ (brick 1 ∷ (brick 2 ∷ [])); m = 1; stripes = 4 }
 
+-- four bricks, and one group
 abbrev layout : Layout
 layout = record { block = 1; bricks = 4; records = 10; port = 0; store = 2; spares = []; groups = group ∷ []; volumes = [] }
 
@@ -34,6 +37,7 @@ setting = record {
   code = record { encode = λ m content seat. content; decode = λ m pieces. []; delta = λ old new. new; modify = λ m j seat delta block. delta };
 }
 
+-- these messages are delivered, one after another
 abbrev delivers : List ℕ → List Event
 delivers [] = []
 delivers (number ∷ numbers) = Delivers number ∷ delivers numbers
@@ -46,9 +50,11 @@ members = brick 1 ∷ (brick 2 ∷ (brick 3 ∷ []))
 abbrev change : List Event
 change = Proposes (brick 3) (record { 0 = 0 }) members ∷ delivers (2 ∷ (3 ∷ (4 ∷ (5 ∷ (7 ∷ (8 ∷ (9 ∷ (10 ∷ []))))))))
 
+-- the world after events
 abbrev after : List Event → World
 after events = run setting events (first_world layout)
 
+-- what has to compute
 unfoldable machine : Type 0
 unfolding stamp_below stamp_same ballot_below is_membership ballot_same learns voting seat_voting ballot_decided handle call_same requested node_taught node_learnt replied received proposal_refusal proposed happens count
 machine = Unit {0}
@@ -92,6 +98,7 @@ closed : closes_in (after change) 0 1 1 ≡ true
 unfolding machine
 closed = refl
 
+-- brick 0 has accepted nothing
 still_open : closes_in (after change) 0 1 0 ≡ false
 unfolding machine
 still_open = refl

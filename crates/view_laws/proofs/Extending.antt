@@ -30,6 +30,7 @@ stopped_extends : (layout : Layout) (v : ViewWorld) (i : ℕ) → Extends layout
 unfolding stopped
 stopped_extends layout v i = placed_extends layout v i (stopped (v.nodes i)) (refl, refl)
 
+-- so does one that starts
 pub restarted_extends : (layout : Layout) (v : ViewWorld) (i openings : ℕ) → Extends layout v (placed v i (restarted openings (v.nodes i)))
 unfolding restarted
 restarted_extends layout v i openings = placed_extends layout v i (restarted openings (v.nodes i)) (refl, refl)

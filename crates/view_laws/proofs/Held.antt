@@ -1,7 +1,7 @@
 -- What was accepted and chosen holds in each later world, and no promise is taken back.
-use Rattle.std.proofs.Common.{List, ◌++◌, sym, subst}
+use Rattle.std.proofs.Common.{sym, subst}
 use Rattle.protocol.specs.Settings.{Setting}
-use Rattle.protocol.specs.Worlds.{World, Event, first_world, run}
+use Rattle.protocol.specs.Worlds.{World, first_world, run}
 use Rattle.protocol.proofs.Events.{run-append}
 use Rattle.fab_base.specs.Layouts.{brick_at}
 use Rattle.view_laws.specs.Successors.{ChoicesHoldIn, ChoicesHold}
@@ -22,6 +22,7 @@ extended_holds setting w later extends = record {
   };
 }
 
+-- so it is however a run goes on
 pub choices_hold : ChoicesHold
 choices_hold setting events more sound =
     let w : World = run setting events (first_world setting.layout) in

@@ -1,5 +1,5 @@
 -- What the agreement on views rests on: the packets, what bricks accepted, and the bricks; and the history of the choice of each view's successor, by brick.
-use Rattle.std.proofs.Common.{◌≡◌, ℕ, ◌+◌, ◌<◌, ◌≤◌, Bool, true, false, cond, ◌&&◌, ◌||◌, List, ◌++◌, length, Option, Some, None, refl, sym, ap, ◌∙◌, subst, arith, nat_lt, nat_eq}
+use Rattle.std.proofs.Common.{◌≡◌, ℕ, ◌+◌, ◌<◌, ◌≤◌, Bool, true, false, cond, ◌&&◌, List, ◌++◌, length, Option, Some, None, refl, sym, ap, ◌∙◌, subst, arith, nat_lt, nat_eq}
 use Rattle.std.specs.Prelude.{slice_get, if◌then◌else◌}
 use Rattle.std.specs.Option.{option_map}
 use Rattle.std.proofs.lemmas.Bool.{cond_both, and_parts, eqb-true}
@@ -19,7 +19,7 @@ use Rattle.messages.specs.declared.requests.Request.{Request}
 use Rattle.messages.specs.declared.replies.Reply.{Reply}
 use Rattle.quorum.specs.Quorums.{quorum_of}
 use Rattle.quorum.specs.Memberships.{is_membership}
-use Rattle.synod_laws.specs.Synods.{Synod, Grows, IsChosen, Kept, SaysPromise, ballot_same, is_promised_above}
+use Rattle.synod_laws.specs.Synods.{Synod, Grows, IsChosen, Kept, SaysPromise, ballot_same}
 use Rattle.synod_laws.proofs.Ballots.{ballot_same_true}
 use Rattle.synod_laws.proofs.Acceptors.{said_stays}
 use Rattle.synod_laws.proofs.Agreement.{chosen_stays}
@@ -213,6 +213,7 @@ taught_stays layout v next g view extends was =
 
 -- what was said stays so
 module _ (layout : Layout) (v next : ViewWorld) (extends : Extends layout v next) where
+  -- of a request
   request_stays : (call : Call) (request : Request) → RequestSays v call request → RequestSays next call request
   request_stays call (Request.Accept ballot members) says = (extends.grows call.group.0 call.view.0).proposals ballot members says
   request_stays call (Request.Read want) says = tt
@@ -224,6 +225,7 @@ module _ (layout : Layout) (v next : ViewWorld) (extends : Extends layout v next
   request_stays call (Request.OldRead bound) says = tt
   request_stays call (Request.Prepare ballot) says = tt
 
+  -- of a reply
   reply_stays : (from to : ℕ) (call : Call) (reply : Reply) → ReplySays layout v from to call reply → ReplySays layout next from to call reply
   reply_stays from to call (Reply.Promise accepted) says = (
     says.0,
@@ -254,6 +256,7 @@ module _ (layout : Layout) (v next : ViewWorld) (extends : Extends layout v next
       record { request = says.request; ballot = says.ballot; asked = says.asked; sent = extends.sent _ says.sent; below = says.below }
   reply_stays from to call Reply.NotSynced says = tt
 
+  -- of a message
   pub message_stays : (from to : ℕ) (message : Message) → MessageSays layout v from to message → MessageSays layout next from to message
   message_stays from to (Message.Request call request) says = request_stays call request says
   message_stays from to (Message.Reply call reply) says = reply_stays from to call reply says
@@ -271,6 +274,7 @@ pub record IsAccept (g e : ℕ) (b : Ballot) (message : Message) (members : List
   pub group : call.group.0 ≡ g
   pub view : call.view.0 ≡ e
 
+-- what a request is that asks to accept this list under a ballot
 accept_of_is : (b : Ballot) (request : Request) (members : List BrickId) → accept_of b request ≡ Some members → request ≡ Request.Accept b members
 accept_of_is b (Request.Accept ballot named) members is =
     cond_both (ballot_same b ballot) (Some named) None (λ (z : Option (List BrickId)). z ≡ Some members → Request.Accept ballot named ≡ Request.Accept b members)
@@ -287,6 +291,7 @@ accept_of_is b (Request.Collect t) members is = cc
 accept_of_is b (Request.OldRead bound) members is = cc
 accept_of_is b (Request.Prepare ballot) members is = cc
 
+-- and what a message is
 pub accept_is : (g e : ℕ) (b : Ballot) (message : Message) (members : List BrickId) → accept_in g e b message ≡ Some members → IsAccept g e b message members
 accept_is g e b (Message.Request call request) members is =
     cond_both (nat_eq call.group.0 g && nat_eq call.view.0 e) (accept_of b request) None
@@ -410,6 +415,7 @@ known_taught layout v g view says =
 abbrev synod_of : {A : Type 0} → (ℕ → Ballot → Option A) → (ℕ → Ballot → Bool) → (Ballot → Option A) → Synod A
 synod_of votes past proposals = record { votes = votes; past = past; proposals = proposals }
 
+-- so they are one history
 pub synod_is : {A : Type 0} (s t : Synod A) → ((k : ℕ) (b : Ballot) → s.votes k b ≡ t.votes k b) → ((k : ℕ) (b : Ballot) → s.past k b ≡ t.past k b)
     → ((b : Ballot) → s.proposals b ≡ t.proposals b) → s ≡ t
 synod_is {A = A} s t votes past proposals =

@@ -1,5 +1,5 @@
 -- A view has one successor, whatever names the members of a later view names the list that was chosen, and the end of a proposal shows its cause.
-use Rattle.std.proofs.Common.{◌≡◌, ℕ, zero, suc, ◌+◌, true, false, ◌⊎◌, inl, inr, ⊎_elim, List, [], ◌∷◌, length, map, Option, Some, None, refl, sym, ap, ◌∙◌, subst, arith, nat_eq}
+use Rattle.std.proofs.Common.{◌≡◌, ℕ, suc, ◌+◌, false, ◌⊎◌, inl, inr, ⊎_elim, List, [], ◌∷◌, length, map, Option, Some, None, refl, sym, ap, ◌∙◌, subst, arith, nat_eq}
 use Rattle.std.specs.Prelude.{slice_get}
 use Rattle.std.specs.List.{IsDistinct, AllByRecursion}
 use Rattle.std.proofs.lemmas.Bool.{cond_both, or_parts}
@@ -133,6 +133,7 @@ module _ (setting : Setting) (sound : IsSound setting) (w : World) (agreed : Agr
         (subst (λ (l : List BrickId). WasChosen w number.0 end.view.number.0 end.group l) (sym same.1)
         (record { ballot = decided.ballot; seats = decided.chosen.0; many = decided.chosen.1; accepted = decided.chosen.2 }))
 
+    -- so a view has one successor
     pub one_successor : OneSuccessorIn setting.layout w
     one_successor = record {
       chosen = chosen_once;
@@ -176,6 +177,7 @@ module _ (setting : Setting) (sound : IsSound setting) (w : World) (agreed : Agr
           },
         )
 
+    -- and what names members names those that were chosen
     pub names_are_chosen : NamesAreChosenIn setting.layout w
     names_are_chosen = record {
       taught = λ from to number view sent. taught_succeeds number.0 view (agreed.says sent.0 _ sent.1);
@@ -197,6 +199,7 @@ module _ (setting : Setting) (sound : IsSound setting) (w : World) (agreed : Agr
     apart_from seat (first ∷ seats) none =
         let parts = or_parts (nat_eq seat first) (is_in seats seat) none in (parts.0, apart_from seat seats parts.1)
 
+    -- so the seats of a list are
     seats_distinct : (n : ℕ) (seats : List ℕ) → AreDistinctBelow n seats → IsDistinct nat_eq seats
     unfolding IsDistinct
     seats_distinct n [] distinct = tt
@@ -304,6 +307,7 @@ module _ (setting : Setting) (sound : IsSound setting) (w : World) (agreed : Agr
         subst (λ (z : ViewAnswer). ShowsAnswer w brick call end.group (voices_of w brick call) z) (sym decided.is) shows)
         end.cause
 
+    -- so ends show their causes
     pub proposals_show : ProposalsShowIn setting.layout w
     proposals_show = record {
       ended = λ brick number call ended was.
@@ -327,10 +331,12 @@ pub every_one_successor : OneSuccessor
 every_one_successor setting events sound =
     one_successor setting sound (run setting events (first_world setting.layout)) (always_agreed setting sound events).agreed (always_reports setting sound events)
 
+-- names are of lists that were chosen
 pub every_name_is_chosen : NamesAreChosen
 every_name_is_chosen setting events sound =
     names_are_chosen setting sound (run setting events (first_world setting.layout)) (always_agreed setting sound events).agreed (always_reports setting sound events)
 
+-- and ends show their causes
 pub every_proposal_shows : ProposalsShow
 every_proposal_shows setting events sound =
     proposals_show setting sound (run setting events (first_world setting.layout)) (always_agreed setting sound events).agreed (always_reports setting sound events)

@@ -32,6 +32,7 @@ pub record KeepsOwn (node next : Node) : Type 0 where
   pub proposal : next.proposal ≡ node.proposal
   pub calls : next.calls ≡ node.calls
 
+-- a brick that does not change keeps its own
 pub own_same : (node : Node) → KeepsOwn node node
 own_same node = record { boot = refl; seq = refl; round = refl; proposal = refl; calls = refl }
 
@@ -51,6 +52,7 @@ taught_own block group node (Some view) =
     cond_both (is_later (node.learnt group) view) (with_learnt block group node (learns (node.learnt group) view)) node (λ (n : Node). KeepsOwn node n)
     (λ later. record { boot = refl; seq = refl; round = refl; proposal = refl; calls = refl }) (λ isnt. own_same node)
 
+-- so does a message that teaches a view
 pub learnt_own : (layout : Layout) (node : Node) (group : GroupId) (view : View) → KeepsOwn node (node_learnt layout node group view)
 unfolding node_learnt
 learnt_own layout node group view =
@@ -93,10 +95,12 @@ moved_view_kept : (c : Coordinator) (m : Option Mover) (next : Next) → KeepsVi
 moved_view_kept c None next is = is
 moved_view_kept c (Some m) next is = tt
 
+-- unless one told that its store is full
 full_view_kept : (c : Coordinator) (f : Option FullMember) (next : Next) → KeepsView c next → KeepsView c (unless_told_full f next)
 full_view_kept c None next is = is
 full_view_kept c (Some f) next is = tt
 
+-- unless one told a later stamp
 refused_view_kept : (c : Coordinator) (r : Option Refuser) (next : Next) → KeepsView c next → KeepsView c (unless_refused r next)
 refused_view_kept c None next is = is
 refused_view_kept c (Some r) next is = tt
@@ -115,23 +119,28 @@ read_view_kept block code c (Some v) =
     cond_both (nat_lt (length (pieces_at v c.counted)) c.group.m) (Sends (in_phase c (Descends v))) _ (λ (z : Next). KeepsView c z)
     (λ few. record { group = refl; view = refl }) (λ enough. record { group = refl; view = refl })
 
+-- so is a change of a block
 modified_view_kept : (code : Code) (c : Coordinator) (j : ℕ) (v : Option Stamp) → KeepsView c (modified_if code c j v)
 modified_view_kept code c j None = record { group = refl; view = refl }
 modified_view_kept code c j (Some v) = record { group = refl; view = refl }
 
+-- or its end
 once_modified_view_kept : (c : Coordinator) (base : Stamp) → KeepsView c (once_modified c base)
 once_modified_view_kept c base =
     cond_both (some_behind c.counted) (Sends (in_phase c (Bases base))) _ (λ (z : Next). KeepsView c z) (λ behind. record { group = refl; view = refl }) (λ isnt. tt)
 
+-- or its base, read back
 rebuilt_view_kept : (block : ℕ) (code : Code) (c : Coordinator) (base : Stamp) → KeepsView c (rebuilt block code c base)
 rebuilt_view_kept block code c base =
     cond_both (nat_lt (length (pieces_at base c.counted)) c.group.m) (Waits (forgetting c)) _ (λ (z : Next). KeepsView c z)
     (λ few. record { group = refl; view = refl }) (λ enough. record { group = refl; view = refl })
 
+-- so is a read that may answer at once
 fast_view_kept : (code : Code) (c : Coordinator) (v : Option Stamp) → KeepsView c (answered_fast code c v)
 fast_view_kept code c None = record { group = refl; view = refl }
 fast_view_kept code c (Some v) = tt
 
+-- or one of a block
 fast_at_view_kept : (c : Coordinator) (j : ℕ) (v : Option Stamp) → KeepsView c (answered_fast_at c j v)
 fast_at_view_kept c j None = record { group = refl; view = refl }
 fast_at_view_kept c j (Some v) = tt

@@ -91,6 +91,7 @@ pub record IsQuiet (layout : Layout) (packet : Packet) : Type 0 where
 same_request : (call other : Call) (one two : Request) → Message.Request call one ≡ Message.Request other two → one ≡ two
 same_request call other one two is = cc
 
+-- requests to accept that are equal name the same ballot and list
 pub same_accept : (call other : Call) (b c : Ballot) (one two : List BrickId)
     → Message.Request call (Request.Accept b one) ≡ Message.Request other (Request.Accept c two) → (call ≡ other) × (b ≡ c) × (one ≡ two)
 same_accept call other b c one two is = (cc, cc, cc)
@@ -159,10 +160,12 @@ named_later layout packets g e later =
 view_of : ℕ → List BrickId → List BrickId → View
 view_of number members prior = record { number = record { 0 = number }; members = members; prior = prior }
 
+-- a view is made of these
 view_is : (a : View) → a ≡ view_of a.number.0 a.members a.prior
 unfolding view_of
 view_is a = refl
 
+-- so views with equal parts are equal
 pub view_from : (a b : View) → a.number.0 ≡ b.number.0 → a.members ≡ b.members → a.prior ≡ b.prior → a ≡ b
 view_from a b number members prior =
     view_is a ∙ (let e : view_of a.number.0 a.members a.prior ≡ view_of b.number.0 b.members b.prior = cc in e) ∙ sym (view_is b)
@@ -200,17 +203,20 @@ carried_keeps setting me node known c (Sends d) = (refl, refl)
 carried_keeps setting me node known c (Makes d) = (refl, refl)
 carried_keeps setting me node known c (Ends answered seen stored) = (refl, refl)
 
+-- as it carries out what its proposal decided
 ballot_keeps : (layout : Layout) (me : BrickId) (node : Node) (p : Proposal) (voting : Voting) → KeepsViews node (carried_ballot layout me node p voting).node
 ballot_keeps layout me node p Ignored = (refl, refl)
 ballot_keeps layout me node p (Waited q) = (refl, refl)
 ballot_keeps layout me node p (Asks q) = (refl, refl)
 ballot_keeps layout me node p (Ended call ended) = (refl, refl)
 
+-- as it handles a reply to its proposal
 proposal_keeps : (layout : Layout) (me from : BrickId) (node : Node) (call : Call) (said : Reply) (z : Option Proposal)
     → KeepsViews node (replied_ballot layout me from node call said z).node
 proposal_keeps layout me from node call said None = (refl, refl)
 proposal_keeps layout me from node call said (Some p) = ballot_keeps layout me node p (voted layout.bricks p from call said)
 
+-- and as it handles any reply
 replied_keeps : (setting : Setting) (me : BrickId) (now : ℕ) (from : BrickId) (node : Node) (call : Call) (said : Reply) (z : Option Coordinator)
     → KeepsViews node (replied_at setting me now from (with_round node said) call said z).node
 replied_keeps setting me now from node call said None =
@@ -226,6 +232,7 @@ module _ (setting : Setting) (limits : HasLimits setting.layout) (v : ViewWorld)
   abbrev x : ViewWorld
   x = turned v me.0 next
 
+  -- more is known after the step
   extends : (new : List Packet) → Extends setting.layout v (sending_more x new)
   extends new = step_extends setting.layout v me.0 next new agreed turn
 
@@ -345,9 +352,11 @@ module _ (setting : Setting) (limits : HasLimits setting.layout) (v : ViewWorld)
     abbrev q : Proposal
     q = with_voice p seat from said
 
+    -- what is so of the proposal with this reply
     q_says : DraftSays setting.layout v me.0 q
     q_says = voice_says setting.layout v me.0 p from call said seat (drafting.drafts me.0 p is) counts sent
 
+    -- its call has no other ballot
     q_called : (b : Ballot) → ballot_called v.packets me.0 q.call.boot q.call.seq ≡ Some b → b ≡ q.ballot
     q_called = (called.drafts me.0 p is).called
 
@@ -361,6 +370,7 @@ module _ (setting : Setting) (limits : HasLimits setting.layout) (v : ViewWorld)
 
     -- ---- it asks for a list
 
+    -- the proposal as it asks for a list
     abbrev asked : List BrickId → Proposal
     asked members = asking q members
 
@@ -402,6 +412,7 @@ module _ (setting : Setting) (limits : HasLimits setting.layout) (v : ViewWorld)
         ((drafting.drafts me.0 p is).unasked prepares)
         ∙ first.1 ∙ ap (λ (l : List BrickId). Some l) same
 
+    -- so a proposal that asks for a list owes no more
     asks_body : (mid : Node) → mid.calls ≡ (v.nodes me.0).calls → p.asks ≡ None
         → BodySays setting.layout v x me.0 (record mid { proposal = Some (asked (value_or p.own (greatest_choice q.counted))) })
         (ballot_packets me (asked (value_or p.own (greatest_choice q.counted))))
@@ -443,24 +454,31 @@ module _ (setting : Setting) (limits : HasLimits setting.layout) (v : ViewWorld)
     -- ---- the list that it asked for is decided
 
     module _ (members : List BrickId) (asks : p.asks ≡ Some members) where
+      -- the group's number
       abbrev g : ℕ
       g = p.call.group.0
 
+      -- the view's number
       abbrev e : ℕ
       e = p.view.number.0
 
+      -- the view that is decided
       abbrev view : View
       view = decided_view p (record { 0 = p.view.number.0 + 1 }) members
 
+      -- what is sent: it teaches all bricks that view
       abbrev new : List Packet
       new = learn_packets me p.call.group view setting.layout.bricks 0
 
+      -- the group, with the members of the view
       abbrev group : Group
       group = group_at_draft q q_says.group
 
+      -- views are numbered from 1
       positive : 1 ≤ e
       positive = (name_has_number setting.layout v.packets g e p.view q_says.named).1
 
+      -- the list is chosen
       chosen : IsChosen (length group.members) (quorum_of group) (seated group (history v g e)) p.ballot members
       chosen = asked_chosen setting.layout limits v agreed me.0 q q_says q_called enough free members asks
 
@@ -520,6 +538,7 @@ module _ (setting : Setting) (limits : HasLimits setting.layout) (v : ViewWorld)
             (majority setting.layout limits v agreed me.0 q q_says q_called enough free) chosen base_is;
       }
 
+      -- so a proposal that ends with a decision owes no more
       decides_body : (mid : Node) → mid.calls ≡ (v.nodes me.0).calls → BodySays setting.layout v x me.0 (record mid { proposal = None }) new
       decides_body mid calls = record {
         calls = other_calls mid calls;

@@ -157,9 +157,11 @@ module _ (setting : Setting) (limits : HasLimits setting.layout) (w : World) (ca
   abbrev v : ViewWorld
   v = view_world w
 
+  -- the world once the brick took its turn
   abbrev x : ViewWorld
   x = turned v me.0 next
 
+  -- more is known after the step
   extends : (new : List Packet) → Extends setting.layout v (sending_more x new)
   extends new = step_extends setting.layout v me.0 next new agreement.agreed turn
 
@@ -170,15 +172,19 @@ module _ (setting : Setting) (limits : HasLimits setting.layout) (w : World) (ca
       still_voices setting.layout (sending_more x new) w.choices.voices (w.nodes me.0) me.0 proposal (λ q is. was.drafts me.0 q (sym same ∙ is))
 
   module _ (p : Proposal) (is : (w.nodes me.0).proposal ≡ Some p) (seat : ℕ) (counts : seat_voting setting.layout.bricks p from.0 call said ≡ Some seat) where
+    -- the proposal with this reply
     abbrev q : Proposal
     q = with_voice p seat from said
 
+    -- the reply, as it counts
     abbrev one : Counted
     one = record { seat = seat; brick = from; reply = said }
 
+    -- the reply is to the proposal's phase
     call_is : call ≡ p.call
     call_is = (voice_counts setting.layout.bricks p from.0 call said seat counts).call_is
 
+    -- what is so of the proposal with this reply
     q_says : DraftSays setting.layout v me.0 q
     q_says = voice_says setting.layout v me.0 p from call said seat (agreement.drafting.drafts me.0 p is) counts sent
 

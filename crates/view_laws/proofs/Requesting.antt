@@ -241,6 +241,7 @@ record IsOpen (layout : Layout) (me : BrickId) (node : Node) (call : Call) (requ
   known : call.view.0 ≤ view_at node call.group.0
   fitting : fits layout group.m call request (seat_now me node call group) ≡ true
 
+-- a request that is not void is so
 open_is : (layout : Layout) (me : BrickId) (node : Node) (call : Call) (request : Request) (group : Group)
     → is_void layout me node call request group ≡ false → IsOpen layout me node call request group
 open_is layout me node call request group isnt =

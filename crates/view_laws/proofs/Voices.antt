@@ -28,10 +28,12 @@ call_of : ℕ → ℕ → ℕ → ℕ → ℕ → ℕ → Call
 call_of boot seq phase group view stripe =
     record { boot = boot; seq = seq; phase = phase; group = record { 0 = group }; view = record { 0 = view }; stripe = record { 0 = stripe } }
 
+-- a call is made of these
 call_is : (a : Call) → a ≡ call_of a.boot a.seq a.phase a.group.0 a.view.0 a.stripe.0
 unfolding call_of
 call_is a = refl
 
+-- so calls with equal parts are equal
 call_from : (a b : Call) → a.boot ≡ b.boot → a.seq ≡ b.seq → a.phase ≡ b.phase → a.group.0 ≡ b.group.0 → a.view.0 ≡ b.view.0 → a.stripe.0 ≡ b.stripe.0
     → a ≡ b
 call_from a b boot seq phase group view stripe =
@@ -39,6 +41,7 @@ call_from a b boot seq phase group view stripe =
     ∙ (let e : call_of a.boot a.seq a.phase a.group.0 a.view.0 a.stripe.0 ≡ call_of b.boot b.seq b.phase b.group.0 b.view.0 b.stripe.0 = cc in e)
     ∙ sym (call_is b)
 
+-- and so are those that test the same
 calls_equal : (a b : Call) → call_same a b ≡ true → a ≡ b
 unfolding call_same
 calls_equal a b is =
@@ -57,6 +60,7 @@ pub record VoiceCounts (bricks : ℕ) (p : Proposal) (from : ℕ) (call : Call) 
   pub answers : answers_ballot p.m bricks p.asks said ≡ true
   pub first : has_seat seat p.counted ≡ false
 
+-- a seat that is new is the one that was given, and has no reply
 new_seat_is : (counted : List Counted) (o : Option ℕ) (seat : ℕ) → new_seat counted o ≡ Some seat → (o ≡ Some seat) × (has_seat seat counted ≡ false)
 new_seat_is counted None seat is = cc
 new_seat_is counted (Some s) seat is =
@@ -66,6 +70,7 @@ new_seat_is counted (Some s) seat is =
     (λ isnt e. let same : s ≡ seat = cc in (e, subst (λ (z : ℕ). has_seat z counted ≡ false) same isnt))
     is
 
+-- a seat whose reply answers is the one that was given
 voting_seat_is : (bricks : ℕ) (p : Proposal) (said : Reply) (o : Option ℕ) (seat : ℕ) → voting_seat bricks p said o ≡ Some seat
     → (o ≡ Some seat) × (answers_ballot p.m bricks p.asks said ≡ true)
 voting_seat_is bricks p said None seat is = cc
@@ -76,6 +81,7 @@ voting_seat_is bricks p said (Some s) seat is =
     (λ isnt e. cc)
     is
 
+-- what is known of a reply that counts
 pub voice_counts : (bricks : ℕ) (p : Proposal) (from : ℕ) (call : Call) (said : Reply) (seat : ℕ) → seat_voting bricks p from call said ≡ Some seat
     → VoiceCounts bricks p from call said seat
 unfolding seat_voting
@@ -120,18 +126,21 @@ distinct_more n (first ∷ seats) seat distinct less none =
 abbrev pub IsUnrefusing : Counted → Type 0
 IsUnrefusing c = (moved_view c ≡ None) × (unsynced_brick c ≡ None) × (outbid_ballot c ≡ None)
 
+-- where neither of two seats told a thing, none did
 lower_none : {X : Type 0} (a b : Option (ℕ × X)) → lower_seat a b ≡ None → (a ≡ None) × (b ≡ None)
 lower_none None b is = (refl, is)
 lower_none (Some a) None is = cc
 lower_none {X = X} (Some a) (Some b) is =
     cond_both (nat_lt b.0 a.0) (Some b) (Some a) (λ (o : Option (ℕ × X)). o ≡ None → (Some a ≡ None) × (Some b ≡ None)) (λ lower e. cc) (λ isnt e. cc) is
 
+-- the same of two ballots
 greater_none : (a b : Option Ballot) → greater_ballot a b ≡ None → (a ≡ None) × (b ≡ None)
 greater_none None b is = (refl, is)
 greater_none (Some a) None is = cc
 greater_none (Some a) (Some b) is =
     cond_both (ballot_below a b) (Some b) (Some a) (λ (o : Option Ballot). o ≡ None → (Some a ≡ None) × (Some b ≡ None)) (λ lower e. cc) (λ isnt e. cc) is
 
+-- where nothing is told with a seat, nothing is told
 none_alone : {X : Type 0} (seat : ℕ) (o : Option X) → option_map {U = ℕ × X} (λ x. (seat, x)) o ≡ None → o ≡ None
 none_alone seat None is = refl
 none_alone seat (Some x) is = cc
@@ -143,6 +152,7 @@ answer_of a b c =
     (first_answer (option_map (λ (told : ℕ × BrickId). answer.NotSynced told.1) b)
     (option_map (λ (ballot : Ballot). answer.Outbid ballot) c))
 
+-- where there is no answer, there was no refusal of any kind
 none_refused : (a : Option (ℕ × ViewNo)) (b : Option (ℕ × BrickId)) (c : Option Ballot) → answer_of a b c ≡ None
     → (a ≡ None) × (b ≡ None) × (c ≡ None)
 unfolding answer_of
@@ -151,6 +161,7 @@ none_refused None None (Some t) is = cc
 none_refused None (Some t) c is = cc
 none_refused (Some t) b c is = cc
 
+-- so no reply is a refusal
 each_unrefusing : (counted : List Counted) → lowest moved_view counted ≡ None → lowest unsynced_brick counted ≡ None → greatest_outbid counted ≡ None
     → (k : ℕ) (c : Counted) → slice_get counted k ≡ Some c → IsUnrefusing c
 each_unrefusing [] moved unsynced outbid k c at = absurd (let never : None ≡ Some c = at in cc)
@@ -210,6 +221,7 @@ acceptance_of m bricks seat brick members reply.Retired answers unrefusing = cc
 
 -- ---- where one refuses
 
+-- an end by a refusal sends nothing
 refusal_sends_none : (layout : Layout) (me : BrickId) (p : Proposal) (a : Option (ℕ × ViewNo)) (b : Option (ℕ × BrickId)) (c : Option Ballot) (refused : ViewAnswer)
     → answer_of a b c ≡ Some refused → ended_packets layout me p refused ≡ []
 unfolding answer_of

@@ -25,6 +25,7 @@ pub record EachVoting (P : Option ℕ → Voting → Type 0) (bricks : ℕ) (p :
       → nat_lt (length (with_voice p seat from reply).counted) (ballot_quorum p) ≡ false
       → refused_by (with_voice p seat from reply).counted ≡ Some refused → P (Some seat) (Ended p.call refused)
 
+-- so all of it holds
 pub voting_each : (P : Option ℕ → Voting → Type 0) (bricks : ℕ) (p : Proposal) (from : BrickId) (call : Call) (reply : Reply) → EachVoting P bricks p from call reply
     → P (seat_voting bricks p from.0 call reply) (voted bricks p from call reply)
 unfolding ballot_decided
