@@ -4,11 +4,13 @@
 //! A reply is given only once what it promises is kept: at each moment a crash leaves the state before the request, or the one after it.
 #![tactic(auto)]
 
+mod courses;
 pub mod faults;
 pub mod handling;
 mod members;
 mod plans;
 mod seats;
+mod votes;
 
 pub use faults::ReplicaFault;
 pub use handling::handle;

@@ -6,7 +6,7 @@ ghost use Rattle.messages.specs.declared.replies.Reply.TheVariants.{Found, Later
 ghost use Rattle.version_log.specs.Versions.{version, IsRising};
 ghost use Rattle.messages.specs.declared.requests.Version.{Version};
 ghost use Rattle.protocol.specs.Replicas.{is_held, is_wanted, is_changed, told_version, top_of, newest_of, looked_up, handle, ordered, order_read, written, modified, modified_block, stays, promised, collected, unless_full};
-ghost use Rattle.protocol.specs.Nodes.{fits_block};
+ghost use Rattle.replica.specs.Courses.{fits_block};
 ghost use Rattle.stripe_code.specs.Codes.{block_code};
 ghost use Rattle.replica.specs.Parts.{as_version, log_seen, part_seen, IsBegun};
 ghost use Rattle.replica.specs.Plans.{settled_reply, planned, IsAboveNewest, IsStorable, IsChange};
