@@ -100,7 +100,7 @@ module _ {D : Type 0} (d : on_disk.Ghosts D)
 
     -- a brick that is not to learn it stays as it is
     stays_as : (node : Node) → IsPartsOf layout old.state node → is_to_learn layout old.state group.0 view ≡ false → node_learnt layout node group view ≡ node
-    unfolding node_learnt, node_taught
+    unfolding node_learnt node_taught
     stays_as node parts none = by (may_teach layout (Some view) (group_of layout group.0)) none
       where
         by : (b : Bool) → (b && is_later (learnt_in layout old.state group.0) view) ≡ false
@@ -148,12 +148,15 @@ module _ {D : Type 0} (d : on_disk.Ghosts D)
       Learns reply after = (reply ≡ None) × IsStep layout me from taught old.state None after
 
       follows : Learns None learnt_now
-      follows = (refl, record {
-        packets = λ node parts. refl;
-        parts = λ node parts. subst (λ (n : Node). IsPartsOf layout learnt_now n) (sym (learns_as node parts))
-            (parts_learnt layout old.state group.0 view runs.ordered.groups few above node parts);
-        lists = lists_learnt layout old.state group.0 view runs.ordered.groups few above may;
-      })
+      follows = (
+        refl,
+        record {
+          packets = λ node parts. refl;
+          parts = λ node parts. subst (λ (n : Node). IsPartsOf layout learnt_now n) (sym (learns_as node parts))
+              (parts_learnt layout old.state group.0 view runs.ordered.groups few above node parts);
+          lists = lists_learnt layout old.state group.0 view runs.ordered.groups few above may;
+        },
+      )
 
       appended : (node : Node) → IsPartsOf layout old.state node
           → message_append layout me from node taught ≡ Some (append_of (view_size view) append_calls)
@@ -171,8 +174,8 @@ module _ {D : Type 0} (d : on_disk.Ghosts D)
       view_kept new answer result f is run change =
           let given = Some (append_of (view_size view) append_calls) in
           let both = changed_next d Learns old new learnt_now (view_size view) false append_calls None runs (λ room. follows) (λ adds. absurd cc)
-              (λ other same. learnt_moves layout old.state group.0 view runs.ordered.groups few above other old.shape.block same) only_now given
-              (λ room. refl) (λ adds. absurd cc) answer (answered None answer) refl run change in
+          (λ other same. learnt_moves layout old.state group.0 view runs.ordered.groups few above other old.shape.block same) only_now given
+          (λ room. refl) (λ adds. absurd cc) answer (answered None answer) refl run change in
           subst (λ (r : Result (Option Message) ReplicaFault). ViewKept r new) (sym is) (
             handles_seen d f Learns Taught (unanswered f) old new (answered None answer) both.0,
             λ node parts. subst (λ (a : Option Append). KeepsNext d a Taught old new (end_of (seen_as f (answered None answer)))) (sym (appended node parts))

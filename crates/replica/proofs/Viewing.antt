@@ -91,7 +91,7 @@ module _ (g first : ℕ) where
       let here : Bool = eqb x.0.0 g in
       let kept = live_cons stays x es in
       let views = before_same first (λ e. live_in (filter (is_in_view g e) (x ∷ es))) (λ e. cond (here && eqb x.0.1 e) (weight x.1) 0 + in_view e)
-          (λ e. live_cons (is_in_view g e) x es) in
+      (λ e. live_cons (is_in_view g e) x es) in
       let more = before_more first in_view here x.0.1 (weight x.1) in
       let all = sum_by-cons weight x.1 (values_of es) in
       let rest = stay_sum es in

@@ -95,7 +95,11 @@ fn fits_change(block: u16, m: u8, data_block: u8, delta: &Bytes, seat: Option<u8
     match seat {
         None => true,
         Some(seat) => {
-            let expected = if is_changed(m, data_block, seat) { block } else { 0 };
+            let expected = if is_changed(m, data_block, seat) {
+                block
+            } else {
+                0
+            };
             delta.len() == expected as usize
         }
     }

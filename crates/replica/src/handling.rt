@@ -145,12 +145,7 @@ fn is_view(m: u8, bricks: u16, view: &View) -> bool
 }
 
 /// Whether a brick is to learn a view that it is taught of a group: the layout has the group, its lists may keep that, and it is later than the learnt one.
-fn is_to_learn<D: Disk>(
-    store: &BrickStore<D>,
-    layout: &Layout,
-    group: GroupId,
-    view: &View,
-) -> bool
+fn is_to_learn<D: Disk>(store: &BrickStore<D>, layout: &Layout, group: GroupId, view: &View) -> bool
     ensures teaches { result ≡ is_to_learn layout.now store.now.state group.0 view.now }
     ensures few { result ≡ true → group.0 < 64 }
     ensures above { result ≡ true → learnt_of (group_at store.now.state group.0) < view.now.number.0 }
@@ -238,7 +233,7 @@ pub fn handle<D: Disk>(
     }
     match message {
         Message::Request(call, request) => on_request(alloc, store, layout, from, *call, request),
-        Message::Learn { group, view } => on_learn(store, layout, from, *group, view),
+        Message::Learn { group, view } => on_learn(store, layout, from, *group, view.get()),
         _ => Ok(None),
     }
 }

@@ -52,10 +52,7 @@ fn is_same_promise(left: Option<Ballot>, right: Option<Ballot>) -> bool
 }
 
 /// Whether the same list was accepted under the same ballot, or none was.
-fn is_same_acceptance(
-    left: &Option<(Ballot, Members)>,
-    right: &Option<(Ballot, Members)>,
-) -> bool
+fn is_same_acceptance(left: &Option<(Ballot, Members)>, right: &Option<(Ballot, Members)>) -> bool
     ensures { result ≡ same_accepted left.now right.now }
 {
     match (left, right) {
@@ -144,7 +141,10 @@ fn accept<D: Disk>(
     if is_kept(store, call.group, &acceptor) {
         return Ok(Some(reply));
     }
-    answered(Some(reply), store.accept(call.group, number, ballot, members))
+    answered(
+        Some(reply),
+        store.accept(call.group, number, ballot, members),
+    )
 }
 
 /// Votes on a ballot for the successor of the view that the brick has learnt: it is asked to accept a list, or to promise.
