@@ -53,7 +53,6 @@ module _ (layout : Layout) (me from : BrickId) (node : Node) (call : Call) where
   unless_moved asked m seat (Some reply) = refl
 
   moved_is : moved_at node call ≡ moved_under learnt_here (node.ballots call.group.0) call
-  unfolding has_accepted
   moved_is = refl
 
   moves : (asked : Request) (m : ℕ) (seat : Option ℕ) → served_unless (coding layout) m me from node call asked seat (moved_at node call)

@@ -23,7 +23,7 @@ use Rattle.brick_store.specs.Ends.{BrickChange}
 use Rattle.brick_store.specs.Ends as store_ends
 use Rattle.brick_store.specs.Sizes.{ballots_size, view_size}
 use Rattle.synod_laws.specs.Synods.{Kept, last_of}
-use Rattle.protocol.specs.Views.{Learnt, is_later}
+use Rattle.protocol.specs.Views.{Learnt, is_later, learns}
 use Rattle.protocol.specs.Ballots.{Voted, voting}
 use Rattle.protocol.specs.Nodes.{Node, NodeStep, may_teach, with_learnt, node_taught, node_learnt, no_step}
 use Rattle.replica.specs.declared.faults.ReplicaFault.{ReplicaFault}
@@ -106,7 +106,7 @@ module _ {D : Type 0} (d : on_disk.Ghosts D)
         by : (b : Bool) → (b && is_later (learnt_in layout old.state group.0) view) ≡ false
             → cond b (node_taught layout.block group.0 node view) node ≡ node
         by false h = refl
-        by true h = ap (λ (x : Bool). cond x _ node) (ap (λ (l : Learnt). is_later l view) (parts.learnt group.0) ∙ h)
+        by true h = ap (λ (x : Bool). cond x (with_learnt layout.block group.0 node (learns (node.learnt group.0) view)) node) (ap (λ (l : Learnt). is_later l view) (parts.learnt group.0) ∙ h)
 
     pub view_left : is_to_learn layout old.state group.0 view ≡ false → ViewKept (Ok None) old
     view_left none = (

@@ -174,13 +174,17 @@ module _ (layout : Layout) (before after : StateOf Version) (call : Call) (learn
       was : lists_stand group.m layout.bricks (states.group_at before g) ≡ true
       was = stand g group here
 
+      were : (may_be_taught group.m layout.bricks (learnt_view (states.group_at before g)) ≡ true)
+          × (may_be_accepted group.m layout.bricks (accepted_of (states.group_at before g)) ≡ true)
+      were = and_parts (may_be_taught group.m layout.bricks (learnt_view (states.group_at before g)))
+          (may_be_accepted group.m layout.bricks (accepted_of (states.group_at before g))) was
+
       was_accepted : may_be_accepted group.m layout.bricks (last_of (ballots_in before g)) ≡ true
       was_accepted =
-          subst (λ (a : Option (Ballot × List BrickId)). may_be_accepted group.m layout.bricks a ≡ true) (accepted_last (ballots_in before g))
-          (and_parts _ _ was).1
+          subst (λ (a : Option (Ballot × List BrickId)). may_be_accepted group.m layout.bricks a ≡ true) (accepted_last (ballots_in before g)) were.1
 
       views : may_be_taught group.m layout.bricks (learnt_view (states.group_at after g)) ≡ true
-      views = subst (λ known. may_be_taught group.m layout.bricks (option_map (λ k. k.0) known) ≡ true) (sym (voted.known g)) (and_parts _ _ was).0
+      views = subst (λ (known : Option (View × Bool)). may_be_taught group.m layout.bricks (option_map (λ k. k.0) known) ≡ true) (sym (voted.known g)) were.0
 
       now : (b : Bool) → eqb g call.group.0 ≡ b → may_be_accepted group.m layout.bricks (last_of (cond b vote_here.kept (ballots_in before g))) ≡ true
       now true is =

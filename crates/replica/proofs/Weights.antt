@@ -84,7 +84,7 @@ live_parted keep (x ∷ es) =
   where
     either : (b : Bool) (w : ℕ) → cond b w 0 + cond (not b) w 0 ≡ w
     either true w = omega arith
-    either false w = refl
+    either false w = omega arith
 
 module _ (call : Call) (new : StripeOf Version) (st : StateOf Version) (sorted : IsStrictlySortedBy place_cmp (keys_of st.stripes)) (reaction : Reaction)
     (change : (now was : ℕ) → now + weight (stripe_at st (place_of call)) ≡ was + weight new → now ≡ was + reaction.adds - reaction.drops) where
