@@ -1,6 +1,5 @@
 -- What a brick is taught is the machine's step.
-use Rattle.std.proofs.Common.{◌≡◌, true, false, sym, ap, subst, ◌∙◌}
-use Rattle.std.specs.Prelude.{◌&&◌}
+use Rattle.std.proofs.Common.{false, sym, subst, ◌∙◌}
 use Rattle.fab_base.specs.declared.member_lists.View.{View}
 use Rattle.messages.specs.declared.packets.Message.{Message}
 use Rattle.brick_state.specs.States.{viewed}

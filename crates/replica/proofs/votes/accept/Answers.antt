@@ -1,11 +1,7 @@
 -- A vote that accepts keeps what is new of that.
-use Rattle.std.proofs.Common.{◌≡◌, Bool, true, false, Option, Some, None, List, Result, Ok, sym, ap, subst, ◌∙◌}
+use Rattle.std.proofs.Common.{◌≡◌, true, false, Some, Ok, sym, ap, subst, ◌∙◌}
 use Rattle.std.proofs.lemmas.Result.{err_from_is_err_and}
-use Rattle.fab_base.specs.declared.identities.BrickId.{BrickId}
-use Rattle.fab_base.specs.declared.stamps.Ballot.{Ballot}
 use Rattle.messages.specs.declared.replies.Reply.{Reply}
-use Rattle.brick_state.specs.States.{group_at}
-use Rattle.brick_store.specs.Blocks.{accepted_of}
 use Rattle.protocol.specs.Ballots.{voting}
 use Rattle.view_synod.specs.Acceptors.{Acceptor, vote_of}
 use Rattle.replica.specs.Parts.{ballots_in}
@@ -14,7 +10,7 @@ use Rattle.replica.specs.Handling.{answered}
 use Rattle.replica.specs.Calls.{same_ballots, ballot_append}
 use Rattle.replica.proofs.Answering.{keeps_refused}
 use Rattle.replica.proofs.Keeping.{VoteKept, vote_told, vote_kept}
-use Rattle.replica.proofs.Voting.{accepted_last, granted}
+use Rattle.replica.proofs.Voting.{granted}
 use Rattle.replica.proofs.votes.accept.Goals as goal
 
 pub returns-then-is_kept : goal.returns-then-is_kept

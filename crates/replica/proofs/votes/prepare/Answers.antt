@@ -1,5 +1,5 @@
 -- A vote that promises keeps what is new of that.
-use Rattle.std.proofs.Common.{◌≡◌, Bool, true, false, Option, Some, None, List, Result, Ok, sym, ap, subst, ◌∙◌}
+use Rattle.std.proofs.Common.{◌≡◌, true, false, Option, Some, None, List, Ok, sym, ap, subst, ◌∙◌}
 use Rattle.std.proofs.lemmas.Result.{err_from_is_err_and}
 use Rattle.fab_base.specs.declared.identities.BrickId.{BrickId}
 use Rattle.fab_base.specs.declared.stamps.Ballot.{Ballot}
