@@ -1,5 +1,5 @@
 -- What a call that handles a message promises of the store.
-use Rattle.std.specs.Prelude.{◌≡◌, ℕ, Bool, true, false, Option, Some, List, Result, Ok, Err, IfOk, OnOk, OnErr}
+use Rattle.std.specs.Prelude.{◌≡◌, ℕ, Bool, true, false, Option, Some, None, List, Result, Ok, Err, IfOk, OnOk, OnErr}
 use Rattle.std.specs.Option.{option_map}
 use Rattle.fab_base.specs.declared.identities.BrickId.{BrickId}
 use Rattle.fab_base.specs.Layouts.{Layout}
@@ -88,6 +88,11 @@ answered reply (Err faults.Disk) = Err Disk
 answered reply (Err (faults.Full live)) = Ok (Some (Full live))
 answered reply (Err faults.Halted) = Err Halted
 answered reply (Err faults.NoMemory) = Err NoMemory
+
+-- a call that answers no message
+abbrev pub unanswered : {A : Type 0} → Result (Unit {0}) ReplicaFault → Result (Option A) ReplicaFault
+unanswered (Ok done) = Ok None
+unanswered (Err fault) = Err fault
 
 -- an answer, seen as another
 abbrev pub seen_as : {A B : Type 0} → (A → B) → Result (Option A) ReplicaFault → Result (Option B) ReplicaFault
