@@ -25,7 +25,7 @@ use Rattle.protocol_laws.proofs.MarkNumbers.{KeepsMark, made_mark, seen_mark, an
 use Rattle.world.specs.declared.histories.History.{History}
 use Rattle.world.specs.declared.histories.OperationRecord.{OperationRecord}
 use Rattle.world.specs.CallNumbers.{AreCalls, calls_in, call_at}
-use Rattle.world.specs.Shown.{TellsOperations, ChangesAt, TellsOperation, Tells, made_kept, seen_kept, ended_kept}
+use Rattle.world.specs.Shown.{TellsOperations, ChangesAt, TellsOperation, Tells, OpensAside, made_kept, seen_kept, ended_kept, calls_used, calls_aside}
 use Rattle.world.specs.declared.call_numbers.CallNumbers.{CallNumbers}
 use Rattle.world.specs.declared.deliveries.Deliveries.{Deliveries}
 use Rattle.world.proofs.Places.{grown, each_value, value_here, value_elsewhere, get_or_end, set_here, set_elsewhere, slice_get_not_none}
@@ -96,6 +96,21 @@ tells_delivered old new w number rest reached tells =
       reached = λ k. reached k ∙ ap (λ (b : Bool). if nat_eq (k + 1) number then true else b) (tells.reached k);
       marks = tells.marks;
       reports = tells.reports;
+      begun = tells.begun;
+      own = tells.own;
+      operations = tells.operations;
+      calls = tells.calls;
+    })
+
+-- something was reported
+pub tells_reported : (old new : History) (w : World) (more : List (BrickId × Report)) → new ≡ record old { reports = new.reports }
+    → new.reports.items ≡ old.reports.items ++ more → Tells old w → Tells new (record w { choices = record w.choices { reports = w.choices.reports ++ more } })
+tells_reported old new w more rest reports tells =
+    subst (λ (h : History). Tells h (record w { choices = record w.choices { reports = w.choices.reports ++ more } })) (sym rest) (record {
+      packets = tells.packets;
+      reached = tells.reached;
+      marks = tells.marks;
+      reports = reports ∙ ap (λ (xs : List (BrickId × Report)). xs ++ more) tells.reports;
       begun = tells.begun;
       own = tells.own;
       operations = tells.operations;
@@ -224,11 +239,11 @@ calls_grow w calls b number node up boot next are i = by_brick (nat_eq i b) refl
     by_brick false other = are i
 
 -- the same of a call of no operation
-calls_aside : (w : World) (calls : ℕ → List ℕ) (b : ℕ) (node : Node) → w.up b ≡ true → node.boot ≡ (w.nodes b).boot
+calls_grow_aside : (w : World) (calls : ℕ → List ℕ) (b : ℕ) (node : Node) → w.up b ≡ true → node.boot ≡ (w.nodes b).boot
     → node.seq ≡ (w.nodes b).seq + 1 → number_of w b ((w.nodes b).seq + 1) ≡ 0
     → ((i : ℕ) → AreCalls (w.up i) (calls i) (number_of w i) (w.nodes i).seq)
     → (i : ℕ) → AreCalls (w.up i) (put calls b (calls b ++ 0 ∷ []) i) (w.numbers i (put w.nodes b node i).boot) (put w.nodes b node i).seq
-calls_aside w calls b node up boot next none are i = by_brick (nat_eq i b) refl
+calls_grow_aside w calls b node up boot next none are i = by_brick (nat_eq i b) refl
   where
     was : AreCalls true (calls b) (number_of w b) (w.nodes b).seq
     was = subst (λ (x : Bool). AreCalls x (calls b) (number_of w b) (w.nodes b).seq) up (are b)
@@ -506,6 +521,48 @@ tells_handled setting history w brick step packets reports sent told boot next t
     (world_stepped setting w brick step) refl
     (λ i. boots_stay w brick step.node boot i ∙ ap (λ (f : ℕ → Node). (f i).boot) (sym keeps.nodes))
     (λ i. seqs_stay w brick step.node next i ∙ ap (λ (f : ℕ → Node). (f i).seq) (sym keeps.nodes)) refl) tells
+
+-- a step that tells and answers nothing
+aside_is : (setting : Setting) (w : World) (brick : BrickId) (step : NodeStep) → step.told ≡ [] → step.answers ≡ []
+    → world_stepped setting w brick step ≡ world_stepped setting w brick (record step { told = []; answers = [] })
+aside_is setting w brick step told answers =
+    ap (λ (l : List Told). world_stepped setting w brick (record step { told = l })) told
+    ∙ ap (λ (l : List Answered). world_stepped setting w brick (record step { told = []; answers = l })) answers
+
+-- the calls of each brick, where one used up a call of no operation, or none
+calls_besides : (w : World) (calls : ℕ → List ℕ) (b : ℕ) (node : Node) (report : Option Report) → w.up b ≡ true → node.boot ≡ (w.nodes b).boot
+    → node.seq ≡ (w.nodes b).seq + calls_used (option_to_list report) → number_of w b ((w.nodes b).seq + 1) ≡ 0
+    → ((i : ℕ) → AreCalls (w.up i) (calls i) (number_of w i) (w.nodes i).seq)
+    → (i : ℕ) → AreCalls (w.up i) (calls_aside calls b report i) (w.numbers i (put w.nodes b node i).boot) (put w.nodes b node i).seq
+calls_besides w calls b node None up boot next none are = calls_grow_aside w calls b node up boot next none are
+calls_besides w calls b node (Some report) up boot next none are =
+    each_value (λ i x. AreCalls (w.up i) (calls i) (w.numbers i x.boot) x.seq) w.nodes b node
+    (subst (λ (k : ℕ). AreCalls (w.up b) (calls b) (w.numbers b node.boot) k) (let e : (w.nodes b).seq ≡ node.seq = omega (arith, next) in e)
+    (subst (λ (k : ℕ). AreCalls (w.up b) (calls b) (w.numbers b k) (w.nodes b).seq) (sym boot) (are b)))
+    (λ i other. are i)
+
+-- a brick was asked to propose
+pub tells_proposed : (setting : Setting) (old new : History) (w : World) (brick : BrickId) (step : NodeStep) (packets : List Packet) (report : Option Report)
+    → Tells old w → w.up brick.0 ≡ true → OpensAside w brick step → packets ≡ step.packets → option_to_list report ≡ step.reports
+    → new.sent.packets.items ≡ old.sent.packets.items ++ packets → new.delivered ≡ old.delivered → new.marks.items ≡ old.marks.items
+    → new.reports.items ≡ old.reports.items ++ reports_of brick (option_to_list report) → new.operations.items ≡ old.operations.items
+    → ((i : ℕ) → calls_in new.calls i ≡ calls_aside (calls_in old.calls) brick.0 report i) → Tells new (world_stepped setting w brick step)
+tells_proposed setting old new w brick step packets report tells up opens sent_is report_is sent delivered marks reports operations calls =
+    subst (Tells new) (sym (aside_is setting w brick step opens.told opens.answers)) (record {
+      packets = sent ∙ ap (λ (xs : List Packet). xs ++ packets) tells.packets ∙ ap (λ (xs : List Packet). w.packets ++ xs) sent_is;
+      reached = λ k. ap (λ (d : Deliveries). get_or d.reached.items k false) delivered ∙ tells.reached k;
+      marks = marks ∙ tells.marks;
+      reports =
+          reports ∙ ap (λ (xs : List (BrickId × Report)). xs ++ reports_of brick (option_to_list report)) tells.reports
+          ∙ ap (λ (xs : List Report). w.choices.reports ++ reports_of brick xs) report_is;
+      begun = ap length operations ∙ tells.begun;
+      own = tells.own;
+      operations = subst (λ (kept : List OperationRecord). TellsOperations kept w.operations) (sym operations) tells.operations;
+      calls = λ i.
+          subst (λ (l : List ℕ). AreCalls (w.up i) l (w.numbers i (put w.nodes brick.0 step.node i).boot) (put w.nodes brick.0 step.node i).seq) (sym (calls i))
+          (calls_besides w (calls_in old.calls) brick.0 step.node report up opens.boot
+          (opens.seq ∙ ap (λ (xs : List Report). (w.nodes brick.0).seq + calls_used xs) (sym report_is)) opens.unnumbered tells.calls i);
+    })
 
 -- a brick stopped, which has made no call then
 pub tells_crashed : (setting : Setting) (old new : History) (w : World) (brick : BrickId) → Tells old w

@@ -385,6 +385,12 @@ abbrev pub calls_used : List Report → ℕ
 calls_used [] = 1
 calls_used (report ∷ reports) = 0
 
+-- the numbers of the operations of each brick's calls, once a brick was asked to propose and reported this at once, or nothing: a call of no operation
+-- is one more
+abbrev pub calls_aside : (ℕ → List ℕ) → ℕ → Option Report → ℕ → List ℕ
+calls_aside calls i None = machine.put calls i (calls i ++ 0 ∷ [])
+calls_aside calls i (Some report) = calls
+
 -- The step begins a proposal under the next call, which is that of no operation, or it reports that it begins none.
 pub record OpensAside (w : World) (brick : BrickId) (step : machine.NodeStep) : Type 0 where
   pub boot : step.node.boot ≡ (w.nodes brick.0).boot

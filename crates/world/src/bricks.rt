@@ -1,6 +1,7 @@
 //! The bricks of a world: each is a disk in memory, and the brick that runs over it while it is up.
 
 ghost use Rattle.std.specs.Prelude.{◌≡◌, ◌≢◌, ◌+◌, ◌^◌, ◌<◌, ◌≤◌, true, false, List, Some, Err, IfOk, IfSome, OnErr, vec_len, length, map};
+ghost use Rattle.fab_base.specs.Layouts.{group_of};
 ghost use Rattle.protocol.specs.Nodes as machine;
 ghost use Rattle.protocol.specs.Nodes.{ticked, view_at};
 ghost use Rattle.protocol.specs.Worlds.{first_world};
@@ -263,13 +264,17 @@ pub fn ask_brick(bricks: &mut Vec<Brick>, number: BrickId, ask: &Ask) -> Result<
     }
 }
 
-/// The number of the view of a group that a brick which is up has learnt.
+/// The number of the view of a group of the layout that a brick which is up has learnt.
 pub fn view_of(bricks: &[Brick], number: BrickId, group: GroupId) -> ViewNo
     requires { IsUp bricks.now number }
-    ensures { IfSome (running_at bricks.now number.0) (λ node. result.0 ≡ view_at (state_of node) group.0) }
+    ensures { IfSome (running_at bricks.now number.0) (λ node. (kept : _) → group_of node.layout group.0 ≡ Some kept
+        → result.0 ≡ view_at (state_of node) group.0) }
 {
     match &bricks[number.0 as usize].power {
-        Power::Up(node) => node.learnt(group).number,
+        Power::Up(node) => match node.learnt(group) {
+            Some(view) => view.number,
+            None => ViewNo(1),
+        },
         Power::Down(_) => unreachable!(),
     }
 }

@@ -1,11 +1,11 @@
 //! Whether an operation may run alone among some bricks.
 
-ghost use Rattle.std.specs.Prelude.{◌≡◌, ◌&&◌, ◌+◌, ◌≤◌, ℕ, map, nat_lt, nat_le, nat_eq, length, filter, is_some, slice_get, Some};
+ghost use Rattle.std.specs.Prelude.{◌≡◌, ◌&&◌, ◌+◌, ◌<◌, ◌≤◌, ℕ, map, nat_lt, nat_le, nat_eq, length, filter, is_some, slice_get, Some};
 ghost use Rattle.std.specs.List.{IsDistinct, list_any};
 ghost use Rattle.std.specs.Bool.{Decides};
 ghost use Rattle.std.specs.Option.{option_copied};
 ghost use Rattle.quorum.specs.Quorums.{quorum_of};
-ghost use Rattle.fab_base.specs.Layouts.{seat_in};
+ghost use Rattle.fab_base.specs.Layouts.{most_groups, seat_in};
 ghost use Rattle.protocol.specs.Calms.{IsEarly};
 ghost use Rattle.node.specs.Running.{state_of};
 ghost use Rattle.world.specs.Shown.{NodeIsAble, NodeIsInTime, ServesFirst, running_at, clock_at};
@@ -47,9 +47,11 @@ fn is_early(node: &Node<MemDisk>) -> bool
 
 /// Whether a brick serves view 1 of a group: it has learnt no later view, and has accepted no list to follow it.
 fn serves_first(node: &Node<MemDisk>, group: GroupId) -> bool
+    requires { group.0 < most_groups }
     ensures { Decides result (ServesFirst (state_of node.now) group.0) }
 {
-    node.learnt(group).number.0 == 1 && !node.has_accepted(group)
+    let store = node.store();
+    store.learnt(group).0 == 1 && store.accepted(group).is_none()
 }
 
 /// Whether a brick has room for two records more.
@@ -61,6 +63,7 @@ fn has_room(node: &Node<MemDisk>, layout: &Layout) -> bool
 
 /// Whether a brick is up, serves view 1 of a group, has room for two records more, and its times are early.
 fn is_able(bricks: &[Brick], layout: &Layout, group: GroupId, number: u64) -> bool
+    requires { group.0 < most_groups }
     ensures { Decides result (NodeIsAble layout.now group.0 (running_at bricks.now number)) }
 {
     match running(bricks, number) {
@@ -71,6 +74,7 @@ fn is_able(bricks: &[Brick], layout: &Layout, group: GroupId, number: u64) -> bo
 
 /// Whether all these bricks are up, serve view 1 of a group, have room, and their times are early.
 fn are_able(bricks: &[Brick], layout: &Layout, group: GroupId, numbers: &[u64]) -> bool
+    requires { group.0 < most_groups }
     ensures { Decides result ((k number : ℕ) → slice_get numbers.now k ≡ Some number
         → NodeIsAble layout.now group.0 (running_at bricks.now number)) }
 {

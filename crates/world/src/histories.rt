@@ -170,7 +170,7 @@ impl History {
     ghost use Rattle.protocol.specs.Nodes.{put as changed, view_at};
     ghost use Rattle.protocol.specs.Worlds.{World, first_world, number_of, world_began, world_stepped, world_stopped, world_tells, world_answers, with_made, with_seen, reports_of};
     ghost use Rattle.world.specs.CallNumbers.{HasCallRoom, calls_in, call_at};
-    ghost use Rattle.world.specs.Shown.{Tells, HasStepRoom, IsOfCall, AreTold, AreAnswered, OpensNone, OpensNext, OpensAside, HistoryStays, HistoryBecomes, HistoryNotes, most_sent};
+    ghost use Rattle.world.specs.Shown.{Tells, HasStepRoom, IsOfCall, AreTold, AreAnswered, OpensNone, OpensNext, OpensAside, HistoryStays, HistoryBecomes, HistoryNotes, most_sent, calls_aside};
 
     /// Nothing yet.
     pub fn new(alloc: Global) -> History
@@ -298,6 +298,7 @@ impl History {
             record w { operations = changed w.operations n (with_made stamp base (w.operations n)) }) self.old self.new }
         ensures marks { self.new.marks ≡ self.old.marks }
         ensures sent { self.new.sent ≡ self.old.sent }
+        ensures reports { self.new.reports ≡ self.old.reports }
     {
         if let Some(number) = self.number(brick, seq) {
             note_made(&mut self.operations, number, stamp, base);
@@ -310,6 +311,7 @@ impl History {
             record w { operations = changed w.operations n (with_seen stamp (w.operations n)) }) self.old self.new }
         ensures marks { self.new.marks ≡ self.old.marks }
         ensures sent { self.new.sent ≡ self.old.sent }
+        ensures reports { self.new.reports ≡ self.old.reports }
     {
         if let Some(number) = self.number(brick, seq) {
             note_seen(&mut self.operations, number, stamp);
@@ -322,6 +324,7 @@ impl History {
             (λ w. world_tells setting w brick (option_to_list told)) self.old self.new }
         ensures marks { self.new.marks ≡ self.old.marks }
         ensures sent { self.new.sent ≡ self.old.sent }
+        ensures reports { self.new.reports ≡ self.old.reports }
     {
         match told {
             None => {}
@@ -336,6 +339,7 @@ impl History {
         ensures answered { HistoryNotes brick (λ node. AreAnswered node (option_to_list answer))
             (λ w. world_answers w brick (option_to_list answer)) self.old self.new }
         ensures sent { self.new.sent ≡ self.old.sent }
+        ensures reports { self.new.reports ≡ self.old.reports }
     {
         let Some(Answered { seq, answer }) = answer else {
             return;
@@ -357,6 +361,7 @@ impl History {
         requires { vec_len self.old.reports < vec_capacity self.old.reports }
         ensures reported { HistoryBecomes (λ w. record w { choices = record w.choices { reports = w.choices.reports
             ++ reports_of brick (option_to_list report) } }) self.old self.new }
+        ensures items { self.new.reports.items ≡ self.old.reports.items ++ reports_of brick (option_to_list report) }
         ensures rest { self.new ≡ record self.old { reports = self.new.reports } }
     {
         if let Some(report) = report {
@@ -379,6 +384,17 @@ impl History {
         self.report(brick, report);
     }
 
+    /// Notes the call that a brick used up as it was asked to propose, which is of no operation: it used up none if it reported at once.
+    fn count_call(&mut self, brick: BrickId, report: &Option<Report>)
+        requires { HasCallRoom self.old.calls brick.0 }
+        ensures calls { (i : ℕ) → calls_in self.new.calls i ≡ calls_aside (calls_in self.old.calls) brick.0 report.now i }
+        ensures rest { self.new ≡ record self.old { calls = self.new.calls } }
+    {
+        if report.is_none() {
+            self.calls.add(brick, 0);
+        }
+    }
+
     /// Notes what a brick that is asked to propose sends and reports. It has used up a call, which is of no operation, unless it reports at once.
     pub fn propose(&mut self, brick: BrickId, outs: Outs)
         requires room { HasStepRoom self.old }
@@ -388,9 +404,7 @@ impl History {
             → (w : World) → Tells self.old w → w.up brick.0 ≡ true → OpensAside w brick step → Tells self.new (world_stepped setting w brick step) }
     {
         let (messages, _, _, report) = outs.into_parts();
-        if report.is_none() {
-            self.calls.add(brick, 0);
-        }
+        self.count_call(brick, &report);
         self.send(brick, messages);
         self.report(brick, report);
     }

@@ -243,10 +243,9 @@ impl World {
     pub fn learnt(&self, brick: BrickId, group: GroupId) -> Option<View>
         ensures { result ≡ learnt_at self.now brick.0 group.0 }
     {
-        let _ = self.layout.group(group)?;
         let brick = self.simulation.bricks.get(brick.0 as usize)?;
         match &brick.power {
-            Power::Up(node) => Some(node.learnt(group)),
+            Power::Up(node) => node.learnt(group),
             Power::Down(_) => None,
         }
     }
@@ -266,13 +265,13 @@ impl World {
         let Power::Up(node) = &found.power else {
             return Err(Refusal::Down);
         };
-        if self.layout.group(group).is_none() {
+        let Some(view) = node.learnt(group) else {
             return Err(Refusal::NoStripe);
-        }
-        if node.has_proposal() {
+        };
+        if node.proposing().is_some() {
             return Err(Refusal::Busy);
         }
-        Ok(node.learnt(group))
+        Ok(view)
     }
 
     /// The entries of all stripes' operations, for `happenings_among`.
