@@ -198,20 +198,21 @@ has_open w n o opens is =
     by_up false down y same z call goes = absurd (let never : false ≡ true = goes in cc)
 
 -- a message of an open operation has its receiver report nothing
+message_as_quiet : (setting : Setting) (w : World) (n : ℕ) (from to : BrickId) (message : Message) → NumbersSay w → n ≢ 0 → is_some (open_call w n) ≡ true
+    → operation_of w (record { from = from; to = to; message = message }) ≡ n
+    → (step_on setting w (record { from = from; to = to; message = message })).reports ≡ []
+unfolding received
+message_as_quiet setting w n from to (Message.Request call request) says some opens its = request_quiet setting to from (w.nodes to.0) call request
+message_as_quiet setting w n from to (Message.Reply call reply) says some opens its =
+    let found = says to.0 call.boot call.seq (λ none. some (sym its ∙ none)) in
+    let has = has_open w n found.1.0 opens (ap w.operations (sym its) ∙ found.1.1) in
+    reply_quiet setting to (w.clocks to.0) from (w.nodes to.0) call reply has.coordinator
+    (ap (λ (k : ℕ). (w.nodes to.0).calls k) (sym found.1.2.2) ∙ ap (λ (i : ℕ). (w.nodes i).calls found.1.0.seq) (sym found.1.2.0) ∙ has.call)
+message_as_quiet setting w n from to message says some opens its = absurd (some (sym its))
+
 message_quiet : (setting : Setting) (w : World) (n : ℕ) (packet : Packet) → NumbersSay w → n ≢ 0 → is_some (open_call w n) ≡ true
     → operation_of w packet ≡ n → (step_on setting w packet).reports ≡ []
-unfolding received
-message_quiet setting w n packet says some opens its = by_message packet.from packet.to packet.message its
-  where
-    by_message : (from to : BrickId) (message : Message) → operation_of w (record { from = from; to = to; message = message }) ≡ n
-        → (step_on setting w (record { from = from; to = to; message = message })).reports ≡ []
-    by_message from to (Message.Request call request) its = request_quiet setting to from (w.nodes to.0) call request
-    by_message from to (Message.Reply call reply) its =
-        let found = says to.0 call.boot call.seq (λ none. some (sym its ∙ none)) in
-        let has = has_open w n found.1.0 opens (ap w.operations (sym its) ∙ found.1.1) in
-        reply_quiet setting to (w.clocks to.0) from (w.nodes to.0) call reply has.coordinator
-        (ap (λ (k : ℕ). (w.nodes to.0).calls k) (sym found.1.2.2) ∙ ap (λ (i : ℕ). (w.nodes i).calls found.1.0.seq) (sym found.1.2.0) ∙ has.call)
-    by_message from to message its = absurd (some (sym its))
+message_quiet setting w n packet says some opens its = message_as_quiet setting w n packet.from packet.to packet.message says some opens its
 
 -- one of these bricks is up, where each is
 among_up : (layout : Layout) (w : World) (bricks : List BrickId) → ((k : ℕ) (brick : BrickId) → slice_get bricks k ≡ Some brick → is_up layout w brick ≡ true)

@@ -16,7 +16,7 @@ use Rattle.protocol.specs.Settings.{Setting}
 use Rattle.protocol.specs.Views.{kept_by}
 use Rattle.protocol.specs.declared.tellings.Report.TheVariants as report
 use Rattle.protocol.specs.declared.tellings.ViewAnswer.TheVariants.{BadMembers}
-use Rattle.protocol.specs.Proposals.{ballot_packets}
+use Rattle.protocol.specs.Proposals.{Proposal, ballot_packets}
 use Rattle.protocol.specs.Nodes.{Node, NodeStep, group_at, put, has_block, has_length, is_spent, most_open, refusal_in, refusal_of, began, invoked, new_proposal, proposing, reporting, sending, proposal_refusal_in, proposal_refusal, proposed_in, proposed}
 use Rattle.protocol.specs.Worlds.{World, Invokes, Proposes, Delivers, Sets, Ticks, Stops, Starts, Found, is_up, may_start, world_began, world_stepped, world_ticked, world_stopped, world_found, world_started, delivered, packet_of, happens}
 use Rattle.world.specs.Runs.{ask_of, refusal_at, proposal_refusal_at}
@@ -158,11 +158,11 @@ proposed_aside_in : (setting : Setting) (me : BrickId) (node : Node) (group : Gr
     → proposal_refusal_in node group.0 found ≡ None → ProposesAside node (proposed_in setting me node group members found)
 proposed_aside_in setting me node group members None none = absurd (let never : Some Refusal.NoStripe ≡ None = none in cc)
 proposed_aside_in setting me node group members (Some kept) none =
-    let p = new_proposal me node kept.m group members in
+    let p : Proposal = new_proposal me node kept.m group members in
     cond_both (is_membership kept.m setting.layout.bricks members) (sending (proposing node p) (ballot_packets me p))
     (reporting node [] (report.View group None BadMembers)) (ProposesAside node)
     (λ may. record { boot = refl; told = refl; answers = refl; seq = refl })
-    (λ isnt. record { boot = refl; told = refl; answers = refl; seq = omega arith })
+    (λ isnt. record { boot = refl; told = refl; answers = refl; seq = (let same : node.seq ≡ node.seq + 0 = omega arith in same) })
 
 pub proposed_aside : (setting : Setting) (me : BrickId) (node : Node) (group : GroupId) (members : List BrickId)
     → proposal_refusal setting.layout node group.0 ≡ None → ProposesAside node (proposed setting me node group members)

@@ -1,5 +1,5 @@
 -- The text that a step prints.
-use Rattle.std.specs.Prelude.{ℕ, ◌×◌, Bool, false, if◌then◌else◌, List, [], ◌∷◌, ◌++◌, length, drop, codes, Option, Some, None}
+use Rattle.std.specs.Prelude.{ℕ, Bool, false, if◌then◌else◌, List, [], ◌∷◌, ◌++◌, length, drop, codes, Option, Some, None}
 use Rattle.std.specs.Fmt.{decimal}
 use Rattle.hex.specs.Hex.{encode_lower}
 use Rattle.fab_base.specs.declared.identities.BrickId.{BrickId}

@@ -67,7 +67,11 @@ fn group_of(layout: &Layout, group: u64) -> Option<GroupId>
 fn member_no(number: u64) -> BrickId
     ensures { result ≡ member_no number }
 {
-    BrickId(u16::try_from(number).unwrap_or(u16::MAX))
+    if number < 65536 {
+        BrickId(number as u16)
+    } else {
+        BrickId(u16::MAX)
+    }
 }
 
 /// The members of these numbers, as a brick is asked to propose them.

@@ -243,8 +243,8 @@ impl World {
     pub fn learnt(&self, brick: BrickId, group: GroupId) -> Option<View>
         ensures { result ≡ learnt_at self.now brick.0 group.0 }
     {
-        let brick = self.simulation.bricks.get(brick.0 as usize)?;
-        match &brick.power {
+        let found = self.simulation.bricks.get(brick.0 as usize)?;
+        match &found.power {
             Power::Up(node) => node.learnt(group),
             Power::Down(_) => None,
         }
