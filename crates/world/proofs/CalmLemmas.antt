@@ -1,6 +1,6 @@
 -- When an operation may run alone: as the bricks and the history tell.
-use Rattle.std.proofs.Common.{◌≡◌, ◌≢◌, ℕ, zero, suc, ◌+◌, ◌<◌, ◌≤◌, Bool, true, false, not, cond, nat_eq, nat_le, ◌&&◌, ◌||◌, ◌-◌, List, [], ◌∷◌, length, map, take, drop, take_all, Option, Some, None, is_some, refl, sym, ap, ◌∙◌, subst, arith}
-use Rattle.std.specs.Prelude.{slice_get, slice_index_or, filter}
+use Rattle.std.proofs.Common.{◌≡◌, ◌≢◌, ℕ, zero, suc, ◌+◌, ◌<◌, ◌≤◌, Bool, true, false, not, cond, nat_eq, nat_le, ◌&&◌, ◌||◌, ◌-◌, List, [], ◌∷◌, length, map, take, drop, take_all, Option, Some, None, is_some, nat_lt, ◌^◌, refl, sym, ap, ◌∙◌, subst, arith}
+use Rattle.std.specs.Prelude.{slice_get, slice_index_or, filter, is_none, option_and_then}
 use Rattle.std.specs.Bool.{Decides}
 use Rattle.std.specs.List.{IsDistinct, AllByRecursion, list_any}
 use Rattle.std.proofs.lemmas.Bool.{and_parts, eqb-true, eq-eqb, ne_eqb}
@@ -11,7 +11,14 @@ use Rattle.fab_base.specs.declared.identities.GroupId.{GroupId}
 use Rattle.fab_base.specs.declared.asks.Ask.{Ask}
 use Rattle.fab_base.specs.Layouts.{Layout, group_of, seat_in}
 use Rattle.fab_disk.specs.declared.mem_disk.MemDisk.{MemDisk}
-use Rattle.brick_state.specs.States.{live}
+use Rattle.brick_state.specs.States.{live, group_at}
+use Rattle.brick_state.specs.Rewrites.{learnt_number}
+use Rattle.brick_store.specs.Blocks.{accepted_of, learnt_of}
+use Rattle.replica.specs.Parts.{learnt_or}
+use Rattle.synod_laws.specs.Synods.{Kept, last_of}
+use Rattle.protocol.specs.Views.{first_learnt}
+use Rattle.fab_base.specs.declared.member_lists.View.{View}
+use Rattle.fab_base.specs.declared.stamps.Ballot.{Ballot}
 use Rattle.node.specs.Running.{Running, state_of}
 use Rattle.protocol.specs.Calms.{IsReady, IsEarly, IsUntouched, early, open_at, open_call}
 use Rattle.layout.specs.Limits.{IsLayout}
@@ -39,6 +46,59 @@ use Rattle.world.proofs.RunLaws.{reached_group}
 pub state_live : (node : Running MemDisk) → (state_of node).live ≡ live node.brick.state
 unfolding state_of
 state_live node = refl
+
+-- a store tells which view of a group its brick has learnt, and what list that has accepted to follow it
+view_told : (node : Running MemDisk) (g : ℕ) → view_at (state_of node) g ≡ learnt_of (group_at node.brick.state g)
+unfolding state_of
+view_told node g = by (group_at node.brick.state g).known
+  where
+    by : (known : Option (View × Bool)) → (learnt_or (first_learnt node.layout g) known).view.number.0 ≡ learnt_number known
+    by None = refl
+    by (Some known) = refl
+
+last_told : (node : Running MemDisk) (g : ℕ) → last_of ((state_of node).ballots g) ≡ accepted_of (group_at node.brick.state g)
+unfolding state_of
+last_told node g = by (group_at node.brick.state g).ballots
+  where
+    by : (kept : Kept (List BrickId)) → last_of kept ≡ option_and_then (λ b. b.1) kept
+    by None = refl
+    by (Some (promised, last)) = refl
+
+-- so by what it tells the brick serves view 1, or not
+pub serves_later : (node : Running MemDisk) (g learnt : ℕ) → learnt ≡ learnt_of (group_at node.brick.state g) → learnt ≢ 1
+    → Decides false (ServesFirst (state_of node) g)
+serves_later node g learnt is later = (
+  λ on. absurd (let never : false ≡ true = on in cc),
+  λ serves. absurd (later (is ∙ sym (view_told node g) ∙ serves.view)),
+)
+
+pub serves_told : (node : Running MemDisk) (g learnt : ℕ) (accepted : Option (Ballot × List BrickId)) → learnt ≡ learnt_of (group_at node.brick.state g)
+    → learnt ≡ 1 → accepted ≡ accepted_of (group_at node.brick.state g) → Decides (is_none accepted) (ServesFirst (state_of node) g)
+serves_told node g learnt accepted is first told = by accepted (last_told node g ∙ sym told)
+  where
+    view : view_at (state_of node) g ≡ 1
+    view = view_told node g ∙ sym is ∙ first
+
+    early_view : nat_lt (view_at (state_of node) g) (2 ^ 32 - 1) ≡ true
+    early_view = ap (λ v. nat_lt v (2 ^ 32 - 1)) view
+
+    by : (found : Option (Ballot × List BrickId)) → last_of ((state_of node).ballots g) ≡ found → Decides (is_none found) (ServesFirst (state_of node) g)
+    by None none = (
+      λ on. record {
+        view = view;
+        serves =
+            ap (λ (b : Bool). b && is_some (last_of ((state_of node).ballots g))) early_view
+            ∙ ap (λ (last : Option (Ballot × List BrickId)). is_some last) none;
+      },
+      λ serves. refl,
+    )
+    by (Some last) some = (
+      λ on. absurd (let never : false ≡ true = on in cc),
+      λ serves.
+          (let never : false ≡ true =
+          sym serves.serves ∙ ap (λ (b : Bool). b && is_some (last_of ((state_of node).ballots g))) early_view
+          ∙ ap (λ (found : Option (Ballot × List BrickId)). is_some found) some in cc),
+    )
 
 -- the machine's brick is able where what runs is
 pub able_shown : (layout : Layout) (group : ℕ) (bricks : List Brick) (w : World) (b : ℕ) → ShowsBricks layout bricks w.nodes w.after w.up w.clocks

@@ -51,7 +51,10 @@ fn serves_first(node: &Node<MemDisk>, group: GroupId) -> bool
     ensures { Decides result (ServesFirst (state_of node.now) group.0) }
 {
     let store = node.store();
-    store.learnt(group).0 == 1 && store.accepted(group).is_none()
+    if store.learnt(group).0 != 1 {
+        return false;
+    }
+    store.accepted(group).is_none()
 }
 
 /// Whether a brick has room for two records more.
