@@ -34,7 +34,7 @@ use crate::faults::NodeFault;
 use crate::open_work::OpenWork;
 use crate::outs::{Begun, Outs};
 use crate::sending::answer_messages;
-use crate::teaching::{is_view, learn_message, view_told};
+use crate::teaching::{is_view, view_told};
 use crate::views::{do_lists_stand, learnt_number, learnt_view};
 use brick_store::{BrickStore, OpenFault, State};
 use fab_base::{Ask, BrickId, GroupId, Refusal, StripeNo, View};
@@ -378,13 +378,12 @@ impl<D: Disk> Node<D> {
         ensures halts { self.new.brick.halted ≡ halted_after false result }
         ensures not_refused { (reason : Refusal) → result ≢ Err (NodeFault.Refused reason) }
     {
-        let (alloc, me, seq) = (self.alloc, self.work.calls.me(), call.seq);
-        let learn = learn_message(alloc, call.group, &view)?;
         // All else that can be refused comes before the view is learnt, and is taken back where that is refused.
+        let (alloc, seq) = (self.alloc, call.seq);
         let work = &mut self.work;
         let turn = work.hear_moved(alloc, &self.layout, packet, call, reply, view.number)?;
-        match replica::handle(alloc, &mut self.store, &self.layout, me, &learn) {
-            Ok(_) => Ok(self.work.finish(alloc, seq, turn)),
+        match replica::learn(&mut self.store, &self.layout, call.group, &view) {
+            Ok(()) => Ok(self.work.finish(alloc, seq, turn)),
             Err(fault) => {
                 self.work.take_back(seq, &turn);
                 Err(NodeFault::from(fault))

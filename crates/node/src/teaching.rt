@@ -14,7 +14,7 @@ use quorum::is_membership;
 use std::alloc::Global;
 
 /// The message that teaches a view of a group.
-pub(crate) fn learn_message(alloc: Global, group: GroupId, view: &View) -> Result<Message, NoMem>
+fn learn_message(alloc: Global, group: GroupId, view: &View) -> Result<Message, NoMem>
     ensures { IfOk result (λ learn. learn ≡ message.Learn group view.now) }
 {
     Ok(Message::Learn {
