@@ -130,13 +130,22 @@ carried_quiet setting me node known c (Sends d) = refl
 carried_quiet setting me node known c (Makes d) = refl
 carried_quiet setting me node known c (Ends answer seen stored) = refl
 
+replied_quiet : (setting : Setting) (me : BrickId) (now : ℕ) (from : BrickId) (node : Node) (call : Call) (reply : Reply) (c : Coordinator)
+    → (replied_at setting me now from node call reply (Some c)).reports ≡ []
+replied_quiet setting me now from node call reply c =
+    let known : ℕ = known_after node.known reply in
+    carried_quiet setting me node known c
+    (on_reply setting.layout.block setting.code (fresh_stamp me c.call.view now node.boot known) c from call reply)
+
 pub reply_quiet : (setting : Setting) (me : BrickId) (now : ℕ) (from : BrickId) (node : Node) (call : Call) (reply : Reply) (c : Coordinator)
     → node.calls call.seq ≡ Some c → (heard setting me now from node call reply).reports ≡ []
 reply_quiet setting me now from node call reply c is =
     heard_each (λ (step : NodeStep). step.reports ≡ []) setting me now from node call reply refl
-    (λ fit. subst (λ (found : Option Coordinator). (replied_at setting me now from
-    (node_taught_by setting.layout.block call.group.0 (with_round node reply) (view_counted setting.layout from node call reply)) call reply found).reports
-    ≡ []) (sym is) (carried_quiet setting me _ _ c _))
+    (λ fit.
+    let taught : Node =
+    node_taught_by setting.layout.block call.group.0 (with_round node reply) (view_counted setting.layout from node call reply) in
+    subst (λ (found : Option Coordinator). (replied_at setting me now from taught call reply found).reports ≡ []) (sym is)
+    (replied_quiet setting me now from taught call reply c))
 
 -- what a handling would have kept is of the same boot
 absorbed_as_boot : (setting : Setting) (me from to : BrickId) (node : Node) (message : Message)
