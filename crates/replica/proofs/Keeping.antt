@@ -24,7 +24,7 @@ use Rattle.brick_store.specs.Ends as store_ends
 use Rattle.brick_store.specs.Sizes.{ballots_size, view_size}
 use Rattle.synod_laws.specs.Synods.{Kept, last_of}
 use Rattle.protocol.specs.Views.{Learnt, is_later}
-use Rattle.protocol.specs.Ballots.{Vote, voting}
+use Rattle.protocol.specs.Ballots.{Voted, voting}
 use Rattle.protocol.specs.Nodes.{Node, NodeStep, may_teach, with_learnt, node_taught, node_learnt, no_step}
 use Rattle.replica.specs.declared.faults.ReplicaFault.{ReplicaFault}
 use Rattle.replica.specs.Parts.{ballots_in, learnt_in, is_to_learn, IsPartsOf}
@@ -42,24 +42,24 @@ module _ {D : Type 0} (d : on_disk.Ghosts D)
     (only_now : (disk : D) (image : List ℕ) → d.left_since disk (d.moment disk) image → d.may_leave disk image) (old : Brick D) (runs : Runs d old) where
   -- ---- a vote
 
-  module _ (call : Call) (vote : Vote) where
+  module _ (call : Call) (vote : Voted) where
     abbrev kept : Kept (List BrickId)
     kept = ballots_in old.state call.group.0
 
-    abbrev Voted : Option Reply → StateOf Version → Type 0
-    Voted = IsVoted call old.state vote
+    abbrev VotedSo : Option Reply → StateOf Version → Type 0
+    VotedSo = IsVoted call old.state vote
 
     abbrev pub VoteKept : Result (Option Reply) ReplicaFault → Brick D → Type 0
-    VoteKept result new = Handles d Voted old new result × KeepsNext d (ballot_append kept vote.kept) Voted old new (end_of result)
+    VoteKept result new = Handles d VotedSo old new result × KeepsNext d (ballot_append kept vote.kept) VotedSo old new (end_of result)
 
     -- that leaves nothing new to keep
     pub vote_told : same_ballots kept vote.kept ≡ true → VoteKept (Ok (Some vote.reply)) old
     vote_told same = (
-      handles_untouched d Voted old old (Ok (Some vote.reply)) runs refl refl refl (still_here d old.disk).untouched (λ h. absurd cc) (λ h. absurd cc) follows,
-      keeps_none d only_now Voted old (ballot_append kept vote.kept) none runs.stands (Some vote.reply) follows,
+      handles_untouched d VotedSo old old (Ok (Some vote.reply)) runs refl refl refl (still_here d old.disk).untouched (λ h. absurd cc) (λ h. absurd cc) follows,
+      keeps_none d only_now VotedSo old (ballot_append kept vote.kept) none runs.stands (Some vote.reply) follows,
     )
       where
-        follows : Voted (Some vote.reply) old.state
+        follows : VotedSo (Some vote.reply) old.state
         follows = voted_same call old.state vote (ballots_are kept vote.kept same)
 
         none : ballot_append kept vote.kept ≡ None
@@ -73,11 +73,11 @@ module _ {D : Type 0} (d : on_disk.Ghosts D)
         (store_ends.end_of answer)
         → Answers old new (balloted call.group.0 promised accepted old.state) (ballots_size accepted) false answer → VoteKept result new
     vote_kept few promised accepted other is new answer result result_is run change =
-        changed_next d Voted old new (balloted call.group.0 promised accepted old.state) (ballots_size accepted) false append_calls (Some vote.reply) runs
+        changed_next d VotedSo old new (balloted call.group.0 promised accepted old.state) (ballots_size accepted) false append_calls (Some vote.reply) runs
         (λ room. follows) (λ adds. absurd cc) (λ layout same. vote_moves call old.state vote _ other follows layout old.shape.block same) only_now
         (ballot_append kept vote.kept) (λ room. appended) (λ adds. absurd cc) answer result result_is run change
       where
-        follows : Voted (Some vote.reply) (balloted call.group.0 promised accepted old.state)
+        follows : VotedSo (Some vote.reply) (balloted call.group.0 promised accepted old.state)
         follows = voted_kept call old.state vote runs.ordered.groups few promised accepted is
 
         appended : ballot_append kept vote.kept ≡ Some (append_of (ballots_size accepted) append_calls)
@@ -144,10 +144,10 @@ module _ {D : Type 0} (d : on_disk.Ghosts D)
           ∙ taught_is layout old.state group.0 view runs.ordered.groups few above node parts
 
       -- of which there is no reply
-      abbrev Learns : Option Reply → StateOf Version → Type 0
-      Learns reply after = (reply ≡ None) × IsStep layout me from taught old.state None after
+      abbrev LearnsSo : Option Reply → StateOf Version → Type 0
+      LearnsSo reply after = (reply ≡ None) × IsStep layout me from taught old.state None after
 
-      follows : Learns None learnt_now
+      follows : LearnsSo None learnt_now
       follows = (
         refl,
         record {
@@ -164,7 +164,7 @@ module _ {D : Type 0} (d : on_disk.Ghosts D)
           ap (λ (n : Node). learnt_append (node.learnt group.0) (n.learnt group.0)) (learns_as node parts)
           ∙ view_appended layout old.state group.0 view runs.ordered.groups few above node parts
 
-      unanswered : (f : Reply → Message) (answer : Option Reply) (st : StateOf Version) → Learns answer st → Taught (option_map f answer) st
+      unanswered : (f : Reply → Message) (answer : Option Reply) (st : StateOf Version) → LearnsSo answer st → Taught (option_map f answer) st
       unanswered f answer st is = subst (λ (a : Option Reply). Taught (option_map f a) st) (sym is.0) is.1
 
       pub view_kept : (new : Brick D) (answer : Result (Unit {0}) StoreFault) (result : Result (Option Message) ReplicaFault) (f : Reply → Message)
@@ -173,11 +173,11 @@ module _ {D : Type 0} (d : on_disk.Ghosts D)
           → Answers old new learnt_now (view_size view) false answer → ViewKept result new
       view_kept new answer result f is run change =
           let given = Some (append_of (view_size view) append_calls) in
-          let both = changed_next d Learns old new learnt_now (view_size view) false append_calls None runs (λ room. follows) (λ adds. absurd cc)
+          let both = changed_next d LearnsSo old new learnt_now (view_size view) false append_calls None runs (λ room. follows) (λ adds. absurd cc)
           (λ other same. learnt_moves layout old.state group.0 view runs.ordered.groups few above other old.shape.block same) only_now given
           (λ room. refl) (λ adds. absurd cc) answer (answered None answer) refl run change in
           subst (λ (r : Result (Option Message) ReplicaFault). ViewKept r new) (sym is) (
-            handles_seen d f Learns Taught (unanswered f) old new (answered None answer) both.0,
+            handles_seen d f LearnsSo Taught (unanswered f) old new (answered None answer) both.0,
             λ node parts. subst (λ (a : Option Append). KeepsNext d a Taught old new (end_of (seen_as f (answered None answer)))) (sym (appended node parts))
-                (next_seen d f Learns Taught (unanswered f) given old new (answered None answer) both.1),
+                (next_seen d f LearnsSo Taught (unanswered f) given old new (answered None answer) both.1),
           )

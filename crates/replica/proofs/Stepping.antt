@@ -23,7 +23,7 @@ use Rattle.quorum.specs.Memberships.{is_membership}
 use Rattle.synod_laws.specs.Synods.{Kept, last_of}
 use Rattle.protocol.specs.Replicas.{Replica, Reaction, handle}
 use Rattle.protocol.specs.Views.{Learnt, first_learnt, may_be_taught}
-use Rattle.protocol.specs.Ballots.{Vote, voting, granting, unless_barred, ballot_refusal}
+use Rattle.protocol.specs.Ballots.{Voted, voting, granting, unless_barred, ballot_refusal}
 use Rattle.protocol.specs.Nodes.{Node, NodeStep, put, group_at, with_part, with_live, requested_in, reacted, with_replica, full_at, replica_at, no_step, sending, reply_packets, voted_on}
 use Rattle.stripe_code.specs.Codes.{block_code, coding}
 use Rattle.replica.specs.Members.{Member}
@@ -109,7 +109,7 @@ module _ (layout : Layout) (before after : StateOf Version) (node : Node) (parts
       ballots_among groups g = (slice_index_or groups g no_group).ballots
 
   -- after a vote
-  parts_voted : (me from : BrickId) (call : Call) (vote : Vote) (reply : Option Reply) → IsVoted call before vote reply after
+  parts_voted : (me from : BrickId) (call : Call) (vote : Voted) (reply : Option Reply) → IsVoted call before vote reply after
       → IsPartsOf layout after (voted_on me from node call vote).node
   parts_voted me from call vote reply voted = record {
     boot = parts.boot ∙ sym voted.boot;
@@ -151,7 +151,7 @@ module _ (layout : Layout) (before after : StateOf Version) (call : Call) (learn
   abbrev kept_here : Kept (List BrickId)
   kept_here = ballots_in before call.group.0
 
-  abbrev vote_here : Vote
+  abbrev vote_here : Voted
   vote_here = voting call.view.0 learnt kept_here ballot asks
 
   accepted_after : (group : Group) → group_of layout call.group.0 ≡ Some group → may_be_accepted group.m layout.bricks (last_of kept_here) ≡ true
@@ -254,7 +254,7 @@ module _ (layout : Layout) (me from : BrickId) (call : Call) (request : Request)
     lists = lists_voted layout before after call learnt ballot asks asked reply voted;
   }
     where
-      vote : Vote
+      vote : Voted
       vote = voting call.view.0 learnt (ballots_in before call.group.0) ballot asks
 
       voted_step : (node : Node) → IsPartsOf layout before node

@@ -17,7 +17,7 @@ use Rattle.brick_store.specs.Sizes.{ballots_size}
 use Rattle.synod_laws.specs.Synods.{Kept, last_of}
 use Rattle.view_synod.specs.Acceptors.{kept_of}
 use Rattle.protocol.specs.Views.{Learnt}
-use Rattle.protocol.specs.Ballots.{Vote, voting, granting, unless_barred, ballot_refusal}
+use Rattle.protocol.specs.Ballots.{Voted, voting, granting, unless_barred, ballot_refusal}
 use Rattle.protocol.specs.Nodes.{put}
 use Rattle.replica.specs.Parts.{ballots_in}
 use Rattle.replica.specs.Reactions.{IsVoted}
@@ -135,7 +135,7 @@ group_put groups g new h long few = by (eqb h g) refl
         ∙ get_or-set_same groups g new no_group (omega (arith, long, few))
     by false is = get_or-set_other groups g h new no_group (eqb-false h g is)
 
-module _ (call : Call) (st : StateOf Version) (vote : Vote) where
+module _ (call : Call) (st : StateOf Version) (vote : Voted) where
   abbrev here : ℕ
   here = call.group.0
 

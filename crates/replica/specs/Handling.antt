@@ -89,6 +89,11 @@ answered reply (Err (faults.Full live)) = Ok (Some (Full live))
 answered reply (Err faults.Halted) = Err Halted
 answered reply (Err faults.NoMemory) = Err NoMemory
 
+-- a call that answers no message
+abbrev pub unanswered : {A : Type 0} → Result (Unit {0}) ReplicaFault → Result (Option A) ReplicaFault
+unanswered (Ok done) = Ok None
+unanswered (Err fault) = Err fault
+
 -- an answer, seen as another
 abbrev pub seen_as : {A B : Type 0} → (A → B) → Result (Option A) ReplicaFault → Result (Option B) ReplicaFault
 seen_as f (Ok answer) = Ok (option_map f answer)

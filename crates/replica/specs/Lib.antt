@@ -5,3 +5,4 @@ pub mod Courses
 pub mod Reactions
 pub mod Handling
 pub mod Calls
+pub mod Learning

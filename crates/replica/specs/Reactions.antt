@@ -9,7 +9,7 @@ use Rattle.version_log.specs.Versions.{Version}
 use Rattle.brick_state.specs.States.{Place, StateOf, group_at, live}
 use Rattle.fab_base.specs.Layouts.{Layout}
 use Rattle.stripe_code.specs.Codes.{coding}
-use Rattle.protocol.specs.Ballots.{Vote}
+use Rattle.protocol.specs.Ballots.{Voted}
 use Rattle.protocol.specs.Replicas.{Replica, Reaction}
 use Rattle.protocol.specs.Nodes as machine
 use Rattle.protocol.specs.Nodes.{Node, NodeStep, put, with_part, with_live, requested_in, node_learnt, no_step}
@@ -33,7 +33,7 @@ pub record IsReacted (block : ℕ) (call : Call) (before : StateOf Version) (rea
   pub parts : (g e s : ℕ) → part_in block after g e s ≡ with_part (part_in block before) call reaction.replica g e s
 
 -- The vote gives this reply, and of what is kept it changes the ballots of the call's group.
-pub record IsVoted (call : Call) (before : StateOf Version) (vote : Vote) (reply : Option Reply) (after : StateOf Version) : Type 0 where
+pub record IsVoted (call : Call) (before : StateOf Version) (vote : Voted) (reply : Option Reply) (after : StateOf Version) : Type 0 where
   pub told : Some vote.reply ≡ reply
   pub boot : after.boot ≡ before.boot
   pub stripes : after.stripes ≡ before.stripes

@@ -1,6 +1,6 @@
 //! What a brick does with a request, by what it has learnt of the group's views and accepted.
 
-ghost use Rattle.std.specs.Prelude.{◌≡◌, ◌≢◌, ◌<◌, ◌≤◌, ℕ, false, List, [], Some, IfSome, is_some, nat_eq, if◌then◌else◌};
+ghost use Rattle.std.specs.Prelude.{◌≡◌, ◌≢◌, ◌<◌, ◌≤◌, ℕ, false, List, [], Some, IfSome, IfOk, is_some, nat_eq, if◌then◌else◌};
 ghost use Rattle.fab_base.specs.declared.identities.BrickId.{BrickId};
 ghost use Rattle.fab_base.specs.Layouts.{Layout, group_of, seat_in};
 ghost use Rattle.synod_laws.specs.Synods.{Kept, last_of};
@@ -14,12 +14,13 @@ ghost use Rattle.replica.specs.declared.courses.Course.TheVariants.{Void};
 
 use crate::seats::{Member, is_changed, seat_of};
 use brick_store::BrickStore;
-use fab_base::{Ballot, BrickId, Bytes, GroupId, Members, View, ViewNo};
+use fab_base::{Ballot, Boxed, BrickId, Bytes, GroupId, Members, NoMem, View, ViewNo};
 use fab_disk::Disk;
 use layout::{Group, Layout};
 use messages::{Call, Lineage, Reply, Request};
+use quorum::is_membership;
+use std::alloc::Global;
 use std::marker::Model;
-use view_synod::is_membership;
 
 /// The view that a brick has learnt of a group, and whether all stripes are known to be kept in it.
 #[derive(Drop)]
@@ -49,20 +50,6 @@ pub(crate) enum Course {
     Vote(Learnt, Ballot, Option<Members>),
 }
 
-/// View 1 of a group of these members: none were before them.
-fn first_view(members: Members) -> View
-    ensures { result ≡ record { number = record { 0 = 1 }; members = members; prior = [] } }
-{
-    match Members::new(&[]) {
-        Some(prior) => View {
-            number: ViewNo(1),
-            members,
-            prior,
-        },
-        None => unreachable!(),
-    }
-}
-
 /// What a brick has learnt of a group of the layout: its first view, until it learns a later one.
 pub(crate) fn learnt_of<D: Disk>(store: &BrickStore<D>, number: GroupId, group: &Group) -> Learnt
     requires { number.0 < 64 }
@@ -71,7 +58,7 @@ pub(crate) fn learnt_of<D: Disk>(store: &BrickStore<D>, number: GroupId, group: 
     match store.known_view(number) {
         Some((view, synced)) => Learnt { view, synced },
         None => Learnt {
-            view: first_view(group.members().copy()),
+            view: View::first(group.members().copy()),
             synced: true,
         },
     }
@@ -147,34 +134,40 @@ fn is_void(
 }
 
 /// How a brick tells that it has learnt this view, later than that of a call.
-fn moved_to(view: &View) -> Reply
-    ensures { result ≡ moved_to view.now }
+pub(crate) fn moved_to(alloc: Global, view: &View) -> Result<Reply, NoMem>
+    ensures { IfOk result (λ reply. reply ≡ moved_to view.now) }
 {
-    Reply::Moved {
+    let lineage = Lineage {
+        members: view.members.copy(),
+        prior: view.prior.copy(),
+    };
+    Ok(Reply::Moved {
         view: view.number,
-        lineage: Some(Lineage {
-            members: view.members.copy(),
-            prior: view.prior.copy(),
-        }),
-    }
+        lineage: Some(Boxed::new(alloc, lineage)?),
+    })
 }
 
 /// How a brick tells that it serves the view of a call no more, if it does not: it has learnt a later one, or has accepted a list to follow that view. The view
 /// is not later than the learnt one.
-fn moved_under(learnt: &Learnt, accepted: bool, call: Call) -> Option<Reply>
+fn moved_under(
+    alloc: Global,
+    learnt: &Learnt,
+    accepted: bool,
+    call: Call,
+) -> Result<Option<Reply>, NoMem>
     requires { call.view.0 ≤ learnt.now.view.number.0 }
-    ensures { (kept : Kept (List BrickId)) → is_some (last_of kept) ≡ accepted → result ≡ moved_under learnt.now kept call }
+    ensures { IfOk result (λ moved. (kept : Kept (List BrickId)) → is_some (last_of kept) ≡ accepted → moved ≡ moved_under learnt.now kept call) }
 {
     if call.view.0 < learnt.view.number.0 {
-        return Some(moved_to(&learnt.view));
+        return Ok(Some(moved_to(alloc, &learnt.view)?));
     }
     if learnt.view.number.0 < u32::MAX && accepted {
-        return Some(Reply::Moved {
+        return Ok(Some(Reply::Moved {
             view: ViewNo(call.view.0 + 1),
             lineage: None,
-        });
+        }));
     }
-    None
+    Ok(None)
 }
 
 /// The member at a seat serves, if there is one.
@@ -213,6 +206,7 @@ fn served_unless_moved(
 
 /// What a brick does with a request to a group of the layout, by what it has learnt of it, and whether it has accepted a list to follow that.
 fn course_in(
+    alloc: Global,
     layout: &Layout,
     group: &Group,
     me: BrickId,
@@ -220,15 +214,15 @@ fn course_in(
     accepted: bool,
     call: Call,
     request: &Request,
-) -> Course
-    ensures { (kept : Kept (List BrickId)) → is_some (last_of kept) ≡ accepted → result
-        ≡ course_in layout.now me learnt kept call request.now (Some (kept_by learnt.view.members group.now)) }
+) -> Result<Course, NoMem>
+    ensures { IfOk result (λ course. (kept : Kept (List BrickId)) → is_some (last_of kept) ≡ accepted → course
+        ≡ course_in layout.now me learnt kept call request.now (Some (kept_by learnt.view.members group.now))) }
 {
     let seat = seat_under(me, &learnt, call);
     if is_void(layout, group, &learnt, call, request, seat) {
-        return Course::Void;
+        return Ok(Course::Void);
     }
-    match request {
+    Ok(match request {
         Request::Collect { stamp: _ } => served_at(layout, group, seat),
         Request::OldRead { bound: _ } => Course::Void,
         Request::Prepare { ballot } => Course::Vote(learnt, *ballot, None),
@@ -238,26 +232,36 @@ fn course_in(
         | Request::OrderRead { .. }
         | Request::Write { .. }
         | Request::Modify { .. } => {
-            let moved = moved_under(&learnt, accepted, call);
+            let moved = moved_under(alloc, &learnt, accepted, call)?;
             served_unless_moved(layout, group, seat, moved)
         }
-    }
+    })
 }
 
 /// What a brick does with a request. It is of a group of the layout, of which there are at most 64, unless it is ignored.
 pub(crate) fn take_course<D: Disk>(
+    alloc: Global,
     store: &BrickStore<D>,
     layout: &Layout,
     call: Call,
     request: &Request,
-) -> Course
-    ensures course { result ≡ course_of layout.now (me_of store.now) store.now.state call request.now }
-    ensures few { result ≢ Void → call.group.0 < 64 }
+) -> Result<Course, NoMem>
+    ensures course { IfOk result (λ course. course ≡ course_of layout.now (me_of store.now) store.now.state call request.now) }
+    ensures few { IfOk result (λ course. course ≢ Void → call.group.0 < 64) }
 {
     let Some(group) = layout.group(call.group) else {
-        return Course::Void;
+        return Ok(Course::Void);
     };
     let learnt = learnt_of(store, call.group, group);
     let accepted = store.accepted(call.group).is_some();
-    course_in(layout, group, store.me(), learnt, accepted, call, request)
+    course_in(
+        alloc,
+        layout,
+        group,
+        store.me(),
+        learnt,
+        accepted,
+        call,
+        request,
+    )
 }

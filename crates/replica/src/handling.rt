@@ -2,33 +2,30 @@
 
 ghost use Rattle.std.specs.Prelude.{◌≡◌, ◌≢◌, ◌<◌, ◌≤◌, ℕ, true, Option, None, Err, length};
 ghost use Rattle.brick_state.specs.States.{group_at, live};
-ghost use Rattle.brick_store.specs.Blocks.{IsServed, learnt_of};
+ghost use Rattle.brick_store.specs.Blocks.{IsServed};
 ghost use Rattle.frame_store.specs.Layouts.{shape_of};
 ghost use Rattle.fab_base.specs.Layouts.{most_groups};
 ghost use Rattle.protocol.specs.Nodes.{Node, full_at};
-ghost use Rattle.protocol.specs.Views.{is_view};
 ghost use Rattle.messages.specs.declared.packets.Message.TheVariants as message;
 ghost use Rattle.messages.specs.declared.replies.Reply as told;
-ghost use Rattle.messages.specs.declared.packets.Message as told_message;
-ghost use Rattle.brick_store.specs.declared.faults.StoreFault.TheVariants as faults;
-ghost use Rattle.replica.specs.Parts.{IsPartsOf, is_to_learn};
+ghost use Rattle.replica.specs.Parts.{IsPartsOf};
 ghost use Rattle.replica.specs.Plans.{planned, is_shared, IsChange};
 ghost use Rattle.replica.specs.Reactions.{part_at, IsReacted, IsStep};
-ghost use Rattle.replica.specs.Handling.{Handles, KeepsNext, Runs, end_of, answered, me_of, seen_as};
+ghost use Rattle.replica.specs.Handling.{Handles, KeepsNext, Runs, end_of, answered, me_of, seen_as, unanswered};
 ghost use Rattle.replica.specs.Calls.{part_append, message_append};
 
 use crate::courses::{Course, take_course};
 use crate::faults::ReplicaFault;
 use crate::members::decide;
 use crate::plans::Plan;
+use crate::views::on_learn;
 use crate::votes::vote;
 use brick_store::{BrickStore, StoreFault};
-use fab_base::{BrickId, GroupId, View};
+use fab_base::BrickId;
 use fab_disk::Disk;
 use layout::Layout;
 use messages::{Call, Message, Reply, Request};
 use std::alloc::Global;
-use view_synod::is_membership;
 
 // The reply where the store refused a change.
 fn refused(fault: StoreFault) -> Result<Option<Reply>, ReplicaFault>
@@ -122,7 +119,8 @@ fn on_request<D: Disk>(
 {
     // A member answers whoever asks. The call only tells limits: a list that may keep a group has a member.
     let _ = (from, layout.records());
-    match take_course(store, layout, call, request) {
+    let course = take_course(alloc, store, layout, call, request)?;
+    match course {
         Course::Void => Ok(None),
         Course::Tell(reply) => Ok(Some(Message::Reply(call, reply))),
         Course::Serve(member) => {
@@ -131,68 +129,19 @@ fn on_request<D: Disk>(
             answer(call, carry_out(store, call, plan))
         }
         Course::Vote(learnt, ballot, asks) => {
-            answer(call, vote(store, learnt, call, ballot, asks))
+            answer(call, vote(alloc, store, learnt, call, ballot, asks))
         }
     }
 }
 
-/// Whether the lists of a view may keep a group of m data blocks on a disk of so many bricks.
-fn is_view(m: u8, bricks: u16, view: &View) -> bool
-    ensures { result ≡ is_view m bricks view.now }
+/// No answer to a message, once what it taught was learnt.
+fn no_answer(learnt: Result<(), ReplicaFault>) -> Result<Option<Message>, ReplicaFault>
+    ensures { result ≡ unanswered learnt }
 {
-    is_membership(m, bricks, view.members.as_slice())
-        && is_membership(m, bricks, view.prior.as_slice())
-}
-
-/// Whether a brick is to learn a view that it is taught of a group: the layout has the group, its lists may keep that, and it is later than the learnt one.
-fn is_to_learn<D: Disk>(store: &BrickStore<D>, layout: &Layout, group: GroupId, view: &View) -> bool
-    ensures teaches { result ≡ is_to_learn layout.now store.now.state group.0 view.now }
-    ensures few { result ≡ true → group.0 < 64 }
-    ensures above { result ≡ true → learnt_of (group_at store.now.state group.0) < view.now.number.0 }
-    ensures some { result ≡ true → (1 ≤ length view.now.members) × (1 ≤ length view.now.prior) }
-{
-    // The call only tells limits: a list that may keep a group has a member.
-    let _ = layout.records();
-    let Some(kept) = layout.group(group) else {
-        return false;
-    };
-    is_view(kept.m(), layout.bricks(), view) && store.learnt(group).0 < view.number.0
-}
-
-/// No answer, once the store answered what it learnt.
-fn taught(answer: Result<(), StoreFault>) -> Result<Option<Message>, ReplicaFault>
-    requires { (live : ℕ) → answer ≢ Err (faults.Full live) }
-    ensures { (f : told.Reply → told_message.Message) → result ≡ seen_as f (answered None answer) }
-{
-    match answer {
+    match learnt {
         Ok(()) => Ok(None),
-        Err(StoreFault::Disk) => Err(ReplicaFault::Disk),
-        Err(StoreFault::Halted) => Err(ReplicaFault::Halted),
-        Err(StoreFault::NoMemory) => Err(ReplicaFault::NoMemory),
-        Err(StoreFault::Full { live: _ }) => unreachable!(),
+        Err(fault) => Err(fault),
     }
-}
-
-/// Learns a view that a running brick is taught of a group, if it is to.
-fn on_learn<D: Disk>(
-    store: &mut BrickStore<D>,
-    layout: &Layout,
-    from: BrickId,
-    group: GroupId,
-    view: &View,
-) -> Result<Option<Message>, ReplicaFault>
-    requires runs { Runs D.Disk store.old }
-    ensures handles { Handles D.Disk (IsStep layout.now (me_of store.old) from (message.Learn group view.now) store.old.state) store.old store.new result }
-    ensures change { (node : Node) → IsPartsOf layout.now store.old.state node → KeepsNext D.Disk
-        (message_append layout.now (me_of store.old) from node (message.Learn group view.now))
-        (IsStep layout.now (me_of store.old) from (message.Learn group view.now) store.old.state) store.old store.new (end_of result) }
-{
-    // A brick learns from whoever teaches it.
-    let _ = from;
-    if !is_to_learn(store, layout, group, view) {
-        return Ok(None);
-    }
-    taught(store.learn(group, view.copy()))
 }
 
 /// Does what a brick of the machine does with a message as a member of a group: its answer to the sender, if there is one. A message that
@@ -233,7 +182,7 @@ pub fn handle<D: Disk>(
     }
     match message {
         Message::Request(call, request) => on_request(alloc, store, layout, from, *call, request),
-        Message::Learn { group, view } => on_learn(store, layout, from, *group, view.get()),
+        Message::Learn { group, view } => no_answer(on_learn(store, layout, *group, view.get())),
         _ => Ok(None),
     }
 }

@@ -10,7 +10,9 @@ pub mod handling;
 mod members;
 mod plans;
 mod seats;
+pub mod views;
 mod votes;
 
 pub use faults::ReplicaFault;
 pub use handling::handle;
+pub use views::learn;

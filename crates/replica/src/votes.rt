@@ -1,24 +1,25 @@
 //! Votes on the successor of a view, and what is kept of them.
 
-ghost use Rattle.std.specs.Prelude.{◌≡◌, ◌<◌, ◌≤◌, None, Some, length};
+ghost use Rattle.std.specs.Prelude.{◌≡◌, ◌<◌, ◌≤◌, None, Some, IfOk, length};
 ghost use Rattle.std.specs.Option.{ForSome};
 ghost use Rattle.brick_state.specs.States.{group_at};
 ghost use Rattle.brick_store.specs.Blocks.{learnt_of};
 ghost use Rattle.protocol.specs.Ballots.{voting};
-ghost use Rattle.view_synod.specs.Acceptors.{vote_of, after_vote};
+ghost use Rattle.view_synod.specs.Acceptors.{reply_of, vote_of, after_vote};
 ghost use Rattle.replica.specs.Parts.{ballots_in};
 ghost use Rattle.replica.specs.Reactions.{IsVoted};
 ghost use Rattle.replica.specs.Handling.{Handles, KeepsNext, Runs, end_of};
 ghost use Rattle.replica.specs.Calls.{same_ballot, same_members, same_promised, same_accepted, same_ballots, ballot_append};
 
-use crate::courses::Learnt;
+use crate::courses::{Learnt, moved_to};
 use crate::faults::ReplicaFault;
 use crate::handling::answered;
 use brick_store::BrickStore;
-use fab_base::{Ballot, BrickId, GroupId, Members};
+use fab_base::{Ballot, BrickId, GroupId, Members, NoMem};
 use fab_disk::Disk;
-use messages::{Call, Reply};
-use view_synod::Acceptor;
+use messages::{Call, Choice, Reply};
+use std::alloc::Global;
+use view_synod::{Acceptor, Vote};
 
 /// Whether two ballots are the same.
 fn is_same_ballot(left: Ballot, right: Ballot) -> bool
@@ -89,8 +90,24 @@ fn is_kept<D: Disk>(store: &BrickStore<D>, group: GroupId, acceptor: &Acceptor) 
         && is_same_acceptance(&store.accepted(group), &acceptor.accepted())
 }
 
+/// How a vote is replied.
+fn reply_to(alloc: Global, vote: Vote) -> Result<Reply, NoMem>
+    ensures { IfOk result (λ reply. reply ≡ reply_of vote) }
+{
+    Ok(match vote {
+        Vote::Promise(accepted) => Reply::Promise {
+            accepted: accepted.map(|(ballot, members)| Choice { ballot, members }),
+        },
+        Vote::Accepted => Reply::Accepted,
+        Vote::Outbid(ballot) => Reply::Outbid { ballot },
+        Vote::Moved(view) => moved_to(alloc, &view)?,
+        Vote::NotSynced => Reply::NotSynced,
+    })
+}
+
 /// Promises to a ballot for the successor of the view that the brick has learnt, unless it refuses it, and keeps what is new of that before it replies.
 fn prepare<D: Disk>(
+    alloc: Global,
     store: &mut BrickStore<D>,
     learnt: Learnt,
     call: Call,
@@ -108,7 +125,8 @@ fn prepare<D: Disk>(
 {
     let number = learnt.view.number;
     let mut acceptor = acceptor_of(store, learnt, call);
-    let reply = acceptor.prepare(ballot);
+    let vote = acceptor.prepare(ballot);
+    let reply = reply_to(alloc, vote)?;
     if is_kept(store, call.group, &acceptor) {
         return Ok(Some(reply));
     }
@@ -118,6 +136,7 @@ fn prepare<D: Disk>(
 /// Accepts a list of members under a ballot, as the successor of the view that the brick has learnt, unless it refuses the ballot, and keeps what is new of that
 /// before it replies.
 fn accept<D: Disk>(
+    alloc: Global,
     store: &mut BrickStore<D>,
     learnt: Learnt,
     call: Call,
@@ -137,7 +156,8 @@ fn accept<D: Disk>(
 {
     let number = learnt.view.number;
     let mut acceptor = acceptor_of(store, learnt, call);
-    let reply = acceptor.accept(ballot, members.copy());
+    let vote = acceptor.accept(ballot, members.copy());
+    let reply = reply_to(alloc, vote)?;
     if is_kept(store, call.group, &acceptor) {
         return Ok(Some(reply));
     }
@@ -149,6 +169,7 @@ fn accept<D: Disk>(
 
 /// Votes on a ballot for the successor of the view that the brick has learnt: it is asked to accept a list, or to promise.
 pub(crate) fn vote<D: Disk>(
+    alloc: Global,
     store: &mut BrickStore<D>,
     learnt: Learnt,
     call: Call,
@@ -167,7 +188,7 @@ pub(crate) fn vote<D: Disk>(
         store.old store.new (end_of result) }
 {
     match asks {
-        None => prepare(store, learnt, call, ballot),
-        Some(members) => accept(store, learnt, call, ballot, members),
+        None => prepare(alloc, store, learnt, call, ballot),
+        Some(members) => accept(alloc, store, learnt, call, ballot, members),
     }
 }

@@ -1,6 +1,12 @@
 -- A message is handled by its kind.
 use Rattle.std.proofs.Common.{◌≡◌, false, Option, None, Result, Ok, refl, sym, ap, subst, ◌∙◌}
+use Rattle.fab_base.specs.declared.identities.BrickId.{BrickId}
+use Rattle.fab_base.specs.Layouts.{Layout}
+use Rattle.fab_disk.specs.declared.disk.Disk as on_disk
 use Rattle.messages.specs.declared.packets.Message.{Message}
+use Rattle.brick_store.specs.Bricks.{Brick}
+use Rattle.protocol.specs.Nodes.{Node}
+use Rattle.replica.specs.Parts.{IsPartsOf}
 use Rattle.replica.specs.declared.faults.ReplicaFault.{ReplicaFault}
 use Rattle.replica.specs.Calls.{message_append}
 use Rattle.replica.specs.Handling.{me_of, Handles, Runs, KeepsNext, end_of}
@@ -33,18 +39,22 @@ returns-in-Request-clause-change g c node parts =
     (IsStep c.args.layout.now (me_of old) c.args.from m old.state) old c.on_request.new.store (end_of c.on_request.result))
     (sym c.in-Request.is) (c.on_request.ensures.change node parts)
 
-pub returns-in-Learn-clause-handles : goal.returns-in-Learn-clause-handles
-returns-in-Learn-clause-handles g c =
-    let old = c.args.store.now in
-    subst (λ (m : Message). Handles g.D.Disk (IsStep c.args.layout.now (me_of old) c.args.from m old.state) old c.on_learn.new.store c.on_learn.result)
-    (sym c.in-Learn.is) c.on_learn.ensures.handles
+-- what a message teaches was learnt
+abbrev Learnt : {D : Type 0} → on_disk.Ghosts D → Layout → BrickId → Message → Brick D → Brick D → Result (Option Message) ReplicaFault → Type 0
+Learnt d layout from message old new result =
+    Handles d (IsStep layout (me_of old) from message old.state) old new result
+    × ((node : Node) → IsPartsOf layout old.state node → KeepsNext d (message_append layout (me_of old) from node message)
+    (IsStep layout (me_of old) from message old.state) old new (end_of result))
 
-pub returns-in-Learn-clause-change : goal.returns-in-Learn-clause-change
-returns-in-Learn-clause-change g c node parts =
+pub returns-in-Learn : goal.returns-in-Learn
+returns-in-Learn g c =
     let old = c.args.store.now in
-    subst (λ (m : Message). KeepsNext g.D.Disk (message_append c.args.layout.now (me_of old) c.args.from node m)
-    (IsStep c.args.layout.now (me_of old) c.args.from m old.state) old c.on_learn.new.store (end_of c.on_learn.result))
-    (sym c.in-Learn.is) (c.on_learn.ensures.change node parts)
+    let layout = c.args.layout.now in
+    let learnt = c.on_learn.ensures c.args.from in
+    let both = subst (λ (m : Message). Learnt g.D.Disk layout c.args.from m old c.on_learn.new.store c.no_answer.result) (sym c.in-Learn.is)
+    (subst (λ (r : Result (Option Message) ReplicaFault). Learnt g.D.Disk layout c.args.from _ old c.on_learn.new.store r) (sym c.no_answer.ensures)
+    (learnt.handles, learnt.change)) in
+    record { handles = both.0; change = both.1 }
 
 pub returns-in_default : goal.returns-in_default
 returns-in_default g c =

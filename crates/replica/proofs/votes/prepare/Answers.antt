@@ -20,8 +20,8 @@ returns-then-is_kept g c =
     let old = c.args.store.now in
     let kept = ballots_in old.state c.args.call.group.0 in
     let vote = voting c.args.call.view.0 c.args.learnt kept c.args.ballot None in
-    let reply_is = c.prepare-reply.ensures.vote ∙ ap (λ (a : Acceptor). (vote_of a c.args.ballot None).reply) c.acceptor_of-acceptor.ensures in
-    let kept_is = ap (λ (a : Acceptor). a.kept) c.prepare-reply.ensures.kept
+    let reply_is = c.in_ok-reply.ensures ∙ c.prepare-vote.ensures.vote ∙ ap (λ (a : Acceptor). (vote_of a c.args.ballot None).reply) c.acceptor_of-acceptor.ensures in
+    let kept_is = ap (λ (a : Acceptor). a.kept) c.prepare-vote.ensures.kept
     ∙ ap (λ (a : Acceptor). (vote_of a c.args.ballot None).kept) c.acceptor_of-acceptor.ensures in
     let same : same_ballots kept vote.kept ≡ true = ap (same_ballots kept) (sym kept_is) ∙ sym c.is_kept.ensures ∙ c.if-is_kept.true in
     let both = subst (λ (r : Reply). VoteKept d g.met.D.Disk.only_now old c.requires.runs c.args.call vote (Ok (Some r)) old) (sym reply_is)
@@ -34,8 +34,8 @@ returns g c =
     let old = c.args.store.now in
     let kept = ballots_in old.state c.args.call.group.0 in
     let vote = voting c.args.call.view.0 c.args.learnt kept c.args.ballot None in
-    let reply_is = c.prepare-reply.ensures.vote ∙ ap (λ (a : Acceptor). (vote_of a c.args.ballot None).reply) c.acceptor_of-acceptor.ensures in
-    let kept_is = ap (λ (a : Acceptor). a.kept) c.prepare-reply.ensures.kept
+    let reply_is = c.in_ok-reply.ensures ∙ c.prepare-vote.ensures.vote ∙ ap (λ (a : Acceptor). (vote_of a c.args.ballot None).reply) c.acceptor_of-acceptor.ensures in
+    let kept_is = ap (λ (a : Acceptor). a.kept) c.prepare-vote.ensures.kept
     ∙ ap (λ (a : Acceptor). (vote_of a c.args.ballot None).kept) c.acceptor_of-acceptor.ensures in
     let other : same_ballots kept vote.kept ≡ false = ap (same_ballots kept) (sym kept_is) ∙ sym c.is_kept.ensures ∙ c.if-is_kept.false in
     let both = vote_kept d g.met.D.Disk.only_now old c.requires.runs c.args.call vote c.requires.group c.args.ballot (accepted_of (group_at old.state c.args.call.group.0)) other

@@ -18,5 +18,5 @@ returns g c =
     let shown = λ (part : Replica). part_seen c.state.result part.from_start ≡ part in
     subst (λ (n : Running g.row.D.Denot). shown ((state_of n).replicas c.args.group.0 (view_at (state_of n) c.args.group.0) c.args.stripe.0))
     c.self.view_is
-    (subst shown (part_so x.layout x.calls x.store c.self.invariant.first c.args.group.0 c.args.stripe.0)
+    (subst shown (part_so x.layout x.work x.store c.self.invariant.first c.args.group.0 c.args.stripe.0)
     (λ i. part_of (c.state.ensures.order i) (log i) (stripe_at x.store.state place).from_start))
