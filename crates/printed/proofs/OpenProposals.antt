@@ -19,7 +19,7 @@ use Rattle.protocol.specs.Proposals.{Proposal, Voting, Ignored, Waited, Asks, En
 use Rattle.protocol.specs.declared.tellings.Report.{Report}
 use Rattle.protocol.specs.declared.tellings.Report.TheVariants as report
 use Rattle.protocol.specs.declared.tellings.ViewAnswer.TheVariants as answer
-use Rattle.protocol.specs.Nodes.{Node, NodeStep, put, no_step, sending, with_known, with_round, known_after, carried_out, carried_ballot, replied_ballot, replied_at, view_counted, node_taught_by, replied, lists_fit, heard, requested, received, new_proposal, proposing, reporting, proposed_in, proposed}
+use Rattle.protocol.specs.Nodes.{Node, NodeStep, put, no_step, sending, with_known, with_round, known_after, carried_out, carried_ballot, replied_ballot, replied_at, view_counted, node_taught_by, node_learnt, replied, lists_fit, heard, requested, received, new_proposal, proposing, reporting, proposed_in, proposed}
 use Rattle.protocol.specs.Worlds.{first_world}
 use Rattle.protocol.proofs.Puts.{put_other}
 use Rattle.protocol.proofs.Served.{request_each}
@@ -38,26 +38,27 @@ proposals_in bricks nodes = count bricks (has_proposal nodes)
 pub proposals_none : (bricks : ℕ) (layout : Layout) → proposals_in bricks (first_world layout).nodes ≡ 0
 proposals_none bricks layout = count_empty bricks (has_proposal (first_world layout).nodes) (λ k within. refl)
 
--- of two sets that differ at one place
-count_changed : (n i : ℕ) (p r : ℕ → Bool) → i < n → ((k : ℕ) → k ≢ i → r k ≡ p k) → count n r + one_if (p i) ≡ count n p + one_if (r i)
+-- two sets that differ at one place: it is below the last of the places that are counted, or it is that
+count_below : (n i : ℕ) (p r : ℕ → Bool) → i < n → ((k : ℕ) → k ≢ i → r k ≡ p k) → count n r + one_if (p i) ≡ count n p + one_if (r i)
+    → count (suc n) r + one_if (p i) ≡ count (suc n) p + one_if (r i)
 unfolding count
+count_below n i p r below same rest =
+    let there : one_if (r n) ≡ one_if (p n) = ap one_if (same n (λ at. (let bad : n ≡ i = at in omega (arith, bad, below)))) in
+    omega (arith, rest, there)
+
+count_last : (n i : ℕ) (p r : ℕ → Bool) → i ≡ n → ((k : ℕ) → k ≢ i → r k ≡ p k) → count (suc n) r + one_if (p i) ≡ count (suc n) p + one_if (r i)
+unfolding count
+count_last n i p r at same =
+    let rest : count n r ≡ count n p = count_same n r p (λ k lt. same k (λ is. (let bad : k ≡ i = is in omega (arith, bad, at, lt)))) in
+    subst (λ (j : ℕ). count (suc n) r + one_if (p j) ≡ count (suc n) p + one_if (r j)) (sym at) (omega (arith, rest))
+
+count_changed : (n i : ℕ) (p r : ℕ → Bool) → i < n → ((k : ℕ) → k ≢ i → r k ≡ p k) → count n r + one_if (p i) ≡ count n p + one_if (r i)
 count_changed zero i p r within same = absurd (omega arith)
 count_changed (suc n) i p r within same =
     elim (cases_lt i n) [
-      | inl below ↦ earlier below
-      | inr past ↦ last (let at : i ≡ n = omega (arith, past, within) in at)
+      | inl below ↦ count_below n i p r below same (count_changed n i p r below same)
+      | inr past ↦ count_last n i p r (omega (arith, past, within)) same
     ]
-  where
-    earlier : i < n → count (suc n) r + one_if (p i) ≡ count (suc n) p + one_if (r i)
-    earlier below =
-        let rest : count n r + one_if (p i) ≡ count n p + one_if (r i) = count_changed n i p r below same in
-        let there : one_if (r n) ≡ one_if (p n) = ap one_if (same n (λ at. (let bad : n ≡ i = at in omega (arith, bad, below)))) in
-        omega (arith, rest, there)
-
-    last : i ≡ n → count (suc n) r + one_if (p i) ≡ count (suc n) p + one_if (r i)
-    last at =
-        let rest : count n r ≡ count n p = count_same n r p (λ k lt. same k (λ is. (let bad : k ≡ i = is in omega (arith, bad, at, lt)))) in
-        subst (λ (j : ℕ). count (suc n) r + one_if (p j) ≡ count (suc n) p + one_if (r j)) (sym at) (omega (arith, rest))
 
 -- a brick of the disk changes
 pub proposals_put : (bricks i : ℕ) (nodes : ℕ → Node) (node : Node) → i < bricks
@@ -156,7 +157,7 @@ received_closes setting me now node packet = by packet.message
         quiet node (requested setting me packet.from node call request) (requested_quiet setting me packet.from node call request)
         (requested_own setting me packet.from node call request).proposal
     by (Message.Reply call reply) = heard_closes setting me packet.from now node call reply
-    by (Message.Learn group view) = quiet node _ refl (learnt_own setting.layout node group view).proposal
+    by (Message.Learn group view) = quiet node (no_step (node_learnt setting.layout node group view)) refl (learnt_own setting.layout node group view).proposal
     by (Message.Synced group view) = quiet node (no_step node) refl refl
     by (Message.Client ask) = quiet node (no_step node) refl refl
     by (Message.ClientReply id answered) = quiet node (no_step node) refl refl
