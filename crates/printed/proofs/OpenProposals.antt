@@ -1,5 +1,5 @@
 -- How many bricks have an open proposal. A brick that is asked to propose opens one at most, or reports one at once; and else each report closes one.
-use Rattle.std.proofs.Common.{◌≡◌, ◌≢◌, ℕ, zero, suc, ◌+◌, ◌<◌, ◌≤◌, inl, inr, Bool, true, List, [], ◌∷◌, length, Option, Some, None, is_some, refl, sym, ap, ◌∙◌, subst, arith}
+use Rattle.std.proofs.Common.{◌≡◌, ◌≢◌, ℕ, zero, suc, ◌+◌, ◌<◌, ◌≤◌, inl, inr, Bool, true, List, [], length, Option, Some, None, is_some, refl, sym, ap, ◌∙◌, subst, arith}
 use Rattle.std.proofs.lemmas.Bool.{cond_both, cases_lt}
 use Rattle.fab_base.specs.declared.identities.BrickId.{BrickId}
 use Rattle.fab_base.specs.declared.identities.GroupId.{GroupId}
@@ -19,7 +19,7 @@ use Rattle.protocol.specs.Proposals.{Proposal, Voting, Ignored, Waited, Asks, En
 use Rattle.protocol.specs.declared.tellings.Report.{Report}
 use Rattle.protocol.specs.declared.tellings.Report.TheVariants as report
 use Rattle.protocol.specs.declared.tellings.ViewAnswer.TheVariants as answer
-use Rattle.protocol.specs.Nodes.{Node, NodeStep, put, no_step, sending, with_known, with_round, known_after, carried_out, carried_ballot, replied_ballot, replied_at, view_counted, node_taught_by, node_learnt, replied, lists_fit, heard, requested, received, new_proposal, proposing, reporting, proposed_in, proposed}
+use Rattle.protocol.specs.Nodes.{Node, NodeStep, put, no_step, sending, with_known, with_round, known_after, carried_out, carried_ballot, replied_ballot, replied_at, view_counted, node_learnt, replied, lists_fit, heard, requested, received, new_proposal, proposing, reporting, proposed_in, proposed}
 use Rattle.protocol.specs.Worlds.{first_world}
 use Rattle.protocol.proofs.Puts.{put_other}
 use Rattle.protocol.proofs.Served.{request_each}

@@ -15,7 +15,7 @@ use Rattle.protocol.specs.declared.tellings.SyncAnswer.TheVariants as synced
 use Rattle.protocol.specs.declared.tellings.Report.{Report}
 use Rattle.protocol.specs.declared.tellings.Report.TheVariants.{View, Sync}
 use Rattle.transcript.specs.declared.claims.Entry.TheVariants.{Other}
-use Rattle.transcript.specs.Forms.{form, entry_of, most_line_bytes}
+use Rattle.transcript.specs.Forms.{form, entry_of}
 use Rattle.transcript.specs.Tokens.{behind, is_plain, are_plain}
 use Rattle.transcript.specs.Words.{is_ballot, is_decided, is_view_end, is_stopped, is_sync_end, is_view, is_sync, is_word}
 use Rattle.world.specs.Texts.{members_text, view_answer_text, sync_answer_text, report_text}
