@@ -6,9 +6,10 @@ ghost use Rattle.world.specs.Runs.{world_of};
 ghost use Rattle.world.specs.Walks.{AreEntriesOf};
 ghost use Rattle.transcript.specs.Kinds.{is_begin, is_answered, is_aborted, is_crash};
 ghost use Rattle.printed.specs.Outputs.{happened_text, stripes_text, stripes_of, groups_text, count_text, closing_text};
-ghost use Rattle.printed.specs.Spellings.{cause_told, ToldReads, AllToldRead};
+ghost use Rattle.printed.specs.Spellings.{cause_told, ToldReads, AllToldRead, BricksRead, ViewAnswerReads, SyncAnswerReads, ReportReads, AllReportsRead, WorldReads};
 
-use fab_base::{Answer, Cause, GroupId, NoMem, StripeNo};
+use fab_base::{Answer, BrickId, Cause, GroupId, NoMem, StripeNo};
+use protocol::{Report, SyncAnswer, ViewAnswer};
 use reg_model::{Happening, Mark};
 use std::alloc::Global;
 use world::{StripeEntries, World};
@@ -184,13 +185,88 @@ fn count_text(alloc: Global, lines: u64, marks: &[Mark]) -> Result<String, NoMem
     )?)
 }
 
-/// What closes the output after this many lines. What the marks that it counts say of why operations were aborted has a spelling.
+/// Looks at the numbers of bricks, which are those of their type.
+fn look_at_bricks(bricks: &[BrickId])
+    ensures { BricksRead bricks.now }
+{
+    for brick in bricks {
+        let _number = brick.0;
+    }
+}
+
+/// Looks at how a proposal ended: its numbers are those of their types.
+fn look_at_view_answer(answer: &ViewAnswer)
+    ensures { ViewAnswerReads answer.now }
+{
+    match answer {
+        ViewAnswer::Decided { view, members } => {
+            let _number = view.0;
+            look_at_bricks(members.as_slice());
+        }
+        ViewAnswer::Outbid { ballot } => {
+            let _ballot = *ballot;
+        }
+        ViewAnswer::NotSynced { brick } => {
+            let _number = brick.0;
+        }
+        ViewAnswer::Moved { view } => {
+            let _number = view.0;
+        }
+        ViewAnswer::BadMembers => {}
+    }
+}
+
+/// Looks at how a synchronisation ended: its numbers are those of their types.
+fn look_at_sync_answer(answer: &SyncAnswer)
+    ensures { SyncAnswerReads answer.now }
+{
+    match answer {
+        SyncAnswer::Synced { view } => {
+            let _number = view.0;
+        }
+        SyncAnswer::Stopped { stripe, cause } => {
+            let _number = stripe.0;
+            let _cause = *cause;
+        }
+        SyncAnswer::Spent { stripe } => {
+            let _number = stripe.0;
+        }
+    }
+}
+
+/// Looks at a report: its numbers are those of their types.
+fn look_at_report(report: &Report)
+    ensures { ReportReads report.now }
+{
+    match report {
+        Report::View { group, answer, .. } => {
+            let _number = group.0;
+            look_at_view_answer(answer);
+        }
+        Report::Sync { group, answer } => {
+            let _number = group.0;
+            look_at_sync_answer(answer);
+        }
+    }
+}
+
+/// Looks at what bricks reported, so that each number of it is known to have a spelling.
+fn look_at_reports(reports: &[(BrickId, Report)])
+    ensures { AllReportsRead reports.now }
+{
+    for told in reports {
+        look_at_report(&told.1);
+    }
+}
+
+/// What closes the output after this many lines. What the marks that it counts tell has a spelling, and so has what bricks reported.
 pub(crate) fn closing_text(alloc: Global, world: &World, lines: u64) -> Result<String, NoMem>
     ensures text { IfOk result (λ text. string_bytes text ≡ closing_text world.now.layout (world_of world.now) lines) }
-    ensures told { IfOk result (λ text. AllToldRead (world_of world.now).marks) }
+    ensures told { IfOk result (λ text. WorldReads (world_of world.now)) }
 {
     let mut text = groups_text(alloc, world)?;
     let counts = count_text(alloc, lines, world.marks())?;
+    look_at_reports(world.reports());
     text.push_str(counts.as_str())?;
     Ok(text)
 }

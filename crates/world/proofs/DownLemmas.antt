@@ -413,6 +413,7 @@ module _ (layout : Layout) (me : BrickId) (state : machine.Node) (time : ℕ) (p
             ∙ ap (λ (s : machine.NodeStep). s.packets) steps_there;
         told = steps.told ∙ ap (λ (s : machine.NodeStep). s.told) steps_there;
         answers = steps.answers ∙ ap (λ (s : machine.NodeStep). s.answers) steps_there;
+        reports = steps.reports ∙ ap (λ (s : machine.NodeStep). s.reports) steps_there;
         on = λ after. (
           refl,
           on_there next new up stays_new stays_up is up_is

@@ -51,7 +51,8 @@ operation_of kept =
       base = kept.base;
       answered = kept.answered;
       mark = 1;
-      view = 1;
+      closed = None;
+      view = kept.view.0;
       floor = λ i. first_stamp;
     }
 

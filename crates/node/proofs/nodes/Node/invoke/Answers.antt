@@ -19,7 +19,7 @@ returns-in-Err g c =
     let x = c.self.inside in
     record {
       refused = subst (λ (n : Running g.row.D.Denot). refusal_of n.layout (state_of n) c.args.ask.now ≡ Some c.in-Err.refusal) c.self.view_is
-          (ap (λ (s : Node). refusal_of x.layout s c.args.ask.now) (seen_so x.layout x.calls x.store c.self.invariant.boot)
+          (ap (λ (s : Node). refusal_of x.layout s c.args.ask.now) (seen_so x.layout x.work x.store c.self.invariant.boot)
           ∙ sym (c.in-Err.ensures.refused (parts_in x.layout x.store.state)));
       begun = tt;
       err = search rules;
@@ -35,14 +35,14 @@ pub returns-in_err-begin-clause-err : goal.returns-in_err-begin-clause-err
 returns-in_err-begin-clause-err g c =
     let x = c.self.inside in
     on_err _
-    (stays_so x.layout x.calls c.begin.new.self x.store c.self.invariant.boot c.in_err-begin.ensures.boot c.in_err-begin.ensures.err
+    (stays_so x.layout x.work c.begin.new.self x.store c.self.invariant.boot c.in_err-begin.ensures.boot c.in_err-begin.ensures.err
     ∙ ap (λ (n : Running g.row.D.Denot). state_of n) c.self.view_is)
 
 pub returns-in_err-begin-clause-refused : goal.returns-in_err-begin-clause-refused
 returns-in_err-begin-clause-refused g c =
     let x = c.self.inside in
     let none = subst (λ (n : Running g.row.D.Denot). refusal_of n.layout (state_of n) c.args.ask.now ≡ None) c.self.view_is
-    (ap (λ (s : Node). refusal_of x.layout s c.args.ask.now) (seen_so x.layout x.calls x.store c.self.invariant.boot)
+    (ap (λ (s : Node). refusal_of x.layout s c.args.ask.now) (seen_so x.layout x.work x.store c.self.invariant.boot)
     ∙ sym (c.in-Ok.ensures.refused (parts_in x.layout x.store.state))) in
     search (rules, none)
 
@@ -50,7 +50,7 @@ pub returns-clause-refused : goal.returns-clause-refused
 returns-clause-refused g c =
     let x = c.self.inside in
     subst (λ (n : Running g.row.D.Denot). refusal_of n.layout (state_of n) c.args.ask.now ≡ None) c.self.view_is
-    (ap (λ (s : Node). refusal_of x.layout s c.args.ask.now) (seen_so x.layout x.calls x.store c.self.invariant.boot)
+    (ap (λ (s : Node). refusal_of x.layout s c.args.ask.now) (seen_so x.layout x.work x.store c.self.invariant.boot)
     ∙ sym (c.in-Ok.ensures.refused (parts_in x.layout x.store.state)))
 
 pub begin-requires-clause-limits : goal.begin-requires-clause-limits
@@ -86,15 +86,15 @@ begin-requires-clause-fits g c =
 pub returns-clause-begun : goal.returns-clause-begun
 returns-clause-begun g c =
     let x = c.self.inside in
-    let begun = subst (λ (view : View). (parts : KeptParts) → BeginsAs x.calls.me (state_with parts c.begin.new.self)
-    (began_in (coding x.layout) x.calls.me (state_with parts x.calls)
-    (coordinator_in (group_in_view x.layout view.members c.args.ask.now.group.0) view.number x.calls.me c.args.now (state_with parts x.calls) c.args.ask.now))
+    let begun = subst (λ (view : View). (parts : KeptParts) → BeginsAs x.work.calls.me (state_with parts c.begin.new.self)
+    (began_in (coding x.layout) x.work.calls.me (state_with parts x.work)
+    (coordinator_in (group_in_view x.layout view.members c.args.ask.now.group.0) view.number x.work.calls.me c.args.now (state_with parts x.work) c.args.ask.now))
     c.in_ok-begin.field-0) c.first_view-view.ensures.view c.in_ok-begin.ensures.begun in
     subst
     (λ (n : Running g.row.D.Denot). BeginsAs n.me (state_of (running x.layout c.begin.new.self x.store))
     (invoked (coding n.layout) n.me c.args.now (state_of n) c.args.ask.now) c.in_ok-begin.field-0)
     c.self.view_is
-    (begins_so x.layout x.calls c.begin.new.self x.store c.self.invariant.boot c.args.now c.args.ask.now c.in-Ok.group.now c.in_ok-begin.field-0
+    (begins_so x.layout x.work c.begin.new.self x.store c.self.invariant.boot c.args.now c.args.ask.now c.in-Ok.group.now c.in_ok-begin.field-0
     c.in_ok-begin.ensures.boot c.self.invariant.first c.in-Ok.ensures.group begun)
 
 pub returns-then-is_halted : goal.returns-then-is_halted

@@ -33,7 +33,7 @@ pub returns-in_err-on_reply-clause-err : goal.returns-in_err-on_reply-clause-err
 returns-in_err-on_reply-clause-err g c =
     let x = c.self.inside in
     on_err _
-    (stays_so x.layout x.calls c.on_reply.new.self x.store c.self.invariant.boot c.in_err-on_reply.ensures.boot c.in_err-on_reply.ensures.err
+    (stays_so x.layout x.work c.on_reply.new.self x.store c.self.invariant.boot c.in_err-on_reply.ensures.boot c.in_err-on_reply.ensures.err
     ∙ ap (λ (n : Running g.row.D.Denot). state_of n) c.self.view_is)
 
 pub returns-in_err-on_reply-clause-shown : goal.returns-in_err-on_reply-clause-shown
@@ -42,7 +42,7 @@ returns-in_err-on_reply-clause-shown g c =
     subst
     (λ (n : Running g.row.D.Denot). (image : List ℕ) → ImageShows n.layout n.me (state_of n) image
     → ImageShows n.layout n.me (state_of (running x.layout c.on_reply.new.self x.store)) image)
-    c.self.view_is (still_shows x.layout x.calls c.on_reply.new.self x.store x.calls.me)
+    c.self.view_is (still_shows x.layout x.work c.on_reply.new.self x.store x.work.calls.me)
 
 pub returns-clause-step : goal.returns-clause-step
 returns-clause-step g c =
@@ -51,8 +51,8 @@ returns-clause-step g c =
     (λ (n : Running g.row.D.Denot). StepsAs n.me (state_of (running x.layout c.on_reply.new.self x.store))
     (replied (coding n.layout) n.me c.args.now c.args.packet.now.from (state_of n) c.args.call c.args.reply.now) c.in_ok-on_reply.field-0)
     c.self.view_is
-    (steps_so x.layout x.calls c.on_reply.new.self x.store c.self.invariant.boot
-    (λ s. replied (coding x.layout) x.calls.me c.args.now c.args.packet.now.from s c.args.call c.args.reply.now) c.in_ok-on_reply.field-0
+    (steps_so x.layout x.work c.on_reply.new.self x.store c.self.invariant.boot
+    (λ s. replied (coding x.layout) x.work.calls.me c.args.now c.args.packet.now.from s c.args.call c.args.reply.now) c.in_ok-on_reply.field-0
     c.in_ok-on_reply.ensures.boot (c.in_ok-on_reply.ensures.step x.layout c.self.invariant.open_calls))
 
 pub returns-clause-shown : goal.returns-clause-shown
@@ -61,4 +61,4 @@ returns-clause-shown g c =
     subst
     (λ (n : Running g.row.D.Denot). (image : List ℕ) → ImageShows n.layout n.me (state_of n) image
     → ImageShows n.layout n.me (state_of (running x.layout c.on_reply.new.self x.store)) image)
-    c.self.view_is (still_shows x.layout x.calls c.on_reply.new.self x.store x.calls.me)
+    c.self.view_is (still_shows x.layout x.work c.on_reply.new.self x.store x.work.calls.me)
