@@ -1,8 +1,8 @@
 -- Lists of members that may keep a group: they have a member, and only bricks of the disk.
 use Rattle.std.proofs.Common.{◌≡◌, ℕ, ◌<◌, ◌≤◌, true, List, [], ◌∷◌, length, refl, arith, nat_lt}
-use Rattle.std.specs.Prelude.{nat_le, ◌&&◌}
+use Rattle.std.specs.Prelude.{nat_le, ◌==◌, ◌&&◌}
 use Rattle.std.specs.List.{list_all}
-use Rattle.std.proofs.lemmas.Bool.{and_parts, ltb-true}
+use Rattle.std.proofs.lemmas.Bool.{and_parts, ltb-true, ne_eqb, not_from_false}
 use Rattle.fab_base.specs.declared.identities.BrickId.{BrickId}
 use Rattle.fab_base.specs.declared.member_lists.View.{View}
 use Rattle.fab_base.specs.Layouts.{Layout, Group, first_view}
@@ -16,7 +16,7 @@ use Rattle.serving.proofs.Fitting.{AreBricks, ViewFits}
 -- a list that is long enough has a member
 long_enough : (m : ℕ) (members : List BrickId) → 1 ≤ m → m ≤ length members → has_some members ≡ true
 long_enough m [] some long = absurd (omega (arith, some, long))
-long_enough m (member ∷ members) some long = refl
+long_enough m (member ∷ members) some long = not_from_false (length (member ∷ members) == 0) (ne_eqb (length (member ∷ members)) 0 (λ none. omega (arith, none)))
 
 -- a list that may keep a group has a member
 pub names_some : (m bricks : ℕ) (members : List BrickId) → 1 ≤ m → is_membership m bricks members ≡ true → has_some members ≡ true
@@ -52,5 +52,5 @@ first_fits layout group is =
     record {
       members = is.below;
       some = long_enough group.m group.members is.limits.some_block is.limits.enough_seats;
-      prior = λ later. absurd (ltb-true 1 1 later);
+      prior = λ later. (let never : 1 < 1 = ltb-true 1 1 later in absurd (omega (arith, never)));
     }
