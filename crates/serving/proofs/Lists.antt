@@ -1,5 +1,5 @@
 -- Lists of members that may keep a group: they have a member, and only bricks of the disk.
-use Rattle.std.proofs.Common.{◌≡◌, ℕ, ◌<◌, ◌≤◌, true, List, [], ◌∷◌, length, refl, arith, nat_lt}
+use Rattle.std.proofs.Common.{◌≡◌, ℕ, ◌<◌, ◌≤◌, true, List, [], ◌∷◌, length, arith, nat_lt}
 use Rattle.std.specs.Prelude.{nat_le, ◌==◌, ◌&&◌}
 use Rattle.std.specs.List.{list_all}
 use Rattle.std.proofs.lemmas.Bool.{and_parts, ltb-true, ne_eqb, not_from_false}
@@ -33,7 +33,7 @@ of_bricks : (layout : Layout) (m : ℕ) (members : List BrickId) → is_membersh
 unfolding is_membership
 of_bricks layout m members is =
     let bricks = and_parts (nat_le m (length members) && nat_le (length members) 32)
-        (are_distinct members && list_all (λ brick. nat_lt brick.0 layout.bricks) members) is in
+    (are_distinct members && list_all (λ brick. nat_lt brick.0 layout.bricks) members) is in
     all_below layout members (and_parts (are_distinct members) (list_all (λ brick. nat_lt brick.0 layout.bricks) members) bricks.1).1
 
 -- so a view whose lists may keep a group can be told

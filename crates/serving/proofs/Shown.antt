@@ -1,5 +1,5 @@
 -- A brick that the image of a disk shows, that has no operation open, and whose proposal is of its layout, is a brick of the layout.
-use Rattle.std.proofs.Common.{◌≡◌, ℕ, ◌≤◌, Bool, true, false, List, [], ◌∷◌, length, map, take, replicate, Option, Some, None, refl, sym, subst, ap, ◌∙◌, ⊎_elim, arith, length-take}
+use Rattle.std.proofs.Common.{◌≡◌, ℕ, ◌≤◌, Bool, true, false, List, [], ◌∷◌, length, map, take, replicate, Option, Some, None, sym, subst, ap, ⊎_elim, arith, length-take}
 use Rattle.std.specs.Prelude.{◌==◌, if◌then◌else◌, unwrap_or}
 use Rattle.std.specs.Option.{IfSome, option_map, option_and_then}
 use Rattle.std.specs.List.{AllByRecursion, list_all}
@@ -26,7 +26,7 @@ use Rattle.protocol.specs.Proposals.{Proposal, answers_ballot}
 use Rattle.protocol.specs.Nodes.{Node, no_calls}
 use Rattle.protocol.specs.Replicas.{Replica}
 use Rattle.replica.specs.Parts.{as_version, part_in, learnt_or, may_be_accepted, IsPartsOf, ListsStand}
-use Rattle.view_synod.specs.Proposers.{may_be_asked, IsUnderWay}
+use Rattle.view_synod.specs.Proposers.{may_be_asked}
 use Rattle.serving.specs.Spellings.{has_some}
 use Rattle.serving.specs.Views.{IsProposalOf}
 use Rattle.serving.proofs.Everywhere.{all_append, all_map}

@@ -13,7 +13,7 @@ use Rattle.fab_base.specs.declared.identities.BrickId.{BrickId}
 use Rattle.fab_base.specs.declared.identities.GroupId.{GroupId}
 use Rattle.fab_base.specs.declared.member_lists.View.{View}
 use Rattle.fab_base.specs.declared.stamps.Ballot.{Ballot}
-use Rattle.fab_base.specs.Layouts.{Layout, Group, group_of, seat_in}
+use Rattle.fab_base.specs.Layouts.{Layout, Group, group_of}
 use Rattle.messages.specs.declared.calls.Call.{Call}
 use Rattle.messages.specs.declared.clients.ClientAnswer.TheVariants.{Refused}
 use Rattle.messages.specs.declared.packets.Message.{Message}
@@ -28,11 +28,10 @@ use Rattle.protocol.specs.Settings.{are_bytes}
 use Rattle.quorum.specs.Memberships.{is_membership}
 use Rattle.synod_laws.specs.Synods.{Kept, last_of}
 use Rattle.protocol.specs.Views.{Learnt, kept_by, is_later, learns, first_kept, view_told}
-use Rattle.protocol.specs.Ballots.{Voted, moved_to, voting}
+use Rattle.protocol.specs.Ballots.{Voted, moved_to}
 use Rattle.protocol.specs.Coordinators.{Coordinator, Next, Ignores, Waits, Sends, Makes, Ends, on_reply}
-use Rattle.protocol.specs.Nodes.{Node, NodeStep, put, sending, no_step, view_at, has_accepted, has_block, has_length, refusal_in, refusal_of, first_phase, fresh_stamp, given_content, new_coordinator, began, invoked, replica_at, full_at, reply_packets, reacted, requested_at, is_now, has_successor, fits, seat_now, is_void, moved_at, served_unless, vote_at, voted_on, requested_as, requested_in, requested, dropping, with_learnt, node_taught, node_taught_by, may_teach, node_learnt, known_after, with_call, with_known, with_round, carried_out, with_proposal, carried_ballot, replied_ballot, replied_at, counts_here, view_counted, then_taught, replied, lists_fit, heard, received, ticked, ballot_resent, resent_up_to, most_open, is_spent}
+use Rattle.protocol.specs.Nodes.{Node, NodeStep, put, no_step, view_at, has_accepted, has_block, has_length, refusal_in, refusal_of, first_phase, fresh_stamp, given_content, new_coordinator, began, invoked, replica_at, full_at, reply_packets, reacted, requested_at, is_now, has_successor, fits, seat_now, is_void, moved_at, served_unless, vote_at, voted_on, requested_as, requested_in, requested, with_learnt, node_taught, may_teach, node_learnt, known_after, with_call, with_known, with_round, carried_out, with_proposal, carried_ballot, replied_ballot, replied_at, counts_here, view_counted, then_taught, replied, lists_fit, heard, received, ticked, ballot_resent, resent_up_to, most_open, is_spent}
 use Rattle.protocol.specs.Proposals.{Proposal, Voting, Ignored, Waited, Asks, Ended, voted}
-use Rattle.protocol.specs.declared.tellings.ViewAnswer.{ViewAnswer}
 use Rattle.protocol.specs.Replicas.{Replica, Reaction, fresh_replica, handle}
 use Rattle.protocol.proofs.Served.{parts_each}
 use Rattle.protocol.proofs.Tables.{put_each}

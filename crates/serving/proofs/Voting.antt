@@ -12,7 +12,6 @@ use Rattle.fab_base.specs.declared.stamps.Ballot.{Ballot}
 use Rattle.fab_base.specs.Stamps.{ballot_below}
 use Rattle.fab_base.specs.Layouts.{Layout, seat_in}
 use Rattle.messages.specs.declared.calls.Call.{Call}
-use Rattle.messages.specs.declared.replies.Choice.{Choice}
 use Rattle.messages.specs.declared.replies.Reply.{Reply}
 use Rattle.messages.specs.declared.replies.Reply.TheVariants.{Promise, Outbid, NotSynced}
 use Rattle.quorum.specs.Memberships.{is_membership}
@@ -22,7 +21,7 @@ use Rattle.protocol.specs.declared.tellings.ViewAnswer.{ViewAnswer}
 use Rattle.protocol.specs.declared.tellings.ViewAnswer.TheVariants as answer
 use Rattle.protocol.specs.Ballots.{Voted, moved_to, choice_of, outbidding, ballot_refusal, granting, unless_barred, voting}
 use Rattle.protocol.specs.Coordinators.{call_same, has_seat, new_seat}
-use Rattle.protocol.specs.Proposals.{Proposal, Voting, Waited, answers_ballot, voting_seat, seat_voting, with_voice, first_answer, lowest, moved_view, unsynced_brick, greatest_outbid, refused_by, told_choice, greatest_choice, goes_on, unless_voted_down, ballot_decided, ballot_quorum, once_voted, voted_at, voted}
+use Rattle.protocol.specs.Proposals.{Proposal, Waited, answers_ballot, voting_seat, seat_voting, with_voice, first_answer, lowest, moved_view, unsynced_brick, greatest_outbid, refused_by, told_choice, greatest_choice, goes_on, unless_voted_down, ballot_decided, ballot_quorum, voted_at, voted}
 use Rattle.protocol.specs.Views.{Learnt}
 use Rattle.serving.specs.Spellings.{has_some, has_whole_choice, reply_fits}
 use Rattle.serving.proofs.Everywhere.{all_append}
