@@ -6,9 +6,11 @@ pub mod States
 pub mod Tables
 pub mod Replied
 pub mod Ticks
+pub mod Taught
 pub mod Resending
 pub mod Views
 pub mod Moments
+pub mod Moved
 pub mod Steps
 pub mod Stills
 pub mod Requests

@@ -14,8 +14,11 @@ use Rattle.brick_store.specs.Bricks.{Brick}
 use Rattle.brick_store.specs.Images.{StandsFor}
 use Rattle.fab_base.specs.Layouts.{Layout, group_of}
 use Rattle.stripe_code.specs.Codes.{coding}
-use Rattle.protocol.specs.Views.{is_later, learns}
-use Rattle.protocol.specs.Nodes.{Node, NodeStep, no_step, requested, may_teach, node_learnt, node_taught, with_learnt}
+use Rattle.messages.specs.declared.packets.Packet.{Packet}
+use Rattle.synod_laws.specs.Synods.{Kept as Ballots}
+use Rattle.protocol.specs.Replicas.{Replica}
+use Rattle.protocol.specs.Views.{Learnt, is_later, learns}
+use Rattle.protocol.specs.Nodes.{Node, NodeStep, no_step, sending, requested, may_teach, node_learnt, node_taught, with_learnt}
 use Rattle.protocol.proofs.Served.{request_each}
 use Rattle.replica.specs.Parts.{IsPartsOf}
 use Rattle.replica.specs.Reactions.{IsStep, member_step, answer_packets}
@@ -41,8 +44,11 @@ record KeepsCalls (old : Node) (step : NodeStep) : Type 0 where
   answers : step.answers ≡ []
   reports : step.reports ≡ []
 
-same_calls : (node : Node) → KeepsCalls node (no_step node)
-same_calls node =
+-- whatever becomes of what is kept, and is sent
+keeps_by : (node : Node) (live : ℕ) (live_in : ℕ → ℕ → ℕ) (learnt : ℕ → Learnt) (ballots : ℕ → Ballots (List BrickId))
+    (replicas : ℕ → ℕ → ℕ → Replica) (packets : List Packet)
+    → KeepsCalls node (sending (record node { live = live; live_in = live_in; learnt = learnt; ballots = ballots; replicas = replicas }) packets)
+keeps_by node live live_in learnt ballots replicas packets =
     record {
       boot = refl;
       seq = refl;
@@ -57,22 +63,25 @@ same_calls node =
       reports = refl;
     }
 
+same_calls : (node : Node) → KeepsCalls node (no_step node)
+same_calls node = keeps_by node node.live node.live_in node.learnt node.ballots node.replicas []
+
 -- so a request does
 keeps_calls : (layout : Layout) (me from : BrickId) (node : Node) (call : Call) (request : Request)
     → KeepsCalls node (requested (coding layout) me from node call request)
 keeps_calls layout me from node call request =
     request_each (λ (step : NodeStep). KeepsCalls node step) (coding layout) me from node call request
     (same_calls node)
-    (λ reply moved. record same_calls node {})
-    (λ group seat is served. record same_calls node {})
-    (λ group ballot asks is. record same_calls node {})
+    (λ reply moved. keeps_by node _ _ _ _ _ _)
+    (λ group seat is served. keeps_by node _ _ _ _ _ _)
+    (λ group ballot asks is. keeps_by node _ _ _ _ _ _)
 
 -- what is learnt of a view changes what is kept alone
 learns_calls : (block g : ℕ) (node : Node) (view : View) → KeepsCalls node (no_step (node_taught block g node view))
 unfolding node_taught
 learns_calls block g node view =
     cond_both (is_later (node.learnt g) view) (with_learnt block g node (learns (node.learnt g) view)) node (λ (n : Node). KeepsCalls node (no_step n))
-    (λ later. record same_calls node {}) (λ isnt. same_calls node)
+    (λ later. keeps_by node _ _ _ _ _ _) (λ isnt. same_calls node)
 
 taught_calls : (layout : Layout) (node : Node) (group : GroupId) (view : View) → KeepsCalls node (no_step (node_learnt layout node group view))
 unfolding node_learnt

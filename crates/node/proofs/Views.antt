@@ -48,7 +48,7 @@ module _ {D : Type 0} (layout : Layout) (work : OpenWork) (store : Brick D) wher
   unfolding state_of state_with
   seen_so boot =
       let seen = state_in (parts_in layout store.state) work in
-      same_states _ _ (record keep_same seen { boot = sym boot }) refl refl
+      same_states _ _ (record (keep_same seen) { boot = sym boot }) refl refl
       (map_length (λ e. (e.0, coordinator_of e.1)) work.calls.operations.entries)
       (λ k. map_lookup coordinator_of (is_at (nat_cmp k)) work.calls.operations.entries)
 

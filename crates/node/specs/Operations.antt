@@ -12,15 +12,8 @@ use Rattle.protocol.specs.Settings.{Code}
 use Rattle.protocol.specs.Coordinators as machine
 use Rattle.protocol.specs.Coordinators.{Coordinator, counts_at, on_reply, with_reply}
 use Rattle.coord_phase.specs.Operations as phased
-use Rattle.node.specs.declared.operations.Kind.{Kind}
-use Rattle.node.specs.declared.operations.Kind.TheVariants.{Stripe, Block, Recovery}
 use Rattle.node.specs.declared.operations.Operation.{Operation}
-
--- what the coordinator of an operation of a kind shows
-abbrev pub shown_in : Kind → phased.Operation
-shown_in (Stripe op) = op
-shown_in (Block op) = op
-shown_in (Recovery op) = op
+use Rattle.node.specs.Kinds.{shown_in}
 
 -- what its coordinator shows of an operation
 abbrev pub shown_of : Operation → phased.Operation

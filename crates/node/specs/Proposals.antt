@@ -2,35 +2,24 @@
 use Rattle.std.specs.Prelude.{◌≡◌, ℕ, ◌+◌, Bool, false, if◌then◌else◌, List, Option, Some, None}
 use Rattle.std.specs.Option.{option_map}
 use Rattle.fab_base.specs.declared.identities.BrickId.{BrickId}
-use Rattle.fab_base.specs.declared.identities.GroupId.{GroupId}
-use Rattle.fab_base.specs.declared.member_lists.View.{View}
 use Rattle.fab_base.specs.Layouts.{Layout}
 use Rattle.messages.specs.declared.calls.Call.{Call}
 use Rattle.messages.specs.declared.packets.Message.{Message}
 use Rattle.messages.specs.declared.packets.Message.TheVariants as message
 use Rattle.messages.specs.declared.replies.Reply.{Reply}
-use Rattle.protocol.specs.declared.tellings.ViewAnswer.{ViewAnswer}
 use Rattle.protocol.specs.Proposals.{Proposal}
-use Rattle.protocol.specs.Nodes.{Node, NodeStep, ended_packets, replied_ballot, with_proposal}
+use Rattle.protocol.specs.Nodes.{Node, NodeStep, replied_ballot, with_proposal}
 use Rattle.view_synod.specs.Proposers.{Proposing, counts}
 use Rattle.coord_phase.specs.Messages.{packets_from}
 use Rattle.node.specs.declared.proposals.OpenProposal.{OpenProposal}
 use Rattle.node.specs.declared.proposals.Proposals.{Proposals}
 use Rattle.node.specs.Outcomes.{Outcome}
-
--- the machine's proposal of a proposer, until that has ended
-abbrev pub proposal_of : Option Proposing → Option Proposal
-proposal_of proposer = option_map (λ (x : Proposing). x.state) proposer
+use Rattle.node.specs.Proposers.{proposal_of}
 
 -- the machine's proposal of a brick that has this under way, if it has one
 abbrev pub proposal_in : Option OpenProposal → Option Proposal
 proposal_in None = None
 proposal_in (Some held) = proposal_of held.proposer
-
--- the proposer has not ended, and its proposal is about this view of this group
-abbrev pub IsAbout : GroupId → View → Option Proposing → Type 0
-IsAbout group view None = ⊥
-IsAbout group view (Some x) = (x.state.call.group ≡ group) × (x.state.view ≡ view)
 
 -- what is under way, if something is, is a proposal on a disk of so many bricks
 abbrev pub IsUnderWayOn : ℕ → Option OpenProposal → Type 0
@@ -45,11 +34,6 @@ AreProposalsOf layout proposals = IsUnderWayOn layout.bricks proposals.under_way
 abbrev pub counts_in : Option OpenProposal → BrickId → Message → Bool
 counts_in None from message = false
 counts_in (Some held) from message = counts held.proposer from.0 message
-
--- what is sent once a proposal about this view of this group ended so is the machine's
-abbrev pub EndsSo : Layout → GroupId → View → ViewAnswer → List (BrickId × Message) → Type 0
-EndsSo layout group view answer messages =
-    (me : BrickId) (p : Proposal) → p.call.group ≡ group → p.view ≡ view → packets_from me messages ≡ ended_packets layout me p answer
 
 -- What is sent, told, answered and reported is the machine's, and of its brick only the proposal has changed, to this.
 pub record GoesAs (me : BrickId) (node : Node) (step : NodeStep) (outs : Outcome) (left : Option OpenProposal) : Type 0 where

@@ -4,6 +4,7 @@
 #![tactic(auto)]
 
 pub mod faults;
+mod learnt_views;
 pub mod nodes;
 mod numbered;
 pub mod open_calls;
@@ -14,7 +15,6 @@ pub mod proposals;
 mod refusals;
 mod sending;
 mod teaching;
-mod views;
 
 pub use faults::NodeFault;
 pub use nodes::Node;

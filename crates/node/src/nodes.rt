@@ -31,11 +31,11 @@ ghost use Rattle.node.specs.Running.{shape_at, state_of, IsKept, ImageShows, IsS
 ghost use Rattle.node.specs.Teaching.{is_taught};
 
 use crate::faults::NodeFault;
+use crate::learnt_views::{do_lists_stand, learnt_number, learnt_view};
 use crate::open_work::OpenWork;
 use crate::outs::{Begun, Outs};
 use crate::sending::answer_messages;
 use crate::teaching::{is_view, view_told};
-use crate::views::{do_lists_stand, learnt_number, learnt_view};
 use brick_store::{BrickStore, OpenFault, State};
 use fab_base::{Ask, BrickId, GroupId, Refusal, StripeNo, View};
 use fab_disk::{Armed, Disk, Plan};

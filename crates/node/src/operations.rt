@@ -3,12 +3,10 @@
 ghost use Rattle.std.specs.Prelude.{◌≡◌, [], ◌∷◌, ◌++◌, Some};
 ghost use Rattle.protocol.specs.declared.phases.Counted.{Counted};
 ghost use Rattle.protocol.specs.Coordinators.{mover_of, lowest_mover};
-ghost use Rattle.coord_phase.specs.Operations.{with_state, without_last};
-ghost use Rattle.node.specs.Decisions.{messages_in};
-ghost use Rattle.node.specs.Operations.{shown_in};
+ghost use Rattle.node.specs.Kinds.{shown_in};
 
 use crate::outs::Outs;
-use crate::sending::put_collects;
+use crate::sending::{messages_in, put_collects};
 use crate::teaching::teaching;
 use coord_block::BlockOp;
 use coord_phase::{News, Stage};
@@ -20,16 +18,6 @@ use messages::{Call, Message, Messages, Next, Reply};
 use protocol::{Answered, Counted, Mover, Told};
 use stamp_store::StampSource;
 use std::alloc::Global;
-
-/// The messages that are sent; none where nothing is.
-fn messages_in(alloc: Global, next: Next) -> Messages
-    ensures { result.items ≡ messages_in next }
-{
-    match next {
-        Next::Send(messages) => messages,
-        Next::Wait | Next::End(_) | Next::Recover(_) => Vec::new(alloc),
-    }
-}
 
 /// The member that told a later view, where this reply tells one.
 fn mover_of(counted: &Counted) -> Option<Mover>
@@ -89,7 +77,7 @@ impl Operation {
     ghost use Rattle.coord_phase.specs.Messages.{phase_messages};
     ghost use Rattle.protocol.specs.Nodes.{view_in};
     ghost use Rattle.protocol.specs.Coordinators as machine;
-    ghost use Rattle.coord_phase.specs.Operations.{counts, heard};
+    ghost use Rattle.coord_phase.specs.Operations.{counts, heard, with_state, without_last};
     ghost use Rattle.node.specs.declared.operations.Kind.TheVariants as kind;
     ghost use Rattle.node.specs.Operations.{shown_of, coordinator_of, EndsOrWaits, IsOperationOf};
     ghost use Rattle.node.specs.Teaching.{teaching};

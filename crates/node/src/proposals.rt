@@ -1,7 +1,7 @@
 //! The proposal of a brick.
 
 ghost use Rattle.std.specs.Prelude.{◌≡◌, ◌≤◌, IfOk, length, vec_len};
-ghost use Rattle.node.specs.Proposals.{IsAbout, EndsSo};
+ghost use Rattle.node.specs.Proposers.{IsAbout, EndsSo};
 
 use crate::outs::Outs;
 use crate::teaching::{learn_messages, teaching};
@@ -67,7 +67,8 @@ impl OpenProposal {
     ghost use Rattle.fab_base.specs.declared.identities.BrickId.{BrickId};
     ghost use Rattle.protocol.specs.Nodes.{ballot_resent};
     ghost use Rattle.coord_phase.specs.Messages.{packets_from};
-    ghost use Rattle.node.specs.Proposals.{proposal_of, IsUnderWayOn, HearsSo};
+    ghost use Rattle.node.specs.Proposals.{IsUnderWayOn, HearsSo};
+    ghost use Rattle.node.specs.Proposers.{proposal_of};
 
     /// An equal value.
     fn copy(&self, alloc: Global) -> Result<OpenProposal, NoMem>
