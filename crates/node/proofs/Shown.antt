@@ -39,7 +39,7 @@ failed T fault = Err fault
 
 module _ {D : Type 0} (d : on_disk.Ghosts D) where
   -- the brick shows what its store keeps
-  pub shown_so : (layout : Layout) (work : OpenWork) (store : Brick D) (disk : D) → IsBrickOf layout store.shape store.state calls
+  pub shown_so : (layout : Layout) (work : OpenWork) (store : Brick D) (disk : D) → IsBrickOf layout store.shape store.state work
       → Stands d (StandsFor store.shape store.state) disk → Stands d (ImageShows layout work.me (state_of (running layout work store))) disk
   shown_so layout work store disk is stands = record {
     only = stands.only;
@@ -59,7 +59,7 @@ module _ {D : Type 0} (d : on_disk.Ghosts D) where
 
   -- the store's change, for the machine's brick that it shows, is the brick's
   pub change_so : (layout : Layout) (work : OpenWork) (from : BrickId) (message : Message) (old new : Brick D) (node : Running D) (end : End)
-      → running layout work old ≡ node → IsBrickOf layout old.shape old.state calls
+      → running layout work old ≡ node → IsBrickOf layout old.shape old.state work
       → (d.tells → Stands d (StandsFor old.shape old.state) old.disk)
       → ((machine : Node) → IsPartsOf layout old.state machine
       → KeepsNext d (message_append layout (me_of old) from machine message) (IsStep layout (me_of old) from message old.state) old new end)
