@@ -130,8 +130,8 @@ pub record IsUnharmed {D L C : Type 0} (v : Views D L C) (disk back : D) : Type 
   pub content : v.disk.seen back ≡ v.disk.seen disk
   pub crash : (image : List ℕ) → v.disk.may_leave back image → v.disk.may_leave disk image
 
--- Why it is not opened: the disk holds no store, and is unharmed, or one that keeps a list of members of a group of the layout that may not keep this; or one
--- that was opened as often as it can be, and is unharmed; or the disk failed, or no memory was left.
+-- Why it is not opened: the disk holds no store, and is unharmed, or one that keeps a list which may not be the members of a group of the layout; or one that
+-- was opened as often as it can be, and is unharmed; or the disk failed, or no memory was left.
 abbrev pub RefusesStore : {D L C : Type 0} → Views D L C → Layout → BrickId → D → D → Ending → Type 0
 RefusesStore v layout me disk back NotAStore = v.disk.tells → (IsNoStore (shape_at layout me) (v.disk.seen disk) × IsUnharmed v disk back)
     ⊎ ((st : StateOf Version) × IsFound (shape_at layout me) st (v.disk.seen disk) × (ListsStand layout st → ⊥))
@@ -165,7 +165,7 @@ ServesBrick v layout (Some me) turns before after name out said ending =
 
 -- ---- what may be served
 
--- the disk tells the store of this layout and brick, whose lists of members may keep the layout's groups, and which can be opened
+-- the disk tells the store of this layout and brick, each list of which may be the members of its group, and which can be opened
 pub record MayStart {D : Type 0} (tells : Type 0) (seen : D → List ℕ) (layout : Layout) (me : BrickId) (disk : D) : Type 0 where
   pub told : tells
   pub st : StateOf Version
