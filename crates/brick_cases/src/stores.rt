@@ -68,7 +68,7 @@ pub(crate) fn learnt_store(alloc: Global, members: &str) -> io::Result<MemDisk> 
     }
 }
 
-/// How many openings the store on a disk has counted, with that of a copy of it, which is opened here.
+/// Which opening the next one of the store on a disk is, by the count of a copy, which is opened here.
 pub(crate) fn next_opening(alloc: Global, disk: &MemDisk) -> io::Result<u32> {
     let copy = MemDisk::new(alloc, disk.content(alloc)?);
     Ok(open(alloc, copy)?.boot())
