@@ -185,12 +185,19 @@ fn count_text(alloc: Global, lines: u64, marks: &[Mark]) -> Result<String, NoMem
     )?)
 }
 
+/// The value that is pointed to. Its numbers are those of its type.
+fn value_at<T: Copy>(place: &T) -> T
+    ensures { result ≡ place.now }
+{
+    *place
+}
+
 /// Looks at the numbers of bricks, which are those of their type.
 fn look_at_bricks(bricks: &[BrickId])
     ensures { BricksRead bricks.now }
 {
     for brick in bricks {
-        let _number = brick.0;
+        let _brick = value_at(brick);
     }
 }
 
@@ -200,17 +207,17 @@ fn look_at_view_answer(answer: &ViewAnswer)
 {
     match answer {
         ViewAnswer::Decided { view, members } => {
-            let _number = view.0;
+            let _view = value_at(view);
             look_at_bricks(members.as_slice());
         }
         ViewAnswer::Outbid { ballot } => {
-            let _ballot = *ballot;
+            let _ballot = value_at(ballot);
         }
         ViewAnswer::NotSynced { brick } => {
-            let _number = brick.0;
+            let _brick = value_at(brick);
         }
         ViewAnswer::Moved { view } => {
-            let _number = view.0;
+            let _view = value_at(view);
         }
         ViewAnswer::BadMembers => {}
     }
@@ -222,14 +229,14 @@ fn look_at_sync_answer(answer: &SyncAnswer)
 {
     match answer {
         SyncAnswer::Synced { view } => {
-            let _number = view.0;
+            let _view = value_at(view);
         }
         SyncAnswer::Stopped { stripe, cause } => {
-            let _number = stripe.0;
-            let _cause = *cause;
+            let _stripe = value_at(stripe);
+            let _cause = value_at(cause);
         }
         SyncAnswer::Spent { stripe } => {
-            let _number = stripe.0;
+            let _stripe = value_at(stripe);
         }
     }
 }
@@ -240,11 +247,11 @@ fn look_at_report(report: &Report)
 {
     match report {
         Report::View { group, answer, .. } => {
-            let _number = group.0;
+            let _group = value_at(group);
             look_at_view_answer(answer);
         }
         Report::Sync { group, answer } => {
-            let _number = group.0;
+            let _group = value_at(group);
             look_at_sync_answer(answer);
         }
     }
