@@ -47,6 +47,13 @@ pub state_live : (node : Running MemDisk) → (state_of node).live ≡ live node
 unfolding state_of
 state_live node = refl
 
+-- so many records are used, of so many
+pub room_decides : (live records used most : ℕ) → live ≡ used → most ≡ records → Decides (nat_le (used + 2) most) (live + 2 ≤ records)
+room_decides live records used most same are = (
+  λ on. let fits : used + 2 ≤ most = grind (arith, nat_tests, on) in omega (arith, fits, same, are),
+  λ fits. (let e : nat_le (used + 2) most ≡ true = grind (arith, nat_tests, fits, same, are) in e),
+)
+
 -- a store tells which view of a group its brick has learnt, and what list that has accepted to follow it
 view_told : (node : Running MemDisk) (g : ℕ) → view_at (state_of node) g ≡ learnt_of (group_at node.brick.state g)
 unfolding state_of

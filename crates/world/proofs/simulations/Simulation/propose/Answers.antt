@@ -51,7 +51,7 @@ returns-clause-ok c =
     in
     subst (λ (members : List BrickId). IfOk c.begin_proposal.result
     (TakesEvent c.args.layout.now c.args.self.now c.begin_proposal.new.self (Proposes (brick_of c.args.brick) (group_no c.args.group) members)))
-    (c.deref-members.ensures.value ∙ c.in_ok-members.ensures)
+    (c.deref-2.ensures.value ∙ c.in_ok-members.ensures)
     (subst (λ (group : GroupId). IfOk c.begin_proposal.result
     (TakesEvent c.args.layout.now c.args.self.now c.begin_proposal.new.self (Proposes (brick_of c.args.brick) group _)))
     c.in-Some-group_of.ensures.some
