@@ -71,6 +71,13 @@ last_told node g = by (group_at node.brick.state g).ballots
     by None = refl
     by (Some (promised, last)) = refl
 
+-- there is none where not some is there
+pub none_is : {A : Type 0} (found : Option A) (none : Bool) → is_some found ≡ not none → is_none found ≡ none
+none_is None true is = refl
+none_is (Some x) false is = refl
+none_is None false is = absurd (let never : false ≡ true = is in cc)
+none_is (Some x) true is = absurd (let never : true ≡ false = is in cc)
+
 -- so by what it tells the brick serves view 1, or not
 pub serves_later : (node : Running MemDisk) (g learnt : ℕ) → learnt ≡ learnt_of (group_at node.brick.state g) → learnt ≢ 1
     → Decides false (ServesFirst (state_of node) g)
