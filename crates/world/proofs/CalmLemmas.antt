@@ -47,6 +47,13 @@ pub state_live : (node : Running MemDisk) → (state_of node).live ≡ live node
 unfolding state_of
 state_live node = refl
 
+-- so many records are used, of so many
+pub room_decides : (live records used most : ℕ) → live ≡ used → most ≡ records → Decides (nat_le (used + 2) most) (live + 2 ≤ records)
+room_decides live records used most same are = (
+  λ on. let fits : used + 2 ≤ most = grind (arith, nat_tests, on) in omega (arith, fits, same, are),
+  λ fits. (let e : nat_le (used + 2) most ≡ true = grind (arith, nat_tests, fits, same, are) in e),
+)
+
 -- a store tells which view of a group its brick has learnt, and what list that has accepted to follow it
 view_told : (node : Running MemDisk) (g : ℕ) → view_at (state_of node) g ≡ learnt_of (group_at node.brick.state g)
 unfolding state_of
@@ -63,6 +70,13 @@ last_told node g = by (group_at node.brick.state g).ballots
     by : (kept : Kept (List BrickId)) → last_of kept ≡ option_and_then (λ b. b.1) kept
     by None = refl
     by (Some (promised, last)) = refl
+
+-- there is none where not some is there
+pub none_is : {A : Type 0} (found : Option A) (none : Bool) → is_some found ≡ not none → is_none found ≡ none
+none_is None true is = refl
+none_is (Some x) false is = refl
+none_is None false is = absurd (let never : false ≡ true = is in cc)
+none_is (Some x) true is = absurd (let never : true ≡ false = is in cc)
 
 -- so by what it tells the brick serves view 1, or not
 pub serves_later : (node : Running MemDisk) (g learnt : ℕ) → learnt ≡ learnt_of (group_at node.brick.state g) → learnt ≢ 1

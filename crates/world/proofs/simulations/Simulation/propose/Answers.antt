@@ -51,10 +51,10 @@ returns-clause-ok c =
     in
     subst (λ (members : List BrickId). IfOk c.begin_proposal.result
     (TakesEvent c.args.layout.now c.args.self.now c.begin_proposal.new.self (Proposes (brick_of c.args.brick) (group_no c.args.group) members)))
-    (c.deref-members.ensures.value ∙ c.in_ok-members.ensures)
+    (c.deref-2.ensures.value ∙ c.in_ok-members.ensures)
     (subst (λ (group : GroupId). IfOk c.begin_proposal.result
-    (TakesEvent c.args.layout.now c.args.self.now c.begin_proposal.new.self (Proposes (brick_of c.args.brick) group _)))
+    (TakesEvent c.args.layout.now c.args.self.now c.begin_proposal.new.self (Proposes (brick_of c.args.brick) group c.deref-2.result.now)))
     c.in-Some-group_of.ensures.some
     (subst (λ (brick : BrickId). IfOk c.begin_proposal.result
-    (TakesEvent c.args.layout.now c.args.self.now c.begin_proposal.new.self (Proposes brick c.in-Some-group_of.group _))) found.0
+    (TakesEvent c.args.layout.now c.args.self.now c.begin_proposal.new.self (Proposes brick c.in-Some-group_of.group c.deref-2.result.now))) found.0
     c.begin_proposal.ensures.ok))

@@ -89,9 +89,9 @@ returns-in-SetClock-clause-ok c =
 pub returns-in-Calm-clause-ok : goal.returns-in-Calm-clause-ok
 returns-in-Calm-clause-ok c =
     subst (λ (line : Line). IfOk c.calm.result (RunsLine c.args.layout.now c.args.self.now c.calm.new.self line))
-    (ap (Calm c.in-Calm.operation) c.as_slice.ensures ∙ sym c.in-Calm.is) c.calm.ensures.ok
+    (ap (Calm c.in-Calm.operation) c.as_slice-in-Calm.ensures ∙ sym c.in-Calm.is) c.calm.ensures.ok
 
 pub returns-in-Calm-clause-err : goal.returns-in-Calm-clause-err
 returns-in-Calm-clause-err c =
     subst (λ (line : Line). OnErr c.calm.result (RefusesLine c.args.layout.now c.args.self.now c.calm.new.self line))
-    (ap (Calm c.in-Calm.operation) c.as_slice.ensures ∙ sym c.in-Calm.is) c.calm.ensures.err
+    (ap (Calm c.in-Calm.operation) c.as_slice-in-Calm.ensures ∙ sym c.in-Calm.is) c.calm.ensures.err
