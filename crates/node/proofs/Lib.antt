@@ -17,3 +17,4 @@ pub mod Requests
 pub mod Starts
 pub mod Sent
 pub mod Shown
+pub mod Turns

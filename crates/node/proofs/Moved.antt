@@ -19,11 +19,15 @@ use Rattle.protocol.specs.Coordinators.{Coordinator, Next, Waits, counts_at, cou
 use Rattle.protocol.proofs.CountsAt.{CountsAt, counts_facts}
 use Rattle.node.specs.Operations.{EndsOrWaits}
 
+-- a member that told a later view aborts the operation, whatever else would be done
+moved_first : (o : Option Mover) (m : Mover) (next : Next) → o ≡ Some m → unless_told_moved o next ≡ aborted_moved m
+moved_first o m next is = ap (λ (told : Option Mover). unless_told_moved told next) is
+
 -- where some member told a later view, the operation is aborted by the one of the lowest seat
 decided_by : (block : ℕ) (code : Code) (fresh : Option Stamp) (c : Coordinator) (m : Mover) → lowest_mover c.counted ≡ Some m
     → decided block code fresh c ≡ aborted_moved m
 unfolding decided
-decided_by block code fresh c m lowest = ap (λ (o : Option Mover). unless_told_moved o _) lowest
+decided_by block code fresh c m lowest = moved_first (lowest_mover c.counted) m _ lowest
 
 -- a brick that is no member ends nothing
 pub no_member : (c : Coordinator) (from : BrickId) (view : ViewNo) → seat_in c.group.members from.0 ≡ None → EndsOrWaits c from view None

@@ -15,7 +15,7 @@ use Rattle.node.specs.declared.operations.Operation.{Operation}
 use Rattle.node.specs.Operations.{shown_of}
 use Rattle.node.specs.Decisions.{or_waits, packets_in, told_in, answers_in, known_by, left_by, left_open, KeepsCall}
 use Rattle.node.specs.States.{AreCallsAfter, IsAt}
-use Rattle.node.proofs.States.{same_states, keep_same}
+use Rattle.node.proofs.States.{same_but}
 
 -- to change a function where it has the value already changes nothing
 pub put_held : {X : Type 0} (f : ℕ → X) (k : ℕ) (v : X) (i : ℕ) (b : Bool) → f k ≡ v → nat_eq i k ≡ b → f i ≡ cond b v (f i)
@@ -26,7 +26,7 @@ put_held f k v i false held e = refl
 waits_is : (layout : Layout) (me : BrickId) (node : Node) (known : ℕ) (c : Coordinator) (next : Next) → node.calls c.call.seq ≡ Some c
     → carried_out (coding layout) me node known c next ≡ carried_out (coding layout) me node known c (or_waits c next)
 waits_is layout me node known c Ignores held =
-    ap no_step (same_states _ _ (keep_same (with_known node known)) refl refl refl
+    ap no_step (same_but (with_known node known) node.boot node.seq known node.busy (put node.calls c.call.seq (Some c)) refl refl refl refl
     (λ k. put_held node.calls c.call.seq (Some c) k (nat_eq k c.call.seq) held refl))
 waits_is layout me node known c (Waits d) held = refl
 waits_is layout me node known c (Sends d) held = refl

@@ -128,17 +128,9 @@ module _ {D : Type 0} (layout : Layout) (work : OpenWork) (old : Brick D) (from 
       let node = state_of (running layout work old) in
       let keeps = serves_calls layout work.calls.me from node message in
       let parts = is.parts node seen_parts in
-      same_states _ _ (record {
-        boot = sym parts.boot;
-        round = sym keeps.round;
-        live = sym parts.live;
-        live_in = λ g e. sym (parts.live_in g e);
-        learnt = λ g. sym (parts.learnt g);
-        ballots = λ g. sym (parts.ballots g);
-        replicas = λ g e s. sym (parts.replicas g e s);
-        proposal = sym keeps.proposal;
-        job = sym keeps.job;
-      }) (sym keeps.seq) (sym keeps.known) (sym keeps.busy) (λ k. ap (λ (f : ℕ → Option _). f k) (sym keeps.calls))
+      same_states _ _ (sym parts.boot) (sym keeps.seq) (sym keeps.known) (sym keeps.round) (sym keeps.busy) (sym parts.live)
+      (λ g e. sym (parts.live_in g e)) (λ g. sym (parts.learnt g)) (λ g. sym (parts.ballots g)) (λ g e s. sym (parts.replicas g e s))
+      (λ k. ap (λ (f : ℕ → Option _). f k) (sym keeps.calls)) (sym keeps.proposal) (sym keeps.job)
 
   -- and keeps all as it was, where no call keeps the message
   pub follows_still : (new : Brick D) (answer : Option Message) → Follows answer new.state

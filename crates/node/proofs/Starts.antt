@@ -42,17 +42,12 @@ restarts_so layout me work store boot node image own same fresh shows counted =
     counted_is (shape_at layout me) image store.state counted shows.st shows.stands in
     seen_so layout work store own
     ∙ fresh (parts_in layout store.state)
-    ∙ same_states _ _ (record {
-      boot = same ∙ ap (λ (st : StateOf Version). st.boot) is ∙ ap (λ b. b + 1) (sym shows.parts.boot);
-      round = refl;
-      live = ap (λ (st : StateOf Version). live st) is ∙ sym shows.parts.live;
-      live_in = λ g e. ap (λ (st : StateOf Version). live_at st g e) is ∙ sym (shows.parts.live_in g e);
-      learnt = λ g. ap (λ (st : StateOf Version). learnt_in layout st g) is ∙ sym (shows.parts.learnt g);
-      ballots = λ g. ap (λ (st : StateOf Version). ballots_in st g) is ∙ sym (shows.parts.ballots g);
-      replicas = λ g e s. ap (λ (st : StateOf Version). part_in layout.block st g e s) is ∙ sym (shows.parts.replicas g e s);
-      proposal = refl;
-      job = refl;
-    }) refl refl refl (λ k. refl)
+    ∙ same_states _ _ (same ∙ ap (λ (st : StateOf Version). st.boot) is ∙ ap (λ b. b + 1) (sym shows.parts.boot)) refl refl refl refl
+    (ap (λ (st : StateOf Version). live st) is ∙ sym shows.parts.live)
+    (λ g e. ap (λ (st : StateOf Version). live_at st g e) is ∙ sym (shows.parts.live_in g e))
+    (λ g. ap (λ (st : StateOf Version). learnt_in layout st g) is ∙ sym (shows.parts.learnt g))
+    (λ g. ap (λ (st : StateOf Version). ballots_in st g) is ∙ sym (shows.parts.ballots g))
+    (λ g e s. ap (λ (st : StateOf Version). part_in layout.block st g e s) is ∙ sym (shows.parts.replicas g e s)) (λ k. refl) refl refl
 
 module _ {D : Type 0} (d : on_disk.Ghosts D) (layout : Layout) (me : BrickId) (old new : D) where
   before_shows : (node : Node) (first : List ℕ) (shows : ImageShows layout me node first) (image : List ℕ)

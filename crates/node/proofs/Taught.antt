@@ -18,6 +18,13 @@ each_taught_is me group view (sent ∷ messages) =
     ap (λ (rest : List Packet). record { from = me; to = sent.0; message = Message.Learn group view } ∷ (record { from = me; to = sent.0; message = sent.1 } ∷ rest))
     (each_taught_is me group view messages)
 
+-- one message more goes with the one that teaches its receiver
+pub each_taught_more : (group : GroupId) (view : View) (messages : List (BrickId × Message)) (sent : BrickId × Message)
+    → each_taught group view (messages ++ (sent ∷ [])) ≡ each_taught group view messages ++ ((sent.0, Message.Learn group view) ∷ (sent ∷ []))
+each_taught_more group view [] sent = refl
+each_taught_more group view (first ∷ messages) sent =
+    ap (λ (rest : List (BrickId × Message)). (first.0, Message.Learn group view) ∷ (first ∷ rest)) (each_taught_more group view messages sent)
+
 -- messages of a view are the machine's
 pub teaching_is : (me : BrickId) (group : GroupId) (view : View) (messages : List (BrickId × Message))
     → packets_from me (teaching group view messages) ≡ machine.teaching group view (packets_from me messages)

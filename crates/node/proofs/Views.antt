@@ -19,7 +19,7 @@ use Rattle.node.specs.declared.operations.Operation.{Operation}
 use Rattle.node.specs.Operations.{coordinator_of}
 use Rattle.node.specs.States.{state_with, state_in, parts_in}
 use Rattle.node.specs.Running.{coordinators, running, state_of, shape_at, IsKept, IsBrickOf, ImageShows}
-use Rattle.node.proofs.States.{same_states, keep_same}
+use Rattle.node.proofs.States.{same_states}
 use Rattle.node.proofs.Tables.{map_cond}
 
 -- as many as before
@@ -47,10 +47,8 @@ module _ {D : Type 0} (layout : Layout) (work : OpenWork) (store : Brick D) wher
   pub seen_so : work.calls.stamps.boot ≡ store.state.boot → state_of (running layout work store) ≡ state_in (parts_in layout store.state) work
   unfolding state_of state_with
   seen_so boot =
-      let seen = state_in (parts_in layout store.state) work in
-      same_states _ _ (record (keep_same seen) { boot = sym boot }) refl refl
-      (map_length (λ e. (e.0, coordinator_of e.1)) work.calls.operations.entries)
-      (λ k. map_lookup coordinator_of (is_at (nat_cmp k)) work.calls.operations.entries)
+      same_states _ _ (sym boot) refl refl refl (map_length (λ e. (e.0, coordinator_of e.1)) work.calls.operations.entries) refl (λ g e. refl) (λ g. refl)
+      (λ g. refl) (λ g e s. refl) (λ k. map_lookup coordinator_of (is_at (nat_cmp k)) work.calls.operations.entries) refl refl
 
   -- what the machine's brick keeps is what the store keeps
   pub kept_so : IsBrickOf layout store.shape store.state work → IsKept layout store.state (state_of (running layout work store))

@@ -1,5 +1,5 @@
 -- A proposer, and what its proposal is about.
-use Rattle.std.specs.Prelude.{◌≡◌, List, Option, Some, None}
+use Rattle.std.specs.Prelude.{◌≡◌, List, Option}
 use Rattle.std.specs.Option.{option_map}
 use Rattle.fab_base.specs.declared.identities.BrickId.{BrickId}
 use Rattle.fab_base.specs.declared.identities.GroupId.{GroupId}
@@ -16,10 +16,9 @@ use Rattle.coord_phase.specs.Messages.{packets_from}
 abbrev pub proposal_of : Option Proposing → Option Proposal
 proposal_of proposer = option_map (λ (x : Proposing). x.state) proposer
 
--- the proposer has not ended, and its proposal is about this view of this group
-abbrev pub IsAbout : GroupId → View → Option Proposing → Type 0
-IsAbout group view None = ⊥
-IsAbout group view (Some x) = (x.state.call.group ≡ group) × (x.state.view ≡ view)
+-- the group and the view that the proposal of a proposer is about, until that has ended
+abbrev pub about_in : Option Proposing → Option (GroupId × View)
+about_in proposer = option_map (λ (x : Proposing). (x.state.call.group, x.state.view)) proposer
 
 -- what is sent once a proposal about this view of this group ended so is the machine's
 abbrev pub EndsSo : Layout → GroupId → View → ViewAnswer → List (BrickId × Message) → Type 0

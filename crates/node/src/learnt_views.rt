@@ -4,8 +4,9 @@ ghost use Rattle.std.specs.Prelude.{◌≡◌, ◌<◌, true, false, Some, optio
 ghost use Rattle.fab_base.specs.Layouts as layouts;
 ghost use Rattle.fab_base.specs.Layouts.{group_of, most_groups};
 ghost use Rattle.quorum.specs.Quorums.{IsWithinLimits};
+ghost use Rattle.brick_state.specs.States.{group_at};
 ghost use Rattle.protocol.specs.Views.{may_be_taught};
-ghost use Rattle.replica.specs.Parts.{learnt_in, may_be_accepted, ListsStand};
+ghost use Rattle.replica.specs.Parts.{learnt_in, lists_stand, may_be_accepted, ListsStand};
 
 use crate::teaching::is_view;
 use brick_state::MOST_GROUPS;
@@ -62,17 +63,23 @@ fn may_be_accepted(m: u8, bricks: u16, accepted: Option<(Ballot, Members)>) -> b
     }
 }
 
-/// Whether the lists of members that a store keeps of the layout's groups may keep these: those of each view that was learnt, and of each that was accepted.
+/// Whether the lists of members that a store keeps of a group may keep it: those of the view that was learnt, and the one that was accepted.
+fn stand_of<D: Disk>(store: &BrickStore<D>, number: GroupId, m: u8, bricks: u16) -> bool
+    requires few { number.0 < most_groups }
+    ensures { result ≡ lists_stand m bricks (group_at store.now.state number.0) }
+{
+    may_be_taught(m, bricks, store.known_view(number))
+        && may_be_accepted(m, bricks, store.accepted(number))
+}
+
+/// Whether the lists of members that a store keeps of the layout's groups may keep these.
 pub(crate) fn do_lists_stand<D: Disk>(store: &BrickStore<D>, layout: &Layout) -> bool
     ensures stand { result ≡ true → ListsStand layout.now store.now.state }
     ensures fall { result ≡ false → ListsStand layout.now store.now.state → ⊥ }
 {
     let bricks = layout.bricks();
     for (number, group) in layout.groups().iter().enumerate() {
-        let id = GroupId(number as u32);
-        if !may_be_taught(group.m(), bricks, store.known_view(id))
-            || !may_be_accepted(group.m(), bricks, store.accepted(id))
-        {
+        if !stand_of(store, GroupId(number as u32), group.m(), bricks) {
             return false;
         }
     }

@@ -1,7 +1,7 @@
 //! The proposal of a brick.
 
-ghost use Rattle.std.specs.Prelude.{◌≡◌, ◌≤◌, IfOk, length, vec_len};
-ghost use Rattle.node.specs.Proposers.{IsAbout, EndsSo};
+ghost use Rattle.std.specs.Prelude.{◌≡◌, ◌≤◌, Some, IfOk, length, vec_len};
+ghost use Rattle.node.specs.Proposers.{about_in, EndsSo};
 
 use crate::outs::Outs;
 use crate::teaching::{learn_messages, teaching};
@@ -18,7 +18,7 @@ pub struct OpenProposal {
     group: GroupId,
     view: View,
     proposer: Proposer,
-    ghost about: { IsAbout group view proposer },
+    ghost about: { about_in proposer ≡ Some (group, view) },
 }
 
 /// A brick's proposals: the rounds of its ballots, and the proposal that it has under way, at most one.

@@ -24,6 +24,7 @@ fn learn_message(alloc: Global, group: GroupId, view: &View) -> Result<Message, 
 }
 
 /// These messages of a view; where it is later than view 1, each right after one that teaches its receiver the view.
+#[tactic(auto, using(crate::proofs::Taught::each_taught_more))]
 pub(crate) fn teaching(
     alloc: Global,
     group: GroupId,

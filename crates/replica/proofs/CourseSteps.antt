@@ -1,6 +1,6 @@
 -- The course of a request is the step of the machine.
-use Rattle.std.proofs.Common.{◌≡◌, ℕ, ◌<◌, ◌≤◌, Bool, true, false, not, cond, eqb, ltb, Option, Some, None, List, refl, sym, ap, subst, ◌∙◌, arith, ◌+◌, ◌-◌, length}
-use Rattle.std.specs.Prelude.{◌&&◌, ◌||◌, nat_lt, nat_le, nat_eq, is_some, IsSome}
+use Rattle.std.proofs.Common.{◌≡◌, ℕ, ◌≤◌, Bool, true, false, not, cond, eqb, Option, Some, None, List, refl, sym, ap, subst, ◌∙◌, arith, ◌-◌, length}
+use Rattle.std.specs.Prelude.{◌&&◌, nat_lt, nat_le, nat_eq, is_some, IsSome}
 use Rattle.std.specs.List.{list_all}
 use Rattle.std.specs.Option.{ForSome, option_map}
 use Rattle.std.proofs.lemmas.Bool.{and_parts, or_parts, eqb-true}
@@ -23,10 +23,10 @@ use Rattle.layout.specs.Limits.{IsLayout}
 use Rattle.synod_laws.specs.Synods.{Kept}
 use Rattle.stripe_code.specs.Codes.{coding}
 use Rattle.protocol.specs.Views.{Learnt, first_learnt, group_kept, kept_by, is_view}
-use Rattle.protocol.specs.Nodes.{Node, NodeStep, no_step, group_at, has_accepted, is_void, requested_in, requested_as, requested_at, served_unless, seat_now, moved_at, fits}
+use Rattle.protocol.specs.Nodes.{Node, NodeStep, no_step, group_at, is_void, requested_in, requested_as, requested_at, served_unless, seat_now, moved_at, fits}
 use Rattle.replica.specs.Members.{Member}
 use Rattle.replica.specs.declared.courses.Course.{Course}
-use Rattle.replica.specs.declared.courses.Course.TheVariants.{Void, Tell, Serve, Vote}
+use Rattle.replica.specs.declared.courses.Course.TheVariants.{Void, Serve, Vote}
 use Rattle.replica.specs.Parts.{IsPartsOf, learnt_or, learnt_in, ballots_in}
 use Rattle.replica.specs.Courses.{fits_block, seat_under, is_void_at, moved_under, served_at, served_unless_moved, course_as, course_in, course_of, course_step, ServesAs, VotesBy}
 
@@ -53,7 +53,6 @@ module _ (layout : Layout) (me from : BrickId) (node : Node) (call : Call) where
   unless_moved asked m seat (Some reply) = refl
 
   moved_is : moved_at node call ≡ moved_under learnt_here (node.ballots call.group.0) call
-  unfolding has_accepted
   moved_is = refl
 
   moves : (asked : Request) (m : ℕ) (seat : Option ℕ) → served_unless (coding layout) m me from node call asked seat (moved_at node call)

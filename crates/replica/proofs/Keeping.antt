@@ -1,5 +1,5 @@
 -- A vote, and a view that is learnt, from the change of the store that they make.
-use Rattle.std.proofs.Common.{◌≡◌, ◌≢◌, ℕ, ◌<◌, Bool, true, false, cond, Option, Some, None, List, Result, Ok, Err, length, refl, sym, ap, subst, ◌∙◌, eq-eqb}
+use Rattle.std.proofs.Common.{◌≡◌, ℕ, ◌<◌, Bool, true, false, cond, Option, Some, None, List, Result, Ok, refl, sym, ap, subst, ◌∙◌, eq-eqb}
 use Rattle.std.specs.Prelude.{◌&&◌}
 use Rattle.std.specs.Option.{option_map}
 use Rattle.std.proofs.lemmas.Bool.{and_parts}
@@ -23,12 +23,12 @@ use Rattle.brick_store.specs.Ends.{BrickChange}
 use Rattle.brick_store.specs.Ends as store_ends
 use Rattle.brick_store.specs.Sizes.{ballots_size, view_size}
 use Rattle.synod_laws.specs.Synods.{Kept, last_of}
-use Rattle.protocol.specs.Views.{Learnt, is_later}
-use Rattle.protocol.specs.Ballots.{Voted, voting}
-use Rattle.protocol.specs.Nodes.{Node, NodeStep, may_teach, with_learnt, node_taught, node_learnt, no_step}
+use Rattle.protocol.specs.Views.{Learnt, is_later, learns}
+use Rattle.protocol.specs.Ballots.{Voted}
+use Rattle.protocol.specs.Nodes.{Node, may_teach, with_learnt, node_taught, node_learnt}
 use Rattle.replica.specs.declared.faults.ReplicaFault.{ReplicaFault}
 use Rattle.replica.specs.Parts.{ballots_in, learnt_in, is_to_learn, IsPartsOf}
-use Rattle.replica.specs.Reactions.{IsVoted, IsStep, member_step}
+use Rattle.replica.specs.Reactions.{IsVoted, IsStep}
 use Rattle.replica.specs.Handling.{Runs, Handles, KeepsNext, end_of, answered, seen_as}
 use Rattle.replica.specs.Calls.{same_ballots, ballot_append, learnt_append, message_append}
 use Rattle.replica.proofs.Answering.{changed_next, handles_seen, handles_untouched, keeps_none, next_seen, still_here}
@@ -106,7 +106,7 @@ module _ {D : Type 0} (d : on_disk.Ghosts D)
         by : (b : Bool) → (b && is_later (learnt_in layout old.state group.0) view) ≡ false
             → cond b (node_taught layout.block group.0 node view) node ≡ node
         by false h = refl
-        by true h = ap (λ (x : Bool). cond x _ node) (ap (λ (l : Learnt). is_later l view) (parts.learnt group.0) ∙ h)
+        by true h = ap (λ (x : Bool). cond x (with_learnt layout.block group.0 node (learns (node.learnt group.0) view)) node) (ap (λ (l : Learnt). is_later l view) (parts.learnt group.0) ∙ h)
 
     pub view_left : is_to_learn layout old.state group.0 view ≡ false → ViewKept (Ok None) old
     view_left none = (

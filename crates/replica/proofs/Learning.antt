@@ -1,27 +1,22 @@
 -- A view that is learnt, as a change of what a store keeps.
-use Rattle.std.proofs.Common.{◌≡◌, ◌≢◌, ℕ, ◌+◌, ◌-◌, ◌<◌, Bool, true, false, not, cond, eqb, ltb, Option, Some, None, List, length, refl, sym, ap, subst, ◌∙◌, arith, eq-eqb}
+use Rattle.std.proofs.Common.{◌≡◌, ℕ, ◌-◌, ◌<◌, Bool, true, false, cond, eqb, ltb, Option, Some, None, length, refl, sym, ap, subst, ◌∙◌, arith, eq-eqb}
 use Rattle.std.specs.Prelude.{◌&&◌, nat_lt}
-use Rattle.std.proofs.lemmas.Bool.{and_parts, and_from, eqb-true, ne_eqb}
+use Rattle.std.proofs.lemmas.Bool.{and_from, eqb-true, ne_eqb}
 use Rattle.std.proofs.lemmas.Bool.Decides.{nat_tests}
-use Rattle.fab_base.specs.declared.identities.BrickId.{BrickId}
-use Rattle.fab_base.specs.declared.identities.GroupId.{GroupId}
 use Rattle.fab_base.specs.declared.member_lists.View.{View}
 use Rattle.fab_base.specs.Layouts.{Layout, Group, group_of}
-use Rattle.messages.specs.declared.packets.Message.{Message}
 use Rattle.version_log.specs.Versions.{Version}
 use Rattle.brick_state.specs.declared.groups.Group.{Group as KeptGroup}
-use Rattle.brick_state.specs.States.{Place, StripeOf, StateOf, first_stripe, stripe_at, stripe_in, group_at, live, is_of_view, is_numbered, with_view, viewed}
+use Rattle.brick_state.specs.States.{StripeOf, StateOf, first_stripe, stripe_in, group_at, live, is_numbered, with_view, viewed}
 use Rattle.brick_store.specs.Blocks.{learnt_of, log_of}
-use Rattle.brick_store.specs.Calls.{Append, append_of, append_calls}
+use Rattle.brick_store.specs.Calls.{append_of, append_calls}
 use Rattle.brick_store.specs.Sizes.{view_size}
-use Rattle.synod_laws.specs.Synods.{Kept}
 use Rattle.protocol.specs.Replicas.{Replica, fresh_replica}
 use Rattle.protocol.specs.Views.{Learnt, first_learnt, is_later, is_view, learns}
-use Rattle.protocol.specs.Nodes.{Node, put, live_before, may_teach, with_learnt, node_taught, node_learnt}
-use Rattle.replica.specs.Parts.{part_of, part_in, learnt_or, learnt_in, ballots_in, live_at, is_to_learn, lists_stand, IsPartsOf, ListsStand}
-use Rattle.replica.specs.Reactions.{IsStep}
+use Rattle.protocol.specs.Nodes.{Node, put, live_before, may_teach, with_learnt, node_taught}
+use Rattle.replica.specs.Parts.{part_of, part_in, learnt_or, learnt_in, ballots_in, live_at, lists_stand, IsPartsOf, ListsStand}
 use Rattle.replica.specs.Handling.{KeepsAll}
-use Rattle.replica.specs.Calls.{learnt_append, message_append}
+use Rattle.replica.specs.Calls.{learnt_append}
 use Rattle.replica.proofs.CourseSteps.{number_learnt}
 use Rattle.replica.proofs.Voting.{group_put}
 use Rattle.replica.proofs.Viewing.{before_same, stay_sum, views_left, stripe_left, fresh_part}

@@ -1,5 +1,5 @@
 -- A request that is handled, by the course that it takes.
-use Rattle.std.proofs.Common.{◌≡◌, ℕ, Option, Some, None, List, Result, Ok, refl, sym, ap, subst, ◌∙◌}
+use Rattle.std.proofs.Common.{◌≡◌, ℕ, Option, Some, None, List, Result, Ok, refl, sym, subst}
 use Rattle.std.specs.Option.{option_map}
 use Rattle.fab_base.specs.declared.identities.BrickId.{BrickId}
 use Rattle.fab_base.specs.declared.stamps.Ballot.{Ballot}
@@ -15,7 +15,6 @@ use Rattle.brick_store.specs.Bricks.{Brick}
 use Rattle.brick_store.specs.Calls.{Append}
 use Rattle.protocol.specs.Views.{Learnt}
 use Rattle.protocol.specs.Ballots.{voting}
-use Rattle.protocol.specs.Replicas.{Replica, Reaction}
 use Rattle.protocol.specs.Nodes.{Node, full_at}
 use Rattle.replica.specs.declared.faults.ReplicaFault.{ReplicaFault}
 use Rattle.replica.specs.declared.plans.Plan.{Plan}

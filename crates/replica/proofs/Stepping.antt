@@ -1,6 +1,6 @@
 -- What a store makes of a request is the step of each brick of the machine that keeps what the store keeps.
-use Rattle.std.proofs.Common.{◌≡◌, ℕ, ◌+◌, ◌-◌, List, Bool, true, false, cond, eqb, Option, Some, None, refl, sym, ap, subst, ◌∙◌, arith, eq-eqb}
-use Rattle.std.specs.Prelude.{slice_index_or, IsSome}
+use Rattle.std.proofs.Common.{◌≡◌, ℕ, ◌+◌, ◌-◌, List, Bool, true, false, cond, eqb, Option, Some, None, refl, sym, ap, subst, ◌∙◌, eq-eqb}
+use Rattle.std.specs.Prelude.{slice_index_or}
 use Rattle.std.specs.List.{filter}
 use Rattle.std.specs.Option.{ForSome, option_map}
 use Rattle.std.proofs.lemmas.Bool.{and_parts, and_from, eqb-true}
@@ -24,13 +24,13 @@ use Rattle.synod_laws.specs.Synods.{Kept, last_of}
 use Rattle.protocol.specs.Replicas.{Replica, Reaction, handle}
 use Rattle.protocol.specs.Views.{Learnt, first_learnt, may_be_taught}
 use Rattle.protocol.specs.Ballots.{Voted, voting, granting, unless_barred, ballot_refusal}
-use Rattle.protocol.specs.Nodes.{Node, NodeStep, put, group_at, with_part, with_live, requested_in, reacted, with_replica, full_at, replica_at, no_step, sending, reply_packets, voted_on}
+use Rattle.protocol.specs.Nodes.{Node, NodeStep, put, group_at, with_part, with_live, requested_in, reacted, with_replica, full_at, replica_at, no_step, reply_packets, voted_on}
 use Rattle.stripe_code.specs.Codes.{block_code, coding}
 use Rattle.replica.specs.Members.{Member}
 use Rattle.replica.specs.declared.courses.Course.{Course}
 use Rattle.replica.specs.declared.courses.Course.TheVariants.{Void, Tell, Serve}
 use Rattle.replica.specs.declared.courses.Course.TheVariants as courses
-use Rattle.replica.specs.Parts.{part_of, learnt_or, part_in, live_at, is_in_view, ballots_in, learnt_in, may_be_accepted, lists_stand, IsPartsOf, ListsStand}
+use Rattle.replica.specs.Parts.{part_of, learnt_or, part_in, live_at, is_in_view, ballots_in, may_be_accepted, lists_stand, IsPartsOf, ListsStand}
 use Rattle.replica.specs.Courses.{course_of, course_step, VotesBy}
 use Rattle.replica.specs.Reactions.{part_at, member_step, answer_packets, IsReacted, IsVoted, IsStep}
 use Rattle.replica.specs.Calls.{shares_block, part_append, ballot_append, either_append, message_append}
@@ -174,13 +174,17 @@ module _ (layout : Layout) (before after : StateOf Version) (call : Call) (learn
       was : lists_stand group.m layout.bricks (states.group_at before g) ≡ true
       was = stand g group here
 
+      were : (may_be_taught group.m layout.bricks (learnt_view (states.group_at before g)) ≡ true)
+          × (may_be_accepted group.m layout.bricks (accepted_of (states.group_at before g)) ≡ true)
+      were = and_parts (may_be_taught group.m layout.bricks (learnt_view (states.group_at before g)))
+          (may_be_accepted group.m layout.bricks (accepted_of (states.group_at before g))) was
+
       was_accepted : may_be_accepted group.m layout.bricks (last_of (ballots_in before g)) ≡ true
       was_accepted =
-          subst (λ (a : Option (Ballot × List BrickId)). may_be_accepted group.m layout.bricks a ≡ true) (accepted_last (ballots_in before g))
-          (and_parts _ _ was).1
+          subst (λ (a : Option (Ballot × List BrickId)). may_be_accepted group.m layout.bricks a ≡ true) (accepted_last (ballots_in before g)) were.1
 
       views : may_be_taught group.m layout.bricks (learnt_view (states.group_at after g)) ≡ true
-      views = subst (λ known. may_be_taught group.m layout.bricks (option_map (λ k. k.0) known) ≡ true) (sym (voted.known g)) (and_parts _ _ was).0
+      views = subst (λ (known : Option (View × Bool)). may_be_taught group.m layout.bricks (option_map (λ k. k.0) known) ≡ true) (sym (voted.known g)) were.0
 
       now : (b : Bool) → eqb g call.group.0 ≡ b → may_be_accepted group.m layout.bricks (last_of (cond b vote_here.kept (ballots_in before g))) ≡ true
       now true is =

@@ -1,19 +1,19 @@
 -- What stays of the stripes that a store keeps, and of their live records, where it drops a group's views below one.
-use Rattle.std.proofs.Common.{◌≡◌, ◌≢◌, ℕ, zero, suc, ◌+◌, ◌-◌, ◌<◌, ◌≤◌, Bool, true, false, not, cond, eqb, ltb, Option, Some, None, List, [], ◌∷◌, length, map, refl, sym, ap, subst, ◌∙◌, arith, eq-eqb}
-use Rattle.std.specs.Prelude.{◌&&◌, nat_lt, replicate}
-use Rattle.std.specs.List.{filter, sum_by}
+use Rattle.std.proofs.Common.{◌≡◌, ℕ, zero, suc, ◌+◌, Bool, true, false, not, cond, eqb, ltb, Option, None, List, [], ◌∷◌, refl, sym, ap, ◌∙◌, arith}
+use Rattle.std.specs.Prelude.{◌&&◌}
+use Rattle.std.specs.List.{filter}
 use Rattle.std.specs.Map.{lookup, values_of}
 use Rattle.std.specs.Option.{unwrap_or}
 use Rattle.std.specs.Ordering.{is_eq}
 use Rattle.std.specs.declared.cmp.Ordering.{Ordering}
 use Rattle.std.specs.declared.cmp.Ordering.TheVariants.{Less, Equal, Greater}
 use Rattle.std.specs.BTreeMap.{is_at}
-use Rattle.std.proofs.lemmas.Bool.{and_parts, and_from, eqb-true, eqb-false}
+use Rattle.std.proofs.lemmas.Bool.{and_parts, eqb-true}
 use Rattle.std.proofs.lemmas.Bool.Decides.{nat_tests}
 use Rattle.std.proofs.lemmas.List.Sums.{sum_by-cons}
 use Rattle.std.proofs.lemmas.Map.Entries.{lookup-filter-keys}
 use Rattle.fab_base.specs.Stamps.{first_stamp}
-use Rattle.version_log.specs.Versions.{Version, version}
+use Rattle.version_log.specs.Versions.{Version}
 use Rattle.brick_state.specs.States.{Place, StripeOf, place_cmp, first_stripe, weight, live_in, is_of_view}
 use Rattle.brick_state.specs.States as states
 use Rattle.brick_state.proofs.StripeMaps.{place_exact}
@@ -37,7 +37,7 @@ live_cons keep x es = by (keep x)
   where
     by : (b : Bool) → live_in (cond b (x ∷ filter keep es) (filter keep es)) ≡ cond b (weight x.1) 0 + live_in (filter keep es)
     by true = sum_by-cons weight x.1 (values_of (filter keep es))
-    by false = refl
+    by false = omega arith
 
 -- sums over the views before one
 pub before_same : (first : ℕ) (f k : ℕ → ℕ) → ((e : ℕ) → f e ≡ k e) → live_before first f ≡ live_before first k
@@ -53,7 +53,8 @@ one_more : (b less here : Bool) (w : ℕ) → (less ≡ true → here ≡ false)
     → cond (b && less) w 0 + cond (b && here) w 0 ≡ cond (b && cond less true here) w 0
 one_more false less here w apart = refl
 one_more true true here w apart = rw (apart refl) (omega arith)
-one_more true false here w apart = refl
+one_more true false true w apart = omega arith
+one_more true false false w apart = refl
 
 before_more : (first : ℕ) (f : ℕ → ℕ) (b : Bool) (v w : ℕ)
     → live_before first (λ e. cond (b && eqb v e) w 0 + f e) ≡ cond (b && ltb v first) w 0 + live_before first f
@@ -85,7 +86,7 @@ module _ (g first : ℕ) where
 
   -- the live records that stay, and those of the views that are dropped
   pub stay_sum : (es : Stripes) → live_in (filter stays es) + live_before first (λ e. live_in (filter (is_in_view g e) es)) ≡ live_in es
-  stay_sum [] = before_none first
+  stay_sum [] = ap (λ (n : ℕ). 0 + n) (before_none first)
   stay_sum (x ∷ es) =
       let in_view = λ (e : ℕ). live_in (filter (is_in_view g e) es) in
       let here : Bool = eqb x.0.0 g in
@@ -103,7 +104,7 @@ module _ (g first : ℕ) where
       → live_in (filter (is_in_view h e) (filter stays es)) ≡ cond (eqb h g && ltb e first) 0 (live_in (filter (is_in_view h e) es))
   views_left h e [] = by (eqb h g && ltb e first)
     where
-      by : (b : Bool) → 0 ≡ cond b 0 0
+      by : (b : Bool) → ◌≡◌ {A = ℕ} 0 (cond b 0 0)
       by true = refl
       by false = refl
   views_left h e (x ∷ es) =
@@ -128,6 +129,9 @@ module _ (g first : ℕ) where
       skip true = refl
       skip false = omega arith
 
+      alone : 0 + left ≡ left
+      alone = omega arith
+
       add : (b : Bool) → left ≡ cond b 0 whole → not b ≡ true → weight x.1 + left ≡ cond b 0 (weight x.1 + whole)
       add true is h = differ h
       add false is h = omega (arith, is)
@@ -143,7 +147,7 @@ module _ (g first : ℕ) where
           ∙ add d is (sym (ap not (same at)) ∙ stay)
       inside_kept false at stay is =
           live_cons (is_in_view h e) x (filter stays es) ∙ ap (λ (b : Bool). cond b (weight x.1) 0 + left) at
-          ∙ is ∙ skip d
+          ∙ alone ∙ is ∙ skip d
 
       inside_left : (inside : Bool) → is_in_view h e x ≡ inside → stays x ≡ false → left ≡ cond d 0 whole
           → left ≡ cond d 0 (cond inside (weight x.1) 0 + whole)

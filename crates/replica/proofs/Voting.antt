@@ -1,6 +1,6 @@
 -- Votes, over what a store keeps of ballots.
-use Rattle.std.proofs.Common.{◌≡◌, ◌≢◌, ℕ, ◌<◌, Bool, true, false, cond, eqb, Option, Some, None, List, [], ◌∷◌, length, refl, sym, ap, subst, ◌∙◌, arith, eq-eqb}
-use Rattle.std.specs.Prelude.{◌&&◌, slice_index_or, slice_set}
+use Rattle.std.proofs.Common.{◌≡◌, ℕ, ◌<◌, Bool, true, false, cond, eqb, Option, Some, None, List, [], ◌∷◌, length, refl, sym, ap, ◌∙◌, arith, eq-eqb}
+use Rattle.std.specs.Prelude.{slice_index_or, slice_set}
 use Rattle.std.specs.Option.{option_map, option_and_then}
 use Rattle.std.proofs.lemmas.Bool.{and_parts, and_from, eqb-true, eqb-false}
 use Rattle.std.proofs.lemmas.List.{get_or-set_same, get_or-set_other}
@@ -12,13 +12,12 @@ use Rattle.messages.specs.declared.replies.Reply.{Reply}
 use Rattle.version_log.specs.Versions.{Version}
 use Rattle.brick_state.specs.declared.groups.Group.{Group as KeptGroup}
 use Rattle.brick_state.specs.States.{StateOf, no_group, group_at, with_ballots, balloted}
-use Rattle.brick_store.specs.Calls.{Append, append_of, append_calls}
+use Rattle.brick_store.specs.Calls.{append_of, append_calls}
 use Rattle.brick_store.specs.Sizes.{ballots_size}
 use Rattle.synod_laws.specs.Synods.{Kept, last_of}
 use Rattle.view_synod.specs.Acceptors.{kept_of}
 use Rattle.protocol.specs.Views.{Learnt}
 use Rattle.protocol.specs.Ballots.{Voted, voting, granting, unless_barred, ballot_refusal}
-use Rattle.protocol.specs.Nodes.{put}
 use Rattle.replica.specs.Parts.{ballots_in}
 use Rattle.replica.specs.Reactions.{IsVoted}
 use Rattle.replica.specs.Handling.{KeepsAll}

@@ -1,5 +1,5 @@
 -- Live records of each view, once a stripe is put in its place.
-use Rattle.std.proofs.Common.{◌≡◌, ◌≢◌, ℕ, ◌+◌, ◌-◌, Bool, true, false, not, cond, eqb, List, [], ◌∷◌, refl, sym, ap, subst, ◌∙◌, arith, eq-eqb}
+use Rattle.std.proofs.Common.{◌≡◌, ℕ, ◌+◌, ◌-◌, Bool, true, false, not, cond, eqb, List, [], ◌∷◌, refl, sym, ap, subst, ◌∙◌, arith, eq-eqb}
 use Rattle.std.specs.Prelude.{◌&&◌}
 use Rattle.std.specs.List.{filter}
 use Rattle.std.specs.List.Sorted.{IsStrictlySortedBy}
@@ -12,7 +12,7 @@ use Rattle.std.proofs.lemmas.Bool.{and_from, eqb-true, ne_eqb}
 use Rattle.std.proofs.lemmas.List.Sums.{sum_by-cons}
 use Rattle.messages.specs.declared.calls.Call.{Call}
 use Rattle.version_log.specs.Versions.{Version}
-use Rattle.brick_state.specs.States.{Place, StripeOf, StateOf, place_cmp, stripe_at, stripe_in, with_stripe, is_first, put, weight, live_in}
+use Rattle.brick_state.specs.States.{Place, StripeOf, StateOf, place_cmp, stripe_at, with_stripe, is_first, put, weight, live_in}
 use Rattle.brick_state.proofs.StripeMaps.{place_exact}
 use Rattle.protocol.specs.Replicas.{Reaction}
 use Rattle.protocol.specs.Nodes as machine
@@ -84,7 +84,7 @@ live_parted keep (x ∷ es) =
   where
     either : (b : Bool) (w : ℕ) → cond b w 0 + cond (not b) w 0 ≡ w
     either true w = omega arith
-    either false w = refl
+    either false w = omega arith
 
 module _ (call : Call) (new : StripeOf Version) (st : StateOf Version) (sorted : IsStrictlySortedBy place_cmp (keys_of st.stripes)) (reaction : Reaction)
     (change : (now was : ℕ) → now + weight (stripe_at st (place_of call)) ≡ was + weight new → now ≡ was + reaction.adds - reaction.drops) where

@@ -1,5 +1,5 @@
 -- What a brick does with a request, by what it has learnt of the group's views and accepted.
-use Rattle.std.specs.Prelude.{◌≡◌, ℕ, IsSome, ◌+◌, ◌-◌, ◌^◌, Bool, true, false, not, nat_eq, nat_lt, ◌&&◌, ◌||◌, if◌then◌else◌, List, length, Option, Some, None, is_some}
+use Rattle.std.specs.Prelude.{◌≡◌, ℕ, IsSome, ◌+◌, ◌-◌, ◌^◌, Bool, true, not, nat_eq, nat_lt, ◌&&◌, ◌||◌, if◌then◌else◌, List, length, Option, Some, None, is_some}
 use Rattle.fab_base.specs.declared.identities.BrickId.{BrickId}
 use Rattle.std.specs.Option.{ForSome}
 use Rattle.fab_base.specs.Layouts.{Layout, Group, group_of, seat_in}

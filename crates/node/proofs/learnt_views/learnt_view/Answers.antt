@@ -16,7 +16,7 @@ returns-in-Some-clause-limits g c = λ layout found lists.
     let kept = group_at c.args.store.now.state c.args.number.0 in
     let view = c.in-Some.view in
     let m = c.args.group.now.m in
-    let stands : lists_stand m layout.bricks (record { known = Some (view, c.in-Some.field-1); ballots = kept.ballots }) ≡ true =
+    let stands : lists_stand m layout.bricks (record { known = Some (view, c.in-Some.field-0-1); ballots = kept.ballots }) ≡ true =
     subst (λ (known : Option _). lists_stand m layout.bricks (record { known = known; ballots = kept.ballots }) ≡ true) (sym c.known_view.ensures.value ∙ c.in-Some.is)
     (lists c.args.number.0 c.args.group.now found) in
     let both = and_parts (is_membership m layout.bricks view.members && is_membership m layout.bricks view.prior)

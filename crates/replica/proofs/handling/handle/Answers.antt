@@ -1,6 +1,7 @@
 -- A message is handled by its kind.
 use Rattle.std.proofs.Common.{◌≡◌, false, Option, None, Result, Ok, refl, sym, ap, subst, ◌∙◌}
 use Rattle.fab_base.specs.declared.identities.BrickId.{BrickId}
+use Rattle.fab_base.specs.declared.member_lists.View.{View}
 use Rattle.fab_base.specs.Layouts.{Layout}
 use Rattle.fab_disk.specs.declared.disk.Disk as on_disk
 use Rattle.messages.specs.declared.packets.Message.{Message}
@@ -51,8 +52,10 @@ returns-in-Learn g c =
     let old = c.args.store.now in
     let layout = c.args.layout.now in
     let learnt = c.on_learn.ensures c.args.from in
-    let both = subst (λ (m : Message). Learnt g.D.Disk layout c.args.from m old c.on_learn.new.store c.no_answer.result) (sym c.in-Learn.is)
-    (subst (λ (r : Result (Option Message) ReplicaFault). Learnt g.D.Disk layout c.args.from _ old c.on_learn.new.store r) (sym c.no_answer.ensures)
+    let message = Message.Learn c.in-Learn.group c.get.result.now in
+    let is : c.args.message.now ≡ message = c.in-Learn.is ∙ ap (λ (v : View). Message.Learn c.in-Learn.group v) (sym c.get.ensures) in
+    let both = subst (λ (m : Message). Learnt g.D.Disk layout c.args.from m old c.on_learn.new.store c.no_answer.result) (sym is)
+    (subst (λ (r : Result (Option Message) ReplicaFault). Learnt g.D.Disk layout c.args.from message old c.on_learn.new.store r) (sym c.no_answer.ensures)
     (learnt.handles, learnt.change)) in
     record { handles = both.0; change = both.1 }
 

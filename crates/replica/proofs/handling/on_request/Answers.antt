@@ -1,5 +1,5 @@
 -- What a request comes to is the machine's step, by its course.
-use Rattle.std.proofs.Common.{◌≡◌, ℕ, true, sym, ap, subst, ◌∙◌, rules}
+use Rattle.std.proofs.Common.{◌≡◌, ℕ, true, sym, ap, subst, ◌∙◌}
 use Rattle.std.proofs.lemmas.Result.{err_from_is_err_and}
 use Rattle.messages.specs.declared.packets.Message.{Message}
 use Rattle.protocol.specs.Views.{Learnt}
@@ -30,13 +30,10 @@ returns-in_err-course-clause-change g c node parts =
     rw (p.1, p.2) (keeps_refused g.D.Disk g.met.D.Disk.only_now
     (IsStep c.args.layout.now (me_of c.args.store.now) c.args.from (Message.Request c.args.call c.args.request.now) c.args.store.now.state) c.args.store.now _)
 
-pub returns-in_err-course-clause-handles : goal.returns-in_err-course-clause-handles
-returns-in_err-course-clause-handles g c = search rules
-
 -- ---- as a member
 
-pub decide-plan-requires-clause-fits : goal.decide-plan-requires-clause-fits
-decide-plan-requires-clause-fits g c =
+pub decide-requires-clause-fits : goal.decide-requires-clause-fits
+decide-requires-clause-fits g c =
     let serves = serves_of c.args.layout.now (me_of c.args.store.now) c.args.store.now.state c.args.call c.in-Serve.member c.args.request.now
     (sym c.in_ok-course.ensures.course ∙ c.in-Serve.is) in
     subst (λ (b : ℕ). fits_block b c.in-Serve.member.m c.in-Serve.member.seat c.args.request.now ≡ true) (sym serves.block) serves.fits
@@ -52,33 +49,30 @@ carry_out-requires-clause-change g c =
     let layout = c.args.layout.now in
     let member = c.in-Serve.member in
     let serves = serves_of layout (me_of old) old.state c.args.call member c.args.request.now (sym c.in_ok-course.ensures.course ∙ c.in-Serve.is) in
-    let plan = c.in_ok-plan.plan in
+    let plan = c.in_ok-plan-in-Serve.plan in
     let is = decided old layout c.args.call c.args.request.now member.m member.seat member.block c.state-part.result plan c.requires.shape serves.block
-    c.state-part.ensures.order c.state-part.ensures.log c.in_ok-plan.ensures.plan c.in_ok-plan.ensures.change in
+    c.state-part.ensures.order c.state-part.ensures.log c.in_ok-plan-in-Serve.ensures.plan c.in_ok-plan-in-Serve.ensures.change in
     change_decided old layout (me_of old) c.args.from c.args.call c.args.request.now member plan is
 
-pub returns-in-Serve : goal.returns-in-Serve
-returns-in-Serve g c =
+pub returns-in_ok-plan-in-Serve : goal.returns-in_ok-plan-in-Serve
+returns-in_ok-plan-in-Serve g c =
     let old = c.args.store.now in
     let layout = c.args.layout.now in
     let member = c.in-Serve.member in
     let takes = sym c.in_ok-course.ensures.course ∙ c.in-Serve.is in
     let serves = serves_of layout (me_of old) old.state c.args.call member c.args.request.now takes in
-    let plan = c.in_ok-plan.plan in
+    let plan = c.in_ok-plan-in-Serve.plan in
     let is = decided old layout c.args.call c.args.request.now member.m member.seat member.block c.state-part.result plan c.requires.shape serves.block
-    c.state-part.ensures.order c.state-part.ensures.log c.in_ok-plan.ensures.plan c.in_ok-plan.ensures.change in
+    c.state-part.ensures.order c.state-part.ensures.log c.in_ok-plan-in-Serve.ensures.plan c.in_ok-plan-in-Serve.ensures.change in
     let both = served_kept g.D.Disk g.met.D.Disk.only_now old c.requires.runs layout (me_of old) c.args.from c.args.call c.args.request.now member plan is takes
     c.carry_out.new.store c.carry_out.result c.answer.result c.answer.ensures c.carry_out.ensures.handles c.carry_out.ensures.change in
     record { handles = both.0; change = both.1 }
 
-pub returns-in_err-plan-clause-change : goal.returns-in_err-plan-clause-change
-returns-in_err-plan-clause-change g c node parts =
-    let p = err_from_is_err_and c.from_residual.result c.from_residual.ensures.1 in
+pub returns-in_err-plan-in-Serve-clause-change : goal.returns-in_err-plan-in-Serve-clause-change
+returns-in_err-plan-in-Serve-clause-change g c node parts =
+    let p = err_from_is_err_and c.from_residual-in_err-plan-in-Serve.result c.from_residual-in_err-plan-in-Serve.ensures.1 in
     rw (p.1, p.2) (keeps_refused g.D.Disk g.met.D.Disk.only_now
     (IsStep c.args.layout.now (me_of c.args.store.now) c.args.from (Message.Request c.args.call c.args.request.now) c.args.store.now.state) c.args.store.now _)
-
-pub returns-in_err-plan-clause-handles : goal.returns-in_err-plan-clause-handles
-returns-in_err-plan-clause-handles g c = search rules
 
 -- ---- by a vote
 

@@ -1,5 +1,5 @@
 -- A halted store learns nothing, and one that runs what it is taught.
-use Rattle.std.proofs.Common.{◌≡◌, false, sym, ◌∙◌}
+use Rattle.std.proofs.Common.{rules}
 use Rattle.messages.specs.declared.packets.Message.{Message}
 use Rattle.replica.specs.Handling.{me_of}
 use Rattle.replica.specs.Reactions.{IsStep}

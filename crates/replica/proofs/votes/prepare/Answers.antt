@@ -1,5 +1,6 @@
 -- A vote that promises keeps what is new of that.
-use Rattle.std.proofs.Common.{◌≡◌, Bool, true, false, Option, Some, None, List, Result, Ok, sym, ap, subst, ◌∙◌}
+use Rattle.std.proofs.Common.{◌≡◌, true, false, Option, Some, None, List, Ok, sym, ap, subst, ◌∙◌}
+use Rattle.std.proofs.lemmas.Result.{err_from_is_err_and}
 use Rattle.fab_base.specs.declared.identities.BrickId.{BrickId}
 use Rattle.fab_base.specs.declared.stamps.Ballot.{Ballot}
 use Rattle.messages.specs.declared.replies.Reply.{Reply}
@@ -8,8 +9,10 @@ use Rattle.brick_store.specs.Blocks.{accepted_of}
 use Rattle.protocol.specs.Ballots.{voting}
 use Rattle.view_synod.specs.Acceptors.{Acceptor, vote_of}
 use Rattle.replica.specs.Parts.{ballots_in}
+use Rattle.replica.specs.Reactions.{IsVoted}
 use Rattle.replica.specs.Handling.{answered}
-use Rattle.replica.specs.Calls.{same_ballots}
+use Rattle.replica.specs.Calls.{same_ballots, ballot_append}
+use Rattle.replica.proofs.Answering.{keeps_refused}
 use Rattle.replica.proofs.Keeping.{VoteKept, vote_told, vote_kept}
 use Rattle.replica.proofs.Voting.{accepted_last, granted}
 use Rattle.replica.proofs.votes.prepare.Goals as goal
@@ -43,3 +46,11 @@ returns g c =
     c.set_ballot.new.self c.set_ballot.result c.answered.result
     (c.answered.ensures ∙ ap (λ (r : Reply). answered (Some r) c.set_ballot.result) reply_is) c.set_ballot.ensures.change c.set_ballot.ensures.answer in
     record { handles = both.0; change = both.1 }
+
+pub returns-in_err-reply-clause-change : goal.returns-in_err-reply-clause-change
+returns-in_err-reply-clause-change g c =
+    let old = c.args.store.now in
+    let kept = ballots_in old.state c.args.call.group.0 in
+    let vote = voting c.args.call.view.0 c.args.learnt kept c.args.ballot None in
+    let p = err_from_is_err_and c.from_residual.result c.from_residual.ensures.1 in
+    rw (p.1, p.2) (keeps_refused g.D.Disk g.met.D.Disk.only_now (IsVoted c.args.call old.state vote) old (ballot_append kept vote.kept))

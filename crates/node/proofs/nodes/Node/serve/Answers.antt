@@ -81,8 +81,8 @@ returns-clause-step g c =
           ∙ ap (packets_from x.work.calls.me) c.answer_messages.ensures.items ∙ answered_is x.work.calls.me from answer
           ∙ sym (follows_packets x.layout x.work x.store from message new.state answer is);
       told = ap (λ (outs : Outcome). outs.told) c.sending.ensures ∙ (follows_told x.layout x.work x.store from message).0;
-      answers = ap (λ (outs : Outcome). outs.answers) c.sending.ensures ∙ (follows_told x.layout x.work x.store from message).1.0;
-      reports = ap (λ (outs : Outcome). outs.reports) c.sending.ensures ∙ (follows_told x.layout x.work x.store from message).1.1;
+      answers = ap (λ (outs : Outcome). outs.answers) c.sending.ensures ∙ (follows_told x.layout x.work x.store from message).1;
+      reports = ap (λ (outs : Outcome). outs.reports) c.sending.ensures ∙ (follows_told x.layout x.work x.store from message).2;
       state_is = follows_state x.layout x.work x.store from message new answer is;
     })
 
@@ -102,7 +102,7 @@ returns-clause-still g c =
     (λ none. c.in_ok-answer.ensures.handles.still x.layout
     (subst (λ (s : Shape). KeepsAll x.layout s.block x.store.state new.state) (sym shape)
     (follows_still x.layout x.work x.store from message new answer is
-    (subst (λ (s : Shape). message_calls x.layout x.work.me from s x.store.listed (state_of (running x.layout x.work x.store)) message ≡ 0)
+    (subst (λ (s : Shape). message_calls x.layout x.work.calls.me from s x.store.listed (state_of (running x.layout x.work x.store)) message ≡ 0)
     (sym shape) none))))
 
 pub returns-clause-change : goal.returns-clause-change

@@ -88,7 +88,7 @@ returns g c =
     subst (λ (s : Shape). IsCounted s (d.seen disk) store.state) same (c.in-Ok.ensures.found told) in
     let state : d.tells → (before : Node) → ImageShows layout me before (d.seen disk) → state_of (running layout work store) ≡ restarted 1 before =
     λ told before shows.
-    restarts_so layout me calls store c.boot.result before (d.seen disk) (c.new-work.ensures.boot ∙ c.boot.ensures) c.boot.ensures
+    restarts_so layout me work store c.boot.result before (d.seen disk) (c.new-work.ensures.boot ∙ c.boot.ensures) c.boot.ensures
     c.new-work.ensures.state shows (found told) in
     let stands : d.tells → Stands d (ImageShows layout me (state_of (running layout work store))) store.disk = λ told.
     subst (λ (brick : BrickId). Stands d (ImageShows layout brick (state_of (running layout work store))) store.disk) c.new-work.ensures.me

@@ -13,7 +13,7 @@ use Rattle.coord_phase.specs.Operations.{group_in_view, first_op}
 use Rattle.node.specs.declared.operations.Operation.{Operation}
 use Rattle.node.specs.Operations.{coordinator_of}
 use Rattle.node.specs.States.{OtherParts, state_with, IsAt}
-use Rattle.node.proofs.States.{same_states, keep_same, on_err}
+use Rattle.node.proofs.States.{same_states, on_err}
 use Rattle.node.proofs.Tables.{shown_after, same_calls, each_after, each_same}
 use Rattle.node.proofs.Sent.{made_is}
 use Rattle.node.proofs.open_calls.OpenCalls.begin.Goals as goal
@@ -29,7 +29,7 @@ returns-in_err-keep_open-in-Ok-clause-err c =
       calls = λ k. option_map coordinator_of
           (get nat_cmp n k);
     } ≡ state_with parts c.args.self.now =
-    λ parts. same_states _ _ (keep_same (state_with parts c.args.self.now)) refl refl (ap length entries) (λ k. ap (option_map coordinator_of) (same_calls m n entries k)) in
+    λ parts. same_states _ _ refl refl refl refl (ap length entries) refl (λ g e. refl) (λ g. refl) (λ g. refl) (λ g e s. refl) (λ k. ap (option_map coordinator_of) (same_calls m n entries k)) refl refl in
     on_err _ same
 
 pub returns-in_err-keep_open-in-Ok-clause-same : goal.returns-in_err-keep_open-in-Ok-clause-same
@@ -61,10 +61,10 @@ returns-in_ok-keep_open-in-Ok-clause-begun c = λ parts.
     record {
       packets = c.in-Ok.ensures.sends me ∙ ap (phase_packets (coding layout) me) same;
       seq = refl;
-      state_is = same_states _ _ (keep_same before) refl (ap (λ (t : Stamp). t.time) stamp)
-          c.in_ok-keep_open-in-Ok.ensures.opened.count
+      state_is = same_states _ _ refl refl (ap (λ (t : Stamp). t.time) stamp) refl
+          c.in_ok-keep_open-in-Ok.ensures.opened.count refl (λ g e. refl) (λ g. refl) (λ g. refl) (λ g e s. refl)
           (λ k. shown_after coordinator_of m n seq (Some operation) c.in_ok-keep_open-in-Ok.ensures.opened.calls k
-          ∙ ap (λ (o : Coordinator). put (λ j. option_map coordinator_of (get nat_cmp m j)) seq (Some o) k) same);
+          ∙ ap (λ (o : Coordinator). put (λ j. option_map coordinator_of (get nat_cmp m j)) seq (Some o) k) same) refl refl;
     }
 
 pub returns-in_ok-keep_open-in-Ok-clause-same : goal.returns-in_ok-keep_open-in-Ok-clause-same

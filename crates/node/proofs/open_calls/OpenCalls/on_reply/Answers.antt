@@ -18,7 +18,7 @@ use Rattle.node.specs.Operations.{shown_of, coordinator_of}
 use Rattle.node.specs.Outcomes.{Outcome}
 use Rattle.node.specs.Decisions.{or_waits, known_by, left_by, left_open, CarriesOut}
 use Rattle.node.specs.States.{OtherParts, state_with, IsAt}
-use Rattle.node.proofs.States.{steps_as, same_states, keep_same, on_err}
+use Rattle.node.proofs.States.{steps_as, same_states, on_err}
 use Rattle.node.proofs.Tables.{shown_after, each_after}
 use Rattle.node.proofs.Replied.{put_held, replied_is, busy_after, does_node, does_send, does_tell, does_answer, does_report, calls_left, at_if_open}
 use Rattle.node.proofs.open_calls.OpenCalls.on_reply.Goals as goal
@@ -37,9 +37,9 @@ returns-in_err-outs-clause-err c =
       busy = btree_map_len now;
       calls = λ k. option_map coordinator_of (get nat_cmp now k);
     } ≡ state_with parts c.args.self.now =
-    λ parts. same_states _ _ (keep_same (state_with parts c.args.self.now)) refl refl written.2
+    λ parts. same_states _ _ refl refl refl refl written.2 refl (λ g e. refl) (λ g. refl) (λ g. refl) (λ g e s. refl)
     (λ k. shown_after coordinator_of m now c.args.call.seq (Some after) (written.3 (search rules)).0 k
-    ∙ sym (put_held f c.args.call.seq (Some (coordinator_of after)) k (nat_eq k c.args.call.seq) held refl)) in
+    ∙ sym (put_held f c.args.call.seq (Some (coordinator_of after)) k (nat_eq k c.args.call.seq) held refl)) refl refl in
     on_err _ same
 
 pub returns-in_err-outs-clause-same : goal.returns-in_err-outs-clause-same
@@ -104,14 +104,16 @@ returns c =
             answers = carried.answers ∙ sym (does_answer layout me before known k next);
             reports = carried.reports ∙ sym (does_report layout me before known k next);
             state_is = same_states _ _
-                (record (keep_same before) { boot = c.on_reply.ensures.boot ∙ c.after_reply-stamps.ensures.boot })
+                (c.on_reply.ensures.boot ∙ c.after_reply-stamps.ensures.boot)
                 refl
                 (carried.knows
                 ∙ ap (λ (t : ℕ). known_by t (or_waits k next)) c.after_reply-stamps.ensures.known)
+                refl
                 (left.1 ∙ ap (λ (answers : List Answered). busy_after answers before.busy) carried.answers)
+                refl (λ g e. refl) (λ g. refl) (λ g. refl) (λ g e s. refl)
                 (λ q. shown_after coordinator_of m left_calls call.seq (left_open outs.answers after) left.0 q
                 ∙ ap (λ (o : Option Coordinator). put f call.seq o q) (sym carried.left)
-                ∙ ap (λ (s : ℕ). put f s (left_by (or_waits k next)) q) (sym at.seq))
+                ∙ ap (λ (s : ℕ). put f s (left_by (or_waits k next)) q) (sym at.seq)) refl refl
                 ∙ sym (does_node layout me before known k next);
           });
       few = c.in_ok-outs.ensures.few;

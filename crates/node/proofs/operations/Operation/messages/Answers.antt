@@ -4,7 +4,7 @@ use Rattle.std.proofs.lemmas.Result.{IfOk-weaker}
 use Rattle.coord_phase.specs.Messages.{phase_messages}
 use Rattle.node.specs.Operations.{shown_of}
 use Rattle.node.proofs.Resending.{few_again}
-use Rattle.node.proofs.operations.Operation.on_tick.Goals as goal
+use Rattle.node.proofs.operations.Operation.messages.Goals as goal
 
 pub returns-clause-few : goal.returns-clause-few
 returns-clause-few c =
