@@ -27,7 +27,7 @@ use layout::Layout;
 use messages::{Call, Message, Reply, Request};
 use std::alloc::Global;
 
-// The reply where the store refused a change.
+/// The reply where the store refused a change.
 fn refused(fault: StoreFault) -> Result<Option<Reply>, ReplicaFault>
     ensures { (reply : Option told.Reply) → result ≡ answered reply (Err fault) }
 {
@@ -39,7 +39,7 @@ fn refused(fault: StoreFault) -> Result<Option<Reply>, ReplicaFault>
     }
 }
 
-// The reply, if there is one, once the store answered the change that it promises.
+/// The reply, if there is one, once the store answered the change that it promises.
 pub(crate) fn answered(
     reply: Option<Reply>,
     answer: Result<(), StoreFault>,
@@ -52,7 +52,7 @@ pub(crate) fn answered(
     }
 }
 
-// Keeps what is planned, and then replies.
+/// Keeps what is planned, and then replies.
 fn carry_out<D: Disk>(
     store: &mut BrickStore<D>,
     call: Call,
@@ -87,7 +87,7 @@ fn carry_out<D: Disk>(
     }
 }
 
-// The answer that carries a reply to its call.
+/// The answer that carries a reply to its call.
 fn answer(
     call: Call,
     reply: Result<Option<Reply>, ReplicaFault>,
