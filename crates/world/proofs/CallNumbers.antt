@@ -6,7 +6,6 @@ use Rattle.fab_base.specs.declared.answers.Answer.{Answer}
 use Rattle.fab_base.specs.declared.stamps.Stamp.{Stamp}
 use Rattle.fab_base.specs.declared.asks.Ask.{Ask}
 use Rattle.fab_base.specs.declared.identities.BrickId.{BrickId}
-use Rattle.fab_base.specs.declared.identities.GroupId.{GroupId}
 use Rattle.messages.specs.declared.packets.Packet.{Packet}
 use Rattle.fab_base.specs.Layouts.{Layout}
 use Rattle.stripe_code.specs.Codes.{coding}

@@ -359,8 +359,12 @@ impl History {
     /// Notes what a step reported, if anything.
     fn report(&mut self, brick: BrickId, report: Option<Report>)
         requires { vec_len self.old.reports < vec_capacity self.old.reports }
-        ensures reported { HistoryBecomes (λ w. record w { choices = record w.choices { reports = w.choices.reports
-            ++ reports_of brick (option_to_list report) } }) self.old self.new }
+        ensures reported { HistoryBecomes (λ w. record w {
+          choices = record w.choices {
+            reports = w.choices.reports
+                ++ reports_of brick (option_to_list report);
+          };
+        }) self.old self.new }
         ensures items { self.new.reports.items ≡ self.old.reports.items ++ reports_of brick (option_to_list report) }
         ensures rest { self.new ≡ record self.old { reports = self.new.reports } }
     {

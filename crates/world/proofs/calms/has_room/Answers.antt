@@ -1,10 +1,8 @@
 -- What the store keeps decides.
-use Rattle.std.proofs.Common.{◌≡◌, ◌+◌, ◌≤◌, nat_le, sym, ap, ◌∙◌, arith}
-use Rattle.std.proofs.lemmas.Bool.Decides.{nat_tests}
+use Rattle.std.proofs.Common.{sym, ap, ◌∙◌}
 use Rattle.fab_disk.specs.declared.mem_disk.MemDisk.{MemDisk}
 use Rattle.brick_state.specs.States.{live}
 use Rattle.brick_store.specs.Bricks.{Brick}
-use Rattle.node.specs.Running.{state_of}
 use Rattle.world.proofs.CalmLemmas.{state_live, room_decides}
 use Rattle.world.proofs.calms.has_room.Goals as goal
 

@@ -1,5 +1,5 @@
 -- The call is counted, and what was sent and reported is noted.
-use Rattle.std.proofs.Common.{◌≡◌, ◌++◌, List, refl, sym, ap, ◌∙◌, subst}
+use Rattle.std.proofs.Common.{◌++◌, List, ap, ◌∙◌}
 use Rattle.std.specs.Prelude.{option_to_list}
 use Rattle.coord_phase.specs.Messages.{packets_from}
 use Rattle.fab_base.specs.declared.identities.BrickId.{BrickId}

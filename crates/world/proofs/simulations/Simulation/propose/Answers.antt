@@ -1,11 +1,11 @@
 -- The numbers name a brick that is up and a group, or the machine refuses them too.
-use Rattle.std.proofs.Common.{◌≡◌, true, List, map, refl, sym, ap, ◌∙◌, subst}
+use Rattle.std.proofs.Common.{◌≡◌, true, List, refl, sym, ap, ◌∙◌, subst}
 use Rattle.std.specs.Prelude.{IfOk}
 use Rattle.fab_base.specs.declared.identities.BrickId.{BrickId}
 use Rattle.fab_base.specs.declared.identities.GroupId.{GroupId}
 use Rattle.stripe_code.specs.Codes.{coding}
 use Rattle.protocol.specs.Worlds.{Proposes, is_up}
-use Rattle.world.specs.Runs.{brick_of, group_no, member_no}
+use Rattle.world.specs.Runs.{brick_of, group_no}
 use Rattle.world.specs.Shown.{TakesEvent}
 use Rattle.world.specs.Texts.{refused_or_begun}
 use Rattle.world.proofs.MachineBegins.{unproposed_down, unproposed_here, happens_unproposed, happens_unproposed_down}
