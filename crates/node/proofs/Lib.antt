@@ -11,6 +11,7 @@ pub mod Resending
 pub mod Views
 pub mod Moments
 pub mod Moved
+pub mod Hearing
 pub mod Steps
 pub mod Stills
 pub mod Requests
