@@ -16,6 +16,7 @@ pub mod Steps
 pub mod Stills
 pub mod Requests
 pub mod Starts
+pub mod Learning
 pub mod Sent
 pub mod Shown
 pub mod Turns
