@@ -20,3 +20,4 @@ pub mod Learning
 pub mod Sent
 pub mod Shown
 pub mod Turns
+pub mod Counting
