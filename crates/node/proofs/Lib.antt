@@ -21,3 +21,4 @@ pub mod Sent
 pub mod Shown
 pub mod Turns
 pub mod Counting
+pub mod Ballots
