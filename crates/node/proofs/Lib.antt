@@ -21,3 +21,5 @@ pub mod Sent
 pub mod Shown
 pub mod Turns
 pub mod Counting
+pub mod Proposing
+pub mod Balloting
