@@ -25,7 +25,7 @@ either_way true x = refl
 either_way false x = refl
 
 -- nothing is there
-none_of : {A : Type 0} (o : Option A) → is_some o ≡ false → o ≡ None
+pub none_of : {A : Type 0} (o : Option A) → is_some o ≡ false → o ≡ None
 none_of None is = refl
 none_of (Some x) is = absurd cc
 
