@@ -35,5 +35,6 @@ returns-in-Send-clause-few c =
     let some = about_some open_now.group open_now.view open_now.proposer open_now.about in
     let few = ballot_few some.0.state in
     let many = ap (λ (ms : List (BrickId × Message)). length ms) (sent c some.0 some.1) in
+    let seats = ap (λ (ms : List BrickId). length ms) c.as_slice.ensures.value in
     let members = ap (λ (pair : GroupId × View). length pair.1.members) some.2 in
-    IfOk-weaker c.teaching.result _ _ (λ taught twice. omega (arith, twice, many, few, members, c.as_slice.ensures.small, c.as_slice.ensures.value)) c.teaching.ensures.few
+    IfOk-weaker c.teaching.result _ _ (λ taught twice. omega (arith, twice, many, few, members, c.as_slice.ensures.small, seats)) c.teaching.ensures.few
