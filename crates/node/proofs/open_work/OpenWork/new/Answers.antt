@@ -8,6 +8,6 @@ use Rattle.node.proofs.open_work.OpenWork.new.Goals as goal
 pub returns-clause-of : goal.returns-clause-of
 returns-clause-of c = λ layout.
     record {
-      calls = c.new-calls.ensures.calls layout;
-      proposing = subst (λ (held : Option OpenProposal). IsUnderWayOn layout.bricks held) (sym c.new-proposals.ensures.under_way) tt;
+      calls = c.new.ensures.calls layout;
+      proposing = subst (λ (held : Option OpenProposal). IsUnderWayOn layout.bricks held) (sym c.new-2.ensures.under_way) tt;
     }
