@@ -16,21 +16,29 @@ use Rattle.messages.specs.declared.replies.Reply.TheVariants.{Moved}
 use Rattle.stripe_code.specs.Codes.{block_code, coding}
 use Rattle.protocol.specs.Coordinators as machine
 use Rattle.protocol.specs.Coordinators.{Coordinator, on_reply, with_reply}
-use Rattle.protocol.specs.Nodes.{Node, NodeStep, put, no_step, carried_out, replied_at, fresh_stamp}
+use Rattle.protocol.specs.Proposals.{Proposal}
+use Rattle.protocol.specs.Nodes.{Node, NodeStep, put, no_step, carried_out, replied_at, replied_ballot, fresh_stamp, known_after, with_call, with_known}
+use Rattle.coord_phase.specs.Messages.{packets_from}
+use Rattle.coord_phase.specs.Decisions.{decided_on}
 use Rattle.coord_phase.specs.Operations.{counts, heard, heard_at, seat_told}
 use Rattle.node.specs.declared.operations.Operation.{Operation}
 use Rattle.stamp_store.specs.declared.stamp_sources.StampSource.{StampSource}
 use Rattle.node.specs.declared.open_work.OpenWork.{OpenWork}
 use Rattle.node.specs.declared.proposals.Proposals.{Proposals}
 use Rattle.node.specs.Operations.{shown_of, coordinator_of, ends_or_waits, EndsOrWaits}
-use Rattle.node.specs.Moves.{HasCounted, ended_step, step_on}
+use Rattle.node.specs.declared.open_calls.OpenCalls.{OpenCalls}
+use Rattle.node.specs.declared.open_work.Turn.{Turn}
+use Rattle.node.specs.declared.open_work.Turn.TheVariants as turn
+use Rattle.node.specs.declared.proposals.Heard.{Heard}
+use Rattle.node.specs.Moves.{HasCounted, IsTurn, ended_step, step_on}
+use Rattle.node.specs.Outcomes.{Outcome}
 use Rattle.node.specs.Proposals.{proposal_in}
-use Rattle.node.specs.States.{KeptParts, state_in, state_with, IsAt}
+use Rattle.node.specs.States.{KeptParts, OtherParts, parts_with, state_in, state_with, IsAt, StepsAs}
 use Rattle.node.proofs.States.{same_states}
 use Rattle.node.proofs.Tables.{shown_after}
 
 -- a value that is there
-there : {A : Type 0} (o : Option A) → is_some o ≡ true → (x : A) × (o ≡ Some x)
+pub there : {A : Type 0} (o : Option A) → is_some o ≡ true → (x : A) × (o ≡ Some x)
 there None is = absurd cc
 there (Some x) is = (x, refl)
 
@@ -45,7 +53,7 @@ module _ (layout : Layout) (before : OpenWork) (from : BrickId) (call : Call) (o
   with_it seat = with_reply (coordinator_of op) seat from reply
 
   -- the reply counts at some seat
-  seat_found : (seat : ℕ) × (machine.counts_at (shown_of op).block (coordinator_of op) from.0 call reply ≡ Some seat)
+  pub seat_found : (seat : ℕ) × (machine.counts_at (shown_of op).block (coordinator_of op) from.0 call reply ≡ Some seat)
   unfolding seat_told
   seat_found = there (machine.counts_at (shown_of op).block (coordinator_of op) from.0 call reply) counted
 
@@ -53,6 +61,13 @@ module _ (layout : Layout) (before : OpenWork) (from : BrickId) (call : Call) (o
   pub heard_is : (heard (shown_of op) from (message.Reply call reply)).state ≡ with_it seat_found.0
   unfolding seat_told
   heard_is = ap (λ (seat : Option ℕ). (heard_at (shown_of op) from (message.Reply call reply) seat).state) seat_found.1
+
+  -- where it waits for more, that is what is decided
+  pub waits_decided : EndsOrWaits (coordinator_of op) from view None
+      → decided_on None (shown_of op) from (message.Reply call reply) ≡ machine.Waits (heard (shown_of op) from (message.Reply call reply)).state
+  waits_decided ends =
+      let block = (shown_of op).block in
+      ends block (block_code block) None call (Some lineage) seat_found.0 seat_found.1 ∙ ap (λ (c : Coordinator). machine.Waits c) (sym heard_is)
 
   -- what the machine's brick does
   steps_by : (ended : Option Answer) → EndsOrWaits (coordinator_of op) from view ended → (now : ℕ) (kept : KeptParts)
@@ -91,3 +106,75 @@ module _ (layout : Layout) (before : OpenWork) (from : BrickId) (call : Call) (o
       ∙ ap (λ (c : Coordinator). put f call.seq (Some c) k) now_is
       ∙ ap (λ (seq : ℕ). put f seq (Some (with_it seat_found.0)) k) (sym at.seq))
       (ap (λ (proposals : Proposals). proposal_in proposals.under_way) same) refl))
+
+-- a reply that tells a later view is to the proposal, where no operation of its call is open
+pub goes_is : (layout : Layout) (now : ℕ) (from : BrickId) (call : Call) (told : Reply) (work : OpenWork) (kept : KeptParts) (view : ViewNo) (lineage : Lineage)
+    → get nat_cmp work.calls.operations call.seq ≡ None → told ≡ Moved view (Some lineage)
+    → (let node = state_in kept work in
+    step_on layout now from call told work kept ≡ replied_ballot layout work.calls.me from node call told (proposal_in work.proposals.under_way))
+unfolding state_with
+goes_is layout now from call told work kept view lineage none moved =
+    let node = state_in kept work in
+    let me = work.calls.me in
+    ap (replied_at (coding layout) me now from node call told) (ap (option_map coordinator_of) none)
+    ∙ ap (λ (r : Reply). replied_ballot layout me from (with_known node (known_after node.known r)) call told (proposal_in work.proposals.under_way)) moved
+
+-- ---- what is still to be done, and what is taken back
+
+module _ (layout : Layout) (from : BrickId) (call : Call) (told : Reply) (before mid : OpenWork) where
+  -- where an operation counted the reply and takes it back, all is as it was
+  pub counted_back : (after : OpenWork) → IsTurn layout from call told before turn.Counted mid → after.proposals ≡ mid.proposals
+      → ((b : OpenCalls) → HasCounted call.seq from (message.Reply call told) b mid.calls → (parts : OtherParts) → state_with parts after.calls ≡ state_with parts b)
+      → (kept : KeptParts) → state_in kept after ≡ state_in kept before
+  counted_back after is same back kept =
+      ap (λ (proposals : Proposals). state_with (parts_with kept proposals) after.calls) (same ∙ is.1) ∙ back before.calls is.0 (parts_with kept before.proposals)
+
+  -- an operation that counted it has done all
+  pub counted_done : (outs : Outcome) → outs ≡ record { messages = []; told = []; answers = []; reports = [] } → IsTurn layout from call told before turn.Counted mid
+      → (now : ℕ) (kept : KeptParts) → StepsAs before.calls.me (state_in kept mid) (step_on layout now from call told before kept) outs
+  counted_done outs nothing is now kept =
+      subst (λ (step : NodeStep). StepsAs before.calls.me (state_in kept mid) step outs) (sym (is.2 now kept)) (record {
+        packets = ap (λ (o : Outcome). packets_from before.calls.me o.messages) nothing;
+        told = ap (λ (o : Outcome). o.told) nothing;
+        answers = ap (λ (o : Outcome). o.answers) nothing;
+        reports = ap (λ (o : Outcome). o.reports) nothing;
+        state_is = refl;
+      })
+
+  -- an operation that is to end ends
+  pub ends_done : (answer : Answer) (after : OpenWork) (outs : Outcome)
+      → outs ≡ record { messages = []; told = []; answers = record { seq = call.seq; answer = answer } ∷ []; reports = [] }
+      → after.proposals ≡ mid.proposals
+      → ((parts : OtherParts) → state_with parts after.calls ≡ with_call (state_with parts mid.calls) mid.calls.stamps.known ((state_with parts mid.calls).busy - 1) call.seq None)
+      → IsTurn layout from call told before (turn.Ends answer) mid
+      → (now : ℕ) (kept : KeptParts) → StepsAs before.calls.me (state_in kept after) (step_on layout now from call told before kept) outs
+  unfolding state_with
+  ends_done answer after outs answered same closed is now kept =
+      subst (λ (step : NodeStep). StepsAs before.calls.me (state_in kept after) step outs) (sym (is.2 now kept)) (record {
+        packets = ap (λ (o : Outcome). packets_from before.calls.me o.messages) answered;
+        told = ap (λ (o : Outcome). o.told) answered;
+        answers = ap (λ (o : Outcome). o.answers) answered;
+        reports = ap (λ (o : Outcome). o.reports) answered;
+        state_is = ap (λ (proposals : Proposals). state_with (parts_with kept proposals) after.calls) same ∙ closed (parts_with kept mid.proposals)
+            ∙ ap (λ (w : OpenWork). (ended_step (state_in kept w) call.seq answer).node) is.0;
+      })
+
+  -- the proposal goes on
+  pub goes_done : (held : Heard) (after : OpenWork) (outs : Outcome) → outs ≡ held.outs → after.calls ≡ mid.calls → after.proposals.rounds ≡ mid.proposals.rounds
+      → after.proposals.under_way ≡ held.left → IsTurn layout from call told before (turn.Goes held) mid
+      → (now : ℕ) (kept : KeptParts) → StepsAs before.calls.me (state_in kept after) (step_on layout now from call told before kept) outs
+  unfolding state_with
+  goes_done held after outs sent calls rounds left is now kept =
+      let goes = is.2 now kept in
+      let parts = λ (round : ℕ) (proposal : Option Proposal).
+      record (parts_with kept before.proposals) { round = round; proposal = proposal } in
+      record {
+        packets = ap (λ (o : Outcome). packets_from before.calls.me o.messages) sent ∙ goes.packets;
+        told = ap (λ (o : Outcome). o.told) sent ∙ goes.told;
+        answers = ap (λ (o : Outcome). o.answers) sent ∙ goes.answers;
+        reports = ap (λ (o : Outcome). o.reports) sent ∙ goes.reports;
+        state_is =
+            (λ i. state_with (parts (rounds i) (proposal_in (left i))) (calls i))
+            ∙ ap (λ (w : OpenWork). state_with (parts w.proposals.rounds (proposal_in held.left)) w.calls) is.0
+            ∙ sym goes.node_is;
+      }
