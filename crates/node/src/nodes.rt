@@ -249,9 +249,8 @@ impl<D: Disk> Node<D> {
             return Err(NodeFault::Halted);
         }
         match &packet.message {
-            Message::Request(_, _) | Message::Learn { .. } => {
-                self.serve(packet.from, &packet.message)
-            }
+            Message::Request(_, _) => self.serve(packet.from, &packet.message),
+            Message::Learn { .. } => self.serve(packet.from, &packet.message),
             Message::Reply(call, reply) => self.on_reply(now, packet, *call, reply),
             Message::Synced { .. } | Message::Client(_) | Message::ClientReply { .. } => {
                 Ok(Outs::nothing(self.alloc))
