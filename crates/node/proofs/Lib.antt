@@ -20,3 +20,6 @@ pub mod Learning
 pub mod Sent
 pub mod Shown
 pub mod Turns
+pub mod Counting
+pub mod Proposing
+pub mod Balloting

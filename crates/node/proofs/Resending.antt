@@ -31,7 +31,7 @@ one_packet you me to message true theirs mine e = e
 one_packet you me to message false theirs mine e = ap (λ rest. record { from = me; to = to; message = message } ∷ rest) e
 
 -- messages to the members without a reply that counts are the machine's packets
-silent_again : (you me : BrickId) (call : Call) (request : ℕ → Request) (counted : List Counted) (seat : ℕ) (members : List BrickId)
+pub silent_again : (you me : BrickId) (call : Call) (request : ℕ → Request) (counted : List Counted) (seat : ℕ) (members : List BrickId)
     → packets_from me (map without_sender (resent_to you call request counted seat members)) ≡ resent_to me call request counted seat members
 silent_again you me call request counted seat [] = refl
 silent_again you me call request counted seat (member ∷ members) =
@@ -52,7 +52,7 @@ one_more sent true packets n few = omega arith
 one_more sent false packets n few = omega arith
 
 -- they are at most as many as the members
-few_silent : (me : BrickId) (call : Call) (request : ℕ → Request) (counted : List Counted) (seat : ℕ) (members : List BrickId)
+pub few_silent : (me : BrickId) (call : Call) (request : ℕ → Request) (counted : List Counted) (seat : ℕ) (members : List BrickId)
     → length (resent_to me call request counted seat members) ≤ length members
 few_silent me call request counted seat [] = omega arith
 few_silent me call request counted seat (member ∷ members) =

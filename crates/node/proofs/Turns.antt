@@ -16,16 +16,23 @@ use Rattle.messages.specs.declared.replies.Reply.TheVariants.{Moved}
 use Rattle.stripe_code.specs.Codes.{block_code, coding}
 use Rattle.protocol.specs.Coordinators as machine
 use Rattle.protocol.specs.Coordinators.{Coordinator, on_reply, with_reply}
-use Rattle.protocol.specs.Nodes.{Node, NodeStep, put, no_step, carried_out, replied_at, fresh_stamp}
+use Rattle.protocol.specs.Proposals.{Proposal}
+use Rattle.protocol.specs.Nodes.{Node, NodeStep, put, no_step, carried_out, replied_at, fresh_stamp, with_call}
+use Rattle.coord_phase.specs.Messages.{packets_from}
 use Rattle.coord_phase.specs.Operations.{counts, heard, heard_at, seat_told}
 use Rattle.node.specs.declared.operations.Operation.{Operation}
 use Rattle.stamp_store.specs.declared.stamp_sources.StampSource.{StampSource}
 use Rattle.node.specs.declared.open_work.OpenWork.{OpenWork}
 use Rattle.node.specs.declared.proposals.Proposals.{Proposals}
 use Rattle.node.specs.Operations.{shown_of, coordinator_of, ends_or_waits, EndsOrWaits}
-use Rattle.node.specs.Moves.{HasCounted, ended_step, step_on}
+use Rattle.node.specs.declared.open_calls.OpenCalls.{OpenCalls}
+use Rattle.node.specs.declared.open_work.Turn.{Turn}
+use Rattle.node.specs.declared.open_work.Turn.TheVariants as turn
+use Rattle.node.specs.declared.proposals.Heard.{Heard}
+use Rattle.node.specs.Moves.{HasCounted, IsTurn, ended_step, step_on}
+use Rattle.node.specs.Outcomes.{Outcome}
 use Rattle.node.specs.Proposals.{proposal_in}
-use Rattle.node.specs.States.{KeptParts, state_in, state_with, IsAt}
+use Rattle.node.specs.States.{KeptParts, OtherParts, parts_with, state_in, state_with, IsAt, StepsAs}
 use Rattle.node.proofs.States.{same_states}
 use Rattle.node.proofs.Tables.{shown_after}
 
@@ -91,3 +98,69 @@ module _ (layout : Layout) (before : OpenWork) (from : BrickId) (call : Call) (o
       ∙ ap (λ (c : Coordinator). put f call.seq (Some c) k) now_is
       ∙ ap (λ (seq : ℕ). put f seq (Some (with_it seat_found.0)) k) (sym at.seq))
       (ap (λ (proposals : Proposals). proposal_in proposals.under_way) same) refl))
+
+-- ---- what is still to be done, and what is taken back
+
+module _ (layout : Layout) (from : BrickId) (call : Call) (told : Reply) (before mid : OpenWork) where
+  -- where an operation counted the reply and takes it back, all is as it was
+  pub counted_back : (after : OpenWork) → IsTurn layout from call told before turn.Counted mid → after.proposals ≡ mid.proposals
+      → ((b : OpenCalls) → HasCounted call.seq from (message.Reply call told) b mid.calls → (parts : OtherParts) → state_with parts after.calls ≡ state_with parts b)
+      → (kept : KeptParts) → state_in kept after ≡ state_in kept before
+  counted_back after is same back kept =
+      ap (λ (proposals : Proposals). state_with (parts_with kept proposals) after.calls) (same ∙ is.1) ∙ back before.calls is.0 (parts_with kept before.proposals)
+
+  -- where nothing was done yet, all is as it was
+  pub nothing_done : (turn : Turn) → (turn ≡ turn.Counted → ⊥) → IsTurn layout from call told before turn mid → mid ≡ before
+  nothing_done turn.Counted other is = absurd (other refl)
+  nothing_done (turn.Ends answer) other is = is.0
+  nothing_done (turn.Goes held) other is = is.0
+
+  -- an operation that counted it has done all
+  pub counted_done : (outs : Outcome) → outs ≡ record { messages = []; told = []; answers = []; reports = [] } → IsTurn layout from call told before turn.Counted mid
+      → (now : ℕ) (kept : KeptParts) → StepsAs before.calls.me (state_in kept mid) (step_on layout now from call told before kept) outs
+  counted_done outs nothing is now kept =
+      subst (λ (step : NodeStep). StepsAs before.calls.me (state_in kept mid) step outs) (sym (is.2 now kept)) (record {
+        packets = ap (λ (o : Outcome). packets_from before.calls.me o.messages) nothing;
+        told = ap (λ (o : Outcome). o.told) nothing;
+        answers = ap (λ (o : Outcome). o.answers) nothing;
+        reports = ap (λ (o : Outcome). o.reports) nothing;
+        state_is = refl;
+      })
+
+  -- an operation that is to end ends
+  pub ends_done : (answer : Answer) (after : OpenWork) (outs : Outcome)
+      → outs ≡ record { messages = []; told = []; answers = record { seq = call.seq; answer = answer } ∷ []; reports = [] }
+      → after.proposals ≡ mid.proposals
+      → ((parts : OtherParts) → state_with parts after.calls ≡ with_call (state_with parts mid.calls) mid.calls.stamps.known ((state_with parts mid.calls).busy - 1) call.seq None)
+      → IsTurn layout from call told before (turn.Ends answer) mid
+      → (now : ℕ) (kept : KeptParts) → StepsAs before.calls.me (state_in kept after) (step_on layout now from call told before kept) outs
+  unfolding state_with
+  ends_done answer after outs answered same closed is now kept =
+      subst (λ (step : NodeStep). StepsAs before.calls.me (state_in kept after) step outs) (sym (is.2 now kept)) (record {
+        packets = ap (λ (o : Outcome). packets_from before.calls.me o.messages) answered;
+        told = ap (λ (o : Outcome). o.told) answered;
+        answers = ap (λ (o : Outcome). o.answers) answered;
+        reports = ap (λ (o : Outcome). o.reports) answered;
+        state_is = ap (λ (proposals : Proposals). state_with (parts_with kept proposals) after.calls) same ∙ closed (parts_with kept mid.proposals)
+            ∙ ap (λ (w : OpenWork). (ended_step (state_in kept w) call.seq answer).node) is.0;
+      })
+
+  -- the proposal goes on
+  pub goes_done : (held : Heard) (after : OpenWork) (outs : Outcome) → outs ≡ held.outs → after.calls ≡ mid.calls → after.proposals.rounds ≡ mid.proposals.rounds
+      → after.proposals.under_way ≡ held.left → IsTurn layout from call told before (turn.Goes held) mid
+      → (now : ℕ) (kept : KeptParts) → StepsAs before.calls.me (state_in kept after) (step_on layout now from call told before kept) outs
+  unfolding state_with
+  goes_done held after outs sent calls rounds left is now kept =
+      let goes = is.2 now kept in
+      let parts = λ (round : ℕ) (proposal : Option Proposal).
+      record (parts_with kept before.proposals) { round = round; proposal = proposal } in
+      record {
+        packets = ap (λ (o : Outcome). packets_from before.calls.me o.messages) sent ∙ goes.packets;
+        told = ap (λ (o : Outcome). o.told) sent ∙ goes.told;
+        answers = ap (λ (o : Outcome). o.answers) sent ∙ goes.answers;
+        reports = ap (λ (o : Outcome). o.reports) sent ∙ goes.reports;
+        state_is =
+            (λ i. state_with (parts (rounds i) (proposal_in (left i))) (calls i))
+            ∙ ap (λ (w : OpenWork). state_with (parts w.proposals.rounds (proposal_in held.left)) w.calls) is.0
+            ∙ sym goes.node_is;
+      }

@@ -131,6 +131,8 @@ impl OpenProposal {
         ensures packets { IfOk result (λ messages. (me : BrickId) → packets_from me messages.items ≡ ballot_resent me (proposal_of self.now.proposer)) }
         ensures few { IfOk result (λ messages. vec_len messages ≤ 64) }
     {
+        // The call only tells limits: a list has at most 32 members.
+        let _ = self.view.members.as_slice();
         match self.proposer.on_tick()? {
             ViewNext::Send(messages) => teaching(alloc, self.group, &self.view, messages),
             ViewNext::Wait | ViewNext::End(_) => Ok(Vec::new(alloc)),
