@@ -67,7 +67,7 @@ ended_once q call answer =
     (λ few wrong. absurd cc) (λ many ended. ended_down q (refused_by q.counted) call answer ended)
 
 -- which is that of the reply
-ended_call : (bricks : ℕ) (p : Proposal) (from : BrickId) (call : Call) (told : Reply) (at : Call) (answer : ViewAnswer)
+pub ended_call : (bricks : ℕ) (p : Proposal) (from : BrickId) (call : Call) (told : Reply) (at : Call) (answer : ViewAnswer)
     → voted bricks p from call told ≡ Ended at answer → call ≡ at
 ended_call bricks p from call told at answer = by (seat_voting bricks p from.0 call told) refl
   where

@@ -10,6 +10,8 @@ use Rattle.messages.specs.declared.packets.Packet.{Packet}
 use Rattle.messages.specs.declared.replies.Lineage.{Lineage}
 use Rattle.messages.specs.declared.replies.Reply.{Reply}
 use Rattle.messages.specs.declared.replies.Reply.TheVariants as reply
+use Rattle.brick_store.specs.Calls.{append_of, append_calls}
+use Rattle.brick_store.specs.Sizes.{view_size}
 use Rattle.replica.specs.Calls.{learnt_append}
 use Rattle.fab_base.specs.declared.stamps.Stamp.{Stamp}
 use Rattle.stripe_code.specs.Codes.{block_code, coding}
@@ -25,7 +27,7 @@ either_way true x = refl
 either_way false x = refl
 
 -- nothing is there
-none_of : {A : Type 0} (o : Option A) → is_some o ≡ false → o ≡ None
+pub none_of : {A : Type 0} (o : Option A) → is_some o ≡ false → o ≡ None
 none_of None is = refl
 none_of (Some x) is = absurd cc
 
@@ -180,4 +182,4 @@ module _ (layout : Layout) (me from to : BrickId) (node : Node) (call : Call) (t
 
 -- what was learnt already is not appended
 pub learnt_none : (learnt : Learnt) → learnt_append learnt learnt ≡ None
-learnt_none learnt = ap (λ (b : Bool). cond b None (Some _)) (eq-eqb learnt.view.number.0 learnt.view.number.0 refl)
+learnt_none learnt = ap (λ (b : Bool). cond b None (Some (append_of (view_size learnt.view) append_calls))) (eq-eqb learnt.view.number.0 learnt.view.number.0 refl)

@@ -25,12 +25,12 @@ pub ballot_few : (p : Proposal) → length (ballot_messages p) ≤ length p.view
 ballot_few p =
     let you : BrickId = record { 0 = 0 } in
     let count = few_silent you p.call (λ seat. ballot_request p) p.counted 0 p.view.members in
-    let same = length-map (ballot_packets you p) (λ (packet : Packet). (packet.to, packet.message)) in
+    let same : length (ballot_messages p) ≡ length (ballot_packets you p) = length-map (ballot_packets you p) (λ (packet : Packet). (packet.to, packet.message)) in
     omega arith
 
 -- a proposer that has a proposal has one about this group and view
 pub about_some : (group : GroupId) (view : View) (proposer : Option Proposing) → about_in proposer ≡ Some (group, view)
-    → (x : Proposing) × (proposer ≡ Some x) × ((x.state.call.group, x.state.view) ≡ (group, view))
+    → (x : Proposing) × (proposer ≡ Some x) × (◌≡◌ {A = GroupId × View} (x.state.call.group, x.state.view) (group, view))
 about_some group view None is = absurd cc
 about_some group view (Some x) is = (x, refl, cc)
 

@@ -17,8 +17,9 @@ use Rattle.stripe_code.specs.Codes.{block_code, coding}
 use Rattle.protocol.specs.Coordinators as machine
 use Rattle.protocol.specs.Coordinators.{Coordinator, on_reply, with_reply}
 use Rattle.protocol.specs.Proposals.{Proposal}
-use Rattle.protocol.specs.Nodes.{Node, NodeStep, put, no_step, carried_out, replied_at, fresh_stamp, with_call}
+use Rattle.protocol.specs.Nodes.{Node, NodeStep, put, no_step, carried_out, replied_at, replied_ballot, fresh_stamp, known_after, with_call, with_known}
 use Rattle.coord_phase.specs.Messages.{packets_from}
+use Rattle.coord_phase.specs.Decisions.{decided_on}
 use Rattle.coord_phase.specs.Operations.{counts, heard, heard_at, seat_told}
 use Rattle.node.specs.declared.operations.Operation.{Operation}
 use Rattle.stamp_store.specs.declared.stamp_sources.StampSource.{StampSource}
@@ -37,7 +38,7 @@ use Rattle.node.proofs.States.{same_states}
 use Rattle.node.proofs.Tables.{shown_after}
 
 -- a value that is there
-there : {A : Type 0} (o : Option A) → is_some o ≡ true → (x : A) × (o ≡ Some x)
+pub there : {A : Type 0} (o : Option A) → is_some o ≡ true → (x : A) × (o ≡ Some x)
 there None is = absurd cc
 there (Some x) is = (x, refl)
 
@@ -60,6 +61,13 @@ module _ (layout : Layout) (before : OpenWork) (from : BrickId) (call : Call) (o
   pub heard_is : (heard (shown_of op) from (message.Reply call reply)).state ≡ with_it seat_found.0
   unfolding seat_told
   heard_is = ap (λ (seat : Option ℕ). (heard_at (shown_of op) from (message.Reply call reply) seat).state) seat_found.1
+
+  -- where it waits for more, that is what is decided
+  pub waits_decided : EndsOrWaits (coordinator_of op) from view None
+      → decided_on None (shown_of op) from (message.Reply call reply) ≡ machine.Waits (heard (shown_of op) from (message.Reply call reply)).state
+  waits_decided ends =
+      let block = (shown_of op).block in
+      ends block (block_code block) None call (Some lineage) seat_found.0 seat_found.1 ∙ ap (λ (c : Coordinator). machine.Waits c) (sym heard_is)
 
   -- what the machine's brick does
   steps_by : (ended : Option Answer) → EndsOrWaits (coordinator_of op) from view ended → (now : ℕ) (kept : KeptParts)
@@ -98,6 +106,18 @@ module _ (layout : Layout) (before : OpenWork) (from : BrickId) (call : Call) (o
       ∙ ap (λ (c : Coordinator). put f call.seq (Some c) k) now_is
       ∙ ap (λ (seq : ℕ). put f seq (Some (with_it seat_found.0)) k) (sym at.seq))
       (ap (λ (proposals : Proposals). proposal_in proposals.under_way) same) refl))
+
+-- a reply that tells a later view is to the proposal, where no operation of its call is open
+pub goes_is : (layout : Layout) (now : ℕ) (from : BrickId) (call : Call) (told : Reply) (work : OpenWork) (kept : KeptParts) (view : ViewNo) (lineage : Lineage)
+    → get nat_cmp work.calls.operations call.seq ≡ None → told ≡ Moved view (Some lineage)
+    → (let node = state_in kept work in
+    step_on layout now from call told work kept ≡ replied_ballot layout work.calls.me from node call told (proposal_in work.proposals.under_way))
+unfolding state_with
+goes_is layout now from call told work kept view lineage none moved =
+    let node = state_in kept work in
+    let me = work.calls.me in
+    ap (replied_at (coding layout) me now from node call told) (ap (option_map coordinator_of) none)
+    ∙ ap (λ (r : Reply). replied_ballot layout me from (with_known node (known_after node.known r)) call told (proposal_in work.proposals.under_way)) moved
 
 -- ---- what is still to be done, and what is taken back
 

@@ -60,13 +60,14 @@ pub record HasCounted (seq : ℕ) (from : BrickId) (message : Message) (before a
 
 -- ---- at a brick
 
+-- a message counts in this operation, or, if there is none, in the proposal
+abbrev pub counts_with : OpenWork → BrickId → Message → Option Operation → Bool
+counts_with work from message None = proposals.counts_in work.proposals.under_way from message
+counts_with work from message (Some op) = counts (shown_of op) from message
+
 -- a message counts in the open operation of a call, or, if there is none, in the proposal
 abbrev pub counts_at : OpenWork → ℕ → BrickId → Message → Bool
-counts_at work seq from message = counts_by (get nat_cmp work.calls.operations seq)
-  where
-    counts_by : Option Operation → Bool
-    counts_by None = proposals.counts_in work.proposals.under_way from message
-    counts_by (Some op) = counts (shown_of op) from message
+counts_at work seq from message = counts_with work from message (get nat_cmp work.calls.operations seq)
 
 -- a brick of the machine ends the operation of this number with this answer
 abbrev pub ended_step : Node → ℕ → Answer → NodeStep

@@ -77,6 +77,7 @@ begin-requires-clause-fits g c =
     (sym (group_in_view_is x.layout c.learnt_view-view.result.members c.args.ask.now.group.0 group c.in-Ok.ensures.group)) c.in-Ok.ensures.fits
 
 pub returns-clause-begun : goal.returns-clause-begun
+unfolding state_of
 returns-clause-begun g c =
     let x = c.self.inside in
     let view = c.learnt_view-view.result in

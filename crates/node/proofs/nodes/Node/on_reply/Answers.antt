@@ -4,7 +4,8 @@ use Rattle.std.specs.Result.{OnOk, IfOk}
 use Rattle.fab_disk.specs.Disk.{IsUntouched}
 use Rattle.brick_store.specs.Bricks.{Brick}
 use Rattle.brick_store.specs.Calls.{Append, calls_for}
-use Rattle.replica.specs.Calls.{learnt_append}
+use Rattle.messages.specs.declared.packets.Message.TheVariants as message
+use Rattle.replica.specs.Calls.{learnt_append, message_append}
 use Rattle.stripe_code.specs.Codes.{coding}
 use Rattle.protocol.specs.Views.{view_told}
 use Rattle.protocol.specs.Nodes.{Node, NodeStep, absorbed, received, no_step}
@@ -145,4 +146,4 @@ returns-clause-change g c =
     let append_is = append_reply old.layout old.me node packet call told c.requires.reply
     ∙ ap (λ (n : Node). learnt_append (node.learnt group) (n.learnt group)) learnt in
     subst (λ (append : Option Append). StepChange g.D.Disk append (absorbed (coding old.layout) old.me node packet) old new (end_of c.on_moved.result)) (sym append_is)
-    (subst (λ (kept : Node). StepChange g.D.Disk _ kept old new (end_of c.on_moved.result)) (sym absorbed_is) c.on_moved.ensures.change)
+    (subst (λ (kept : Node). StepChange g.D.Disk (message_append old.layout old.me old.me node (message.Learn call.group c.in-Some.view)) kept old new (end_of c.on_moved.result)) (sym absorbed_is) c.on_moved.ensures.change)
