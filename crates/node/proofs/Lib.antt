@@ -11,10 +11,12 @@ pub mod Resending
 pub mod Views
 pub mod Moments
 pub mod Moved
+pub mod Hearing
 pub mod Steps
 pub mod Stills
 pub mod Requests
 pub mod Starts
+pub mod Learning
 pub mod Sent
 pub mod Shown
 pub mod Turns

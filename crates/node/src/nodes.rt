@@ -158,8 +158,11 @@ impl<D: Disk> Node<D> {
             Err(refusal) => return Err(NodeFault::Refused(refusal)),
         };
         let view = learnt_view(&self.store, ask.group, group);
-        let calls = &mut self.work.calls;
-        Ok(calls.begin(self.alloc, &self.layout, view, now, ask)?)
+        Ok(
+            self.work
+                .calls
+                .begin(self.alloc, &self.layout, view, now, ask)?,
+        )
     }
 
     /// Begins a proposal of these members as the successor of the view that the brick has learnt of a group: what it sends. A list that may
@@ -192,8 +195,10 @@ impl<D: Disk> Node<D> {
         if let Some(refusal) = self.work.proposal_refusal(view.number) {
             return Err(NodeFault::Refused(refusal));
         }
-        let work = &mut self.work;
-        Ok(work.propose(self.alloc, &self.layout, kept, group, view, members)?)
+        Ok(
+            self.work
+                .propose(self.alloc, &self.layout, kept, group, view, members)?,
+        )
     }
 
     /// At a tick of the brick's clock each open operation, in the order of beginning, sends its present phase again to each member
@@ -244,9 +249,8 @@ impl<D: Disk> Node<D> {
             return Err(NodeFault::Halted);
         }
         match &packet.message {
-            Message::Request(_, _) | Message::Learn { .. } => {
-                self.serve(packet.from, &packet.message)
-            }
+            Message::Request(_, _) => self.serve(packet.from, &packet.message),
+            Message::Learn { .. } => self.serve(packet.from, &packet.message),
             Message::Reply(call, reply) => self.on_reply(now, packet, *call, reply),
             Message::Synced { .. } | Message::Client(_) | Message::ClientReply { .. } => {
                 Ok(Outs::nothing(self.alloc))
@@ -336,8 +340,10 @@ impl<D: Disk> Node<D> {
             (state_of self.new) image }
         ensures only { OnErr result (result ≡ Err NodeFault.NoMemory) }
     {
-        let work = &mut self.work;
-        Ok(work.on_reply(self.alloc, &self.layout, now, packet, call, reply)?)
+        Ok(
+            self.work
+                .on_reply(self.alloc, &self.layout, now, packet, call, reply)?,
+        )
     }
 
     /// Whether a reply that tells this later view teaches it: the view's lists may keep the group, and the reply counts.
@@ -380,8 +386,9 @@ impl<D: Disk> Node<D> {
     {
         // All else that can be refused comes before the view is learnt, and is taken back where that is refused.
         let (alloc, seq) = (self.alloc, call.seq);
-        let work = &mut self.work;
-        let turn = work.hear_moved(alloc, &self.layout, packet, call, reply, view.number)?;
+        let turn = self
+            .work
+            .hear_moved(alloc, &self.layout, packet, call, reply, view.number)?;
         match replica::learn(&mut self.store, &self.layout, call.group, &view) {
             Ok(()) => Ok(self.work.finish(alloc, seq, turn)),
             Err(fault) => {

@@ -405,7 +405,9 @@ impl Operation {
     pub(crate) fn ended_by(&self, from: BrickId, view: ViewNo) -> Option<Answer>
         ensures { EndsOrWaits (coordinator_of self.now) from view result }
     {
-        let seat = self.group().seat_of(from)?;
+        let Some(seat) = self.group().seat_of(from) else {
+            return None;
+        };
         let counted = self.shown().counted();
         if counted.len() + 1 < usize::from(self.group().quorum()) {
             return None;

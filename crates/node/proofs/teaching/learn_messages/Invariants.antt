@@ -8,7 +8,7 @@ use Rattle.node.proofs.teaching.learn_messages.Given as goal
 abbrev pub invariant-loop-brick : goal.invariant-loop-brick
 invariant-loop-brick l =
     record {
-      sends : (me : BrickId) → packets_from me l.messages.items ++ learn_packets me l.group l.view.now (l.bricks - l.brick) l.brick
-          ≡ learn_packets me l.group l.view.now l.bricks 0;
+      sends : (me : BrickId) → packets_from me l.messages.items ++ learn_packets me l.group l.view (l.bricks - l.brick) l.brick
+          ≡ learn_packets me l.group l.view l.bricks 0;
       count : vec_len l.messages ≡ l.brick;
     }

@@ -6,6 +6,6 @@ use Rattle.node.proofs.teaching.teaching.Given as goal
 abbrev pub invariant-loop-to : goal.invariant-loop-to
 invariant-loop-to l =
     record {
-      items : l.taught.items ≡ each_taught l.group l.view.now l.yielded;
+      items : l.taught.items ≡ each_taught l.group l.view l.yielded;
       count : vec_len l.taught ≡ 2 * length l.yielded;
     }
