@@ -75,12 +75,22 @@ fn note_logs(notes: &mut Text, world: &World, first: &Group, group: GroupId, str
     let first = first.members();
     let first = first.as_slice();
     for brick in first {
-        note_log(notes, *brick, number_of(world, *brick, group), world.log_of(*brick, group, stripe));
+        note_log(
+            notes,
+            *brick,
+            number_of(world, *brick, group),
+            world.log_of(*brick, group, stripe),
+        );
     }
     for number in 0..world.layout().bricks() {
         let brick = BrickId(number);
         if !first.contains(&brick) && is_member(world, group, brick) {
-            note_log(notes, brick, number_of(world, brick, group), world.log_of(brick, group, stripe));
+            note_log(
+                notes,
+                brick,
+                number_of(world, brick, group),
+                world.log_of(brick, group, stripe),
+            );
         }
     }
 }

@@ -4,7 +4,8 @@ use fab_base::BrickId;
 use messages::Packet;
 use std::alloc::Global;
 use trace_runs::{
-    DeliveryOutcome, FaultOutcome, Journal, LearntView, LineEffects, Text, number_at, packet_at, put_message,
+    DeliveryOutcome, FaultOutcome, Journal, LearntView, LineEffects, Text, number_at, packet_at,
+    put_message,
 };
 
 /// Writes the message of a number, of all that were sent, with its number.

@@ -303,8 +303,10 @@ impl Journal {
 
     /// Notes that a message was sent, if it is of a proposal: that is the one that its brick has open, and this is its newest phase.
     fn note_ballot(&mut self, packet: &Packet) -> Result<(), NoMem> {
-        if let Message::Request(call, Request::Prepare { .. } | Request::Accept { .. }) =
-            &packet.message
+        if let Message::Request(
+            call,
+            Request::Prepare { .. } | Request::Accept { .. },
+        ) = &packet.message
         {
             let key = key_of(packet.from, call);
             self.proposals.insert(packet.from.0, (key, call.phase))?;

@@ -190,7 +190,10 @@ fn put_reply(text: &mut Text, reply: &Reply) {
 fn put_call(text: &mut Text, call: &Call, operation: Option<u64>) {
     match operation {
         Some(operation) => text.fill(" op %", &[operation]),
-        None => text.fill(" group % view %", &[call.group.0.into(), call.view.0.into()]),
+        None => text.fill(
+            " group % view %",
+            &[call.group.0.into(), call.view.0.into()],
+        ),
     }
     text.fill(" phase %", &[u64::from(call.phase)]);
 }
