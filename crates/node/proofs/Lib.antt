@@ -21,5 +21,4 @@ pub mod Sent
 pub mod Shown
 pub mod Turns
 pub mod Counting
-pub mod Proposing
-pub mod Balloting
+pub mod Ballots

@@ -53,7 +53,7 @@ module _ (layout : Layout) (before : OpenWork) (from : BrickId) (call : Call) (o
   with_it seat = with_reply (coordinator_of op) seat from reply
 
   -- the reply counts at some seat
-  seat_found : (seat : ℕ) × (machine.counts_at (shown_of op).block (coordinator_of op) from.0 call reply ≡ Some seat)
+  pub seat_found : (seat : ℕ) × (machine.counts_at (shown_of op).block (coordinator_of op) from.0 call reply ≡ Some seat)
   unfolding seat_told
   seat_found = there (machine.counts_at (shown_of op).block (coordinator_of op) from.0 call reply) counted
 
@@ -128,12 +128,6 @@ module _ (layout : Layout) (from : BrickId) (call : Call) (told : Reply) (before
       → (kept : KeptParts) → state_in kept after ≡ state_in kept before
   counted_back after is same back kept =
       ap (λ (proposals : Proposals). state_with (parts_with kept proposals) after.calls) (same ∙ is.1) ∙ back before.calls is.0 (parts_with kept before.proposals)
-
-  -- where nothing was done yet, all is as it was
-  pub nothing_done : (turn : Turn) → (turn ≡ turn.Counted → ⊥) → IsTurn layout from call told before turn mid → mid ≡ before
-  nothing_done turn.Counted other is = absurd (other refl)
-  nothing_done (turn.Ends answer) other is = is.0
-  nothing_done (turn.Goes held) other is = is.0
 
   -- an operation that counted it has done all
   pub counted_done : (outs : Outcome) → outs ≡ record { messages = []; told = []; answers = []; reports = [] } → IsTurn layout from call told before turn.Counted mid

@@ -99,6 +99,8 @@ impl OpenProposal {
             view,
             mut proposer,
         } = self;
+        // There is at most a message for each member, and these are few.
+        let _ = view.members.as_slice();
         let outs = match proposer.on_reply(from, message)? {
             ViewNext::Wait => Outs::nothing(alloc),
             ViewNext::Send(messages) => Outs::sending(messages),
@@ -131,7 +133,7 @@ impl OpenProposal {
         ensures packets { IfOk result (λ messages. (me : BrickId) → packets_from me messages.items ≡ ballot_resent me (proposal_of self.now.proposer)) }
         ensures few { IfOk result (λ messages. vec_len messages ≤ 64) }
     {
-        // The call only tells limits: a list has at most 32 members.
+        // There is at most a message for each member, and these are few.
         let _ = self.view.members.as_slice();
         match self.proposer.on_tick()? {
             ViewNext::Send(messages) => teaching(alloc, self.group, &self.view, messages),

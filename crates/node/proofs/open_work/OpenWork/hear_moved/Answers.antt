@@ -12,12 +12,13 @@ use Rattle.node.specs.declared.open_work.OpenWork.{OpenWork}
 use Rattle.node.specs.declared.operations.Operation.{Operation}
 use Rattle.node.specs.Moves.{EndsIfOpen, HasCounted, WaitsOn, counts_with, ended_step, step_on}
 use Rattle.node.specs.Proposals.{GoesAs}
-use Rattle.node.specs.States.{KeptParts, state_in}
+use Rattle.node.specs.States.{KeptParts, state_in, state_with}
 use Rattle.node.proofs.Hearing.{none_of}
 use Rattle.node.proofs.Turns.{there, goes_is, ends_step, waits_decided, waits_step}
 use Rattle.node.proofs.open_work.OpenWork.hear_moved.Goals as goal
 
 pub returns-then-not-is_open-clause-turn : goal.returns-then-not-is_open-clause-turn
+unfolding state_with
 returns-then-not-is_open-clause-turn c = (
   refl,
   c.in_ok-heard.ensures.left,
