@@ -50,7 +50,7 @@ fn fresh_stamp(mut stamps: StampSource, now: u64, view: ViewNo, me: BrickId) -> 
 }
 
 impl OpenCalls {
-    ghost use Rattle.std.specs.Prelude.{◌≡◌, ◌+◌, ◌-◌, ◌^◌, ◌<◌, ◌≤◌, ℕ, true, if◌then◌else◌, None, Some, is_some, IfOk, OnOk, OnErr, [], ◌∷◌, length, vec_len};
+    ghost use Rattle.std.specs.Prelude.{◌≡◌, ◌+◌, ◌-◌, ◌^◌, ◌<◌, ◌≤◌, ℕ, true, false, nat_eq, if◌then◌else◌, None, Some, is_some, IfOk, OnOk, OnErr, [], ◌∷◌, length, vec_len};
     ghost use Rattle.std.specs.BTreeMap.{get, btree_map_len};
     ghost use Rattle.std.specs.Ordering.{nat_cmp};
     ghost use Rattle.std.specs.Option.{SomeIff};
@@ -164,6 +164,14 @@ impl OpenCalls {
         ensures { SomeIff result (self.now.seq + 1 < 2 ^ 64) (self.now.seq + 1) }
     {
         self.seq.checked_add(1)
+    }
+
+    /// Whether no call is left: the last one has the last number.
+    pub(crate) fn is_spent(&self) -> bool
+        ensures value { result ≡ nat_eq self.now.seq (2 ^ 64 - 1) }
+        ensures left { result ≡ false → self.now.seq + 1 < 2 ^ 64 }
+    {
+        self.seq == u64::MAX
     }
 
     /// Begins an operation that is not refused, in this view of its group.

@@ -69,10 +69,7 @@ impl OpenWork {
     {
         if self.proposals.is_busy() {
             Some(Refusal::Busy)
-        } else if self.proposals.is_spent()
-            || view.0 == u32::MAX
-            || self.calls.next_seq().is_none()
-        {
+        } else if self.proposals.is_spent() || view.0 == u32::MAX || self.calls.is_spent() {
             Some(Refusal::Spent)
         } else {
             None

@@ -1,6 +1,5 @@
 -- Nothing is under way.
-use Rattle.std.proofs.Common.{sym, subst}
-use Rattle.std.specs.Prelude.{Option}
+use Rattle.std.proofs.Common.{Option, sym, subst}
 use Rattle.node.specs.declared.proposals.OpenProposal.{OpenProposal}
 use Rattle.node.specs.Proposals.{IsUnderWayOn}
 use Rattle.node.proofs.open_work.OpenWork.new.Goals as goal
