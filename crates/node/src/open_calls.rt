@@ -56,7 +56,7 @@ impl OpenCalls {
     ghost use Rattle.std.specs.Option.{SomeIff};
     ghost use Rattle.std.specs.Result.{result_err};
     ghost use Rattle.fab_base.specs.Layouts as layouts;
-    ghost use Rattle.fab_base.specs.Layouts.{group_of};
+    ghost use Rattle.fab_base.specs.Layouts.{group_of, most_groups};
     ghost use Rattle.protocol.specs.Nodes.{has_block, has_length, refusal_in, refusal_of, coordinator_in, began_in, known_after, next_call, replied_at, resent_up_to, with_call, with_known};
     ghost use Rattle.quorum.specs.Quorums.{IsWithinLimits};
     ghost use Rattle.coord_phase.specs.Operations.{group_in_view};
@@ -137,6 +137,7 @@ impl OpenCalls {
     pub(crate) fn admit<'a>(&self, layout: &'a Layout, ask: &Ask) -> Result<&'a Group, Refusal>
         ensures refused { (parts : OtherParts) → result_err result ≡ refusal_of layout.now (state_with parts self.now) ask.now }
         ensures group { IfOk result (λ group. group_of layout.now ask.now.group.0 ≡ Some group.now) }
+        ensures few { OnOk result (ask.now.group.0 < most_groups) }
         ensures room { OnOk result (btree_map_len self.now.operations < 64) }
         ensures known { OnOk result (self.now.stamps.known + 1 < 2 ^ 64) }
         ensures seq { OnOk result (self.now.seq + 1 < 2 ^ 64) }
