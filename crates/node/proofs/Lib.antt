@@ -22,3 +22,5 @@ pub mod Shown
 pub mod Turns
 pub mod Counting
 pub mod Ballots
+pub mod CountsHere
+pub mod Proposed

@@ -10,7 +10,7 @@ use Rattle.node.specs.States.{parts_with, state_with}
 use Rattle.node.proofs.open_work.OpenWork.on_tick.Goals as goal
 
 pub returns-clause-packets : goal.returns-clause-packets
-unfolding (ticked, state_with)
+unfolding ticked state_with
 returns-clause-packets c = λ layout kept work.
     let me : BrickId = c.args.self.now.calls.me in
     let operations = c.in_ok-messages.messages.items in
