@@ -366,7 +366,7 @@ module _ (layout : Layout) (me : BrickId) (node : Node) (kept : Group) (group : 
       let call_is = sym calls in
       let round_is = sym round in
       let same : started bricks m group about call (next_ballot rounds me call) members
-          ≡ started layout.bricks kept.m group (node.learnt group.0).view (machine.next_call node) (next_ballot node.round me (machine.next_call node)) members =
+      ≡ started layout.bricks kept.m group (node.learnt group.0).view (machine.next_call node) (next_ballot node.round me (machine.next_call node)) members =
       λ i. started (bricks_is i) (m_is i) group (view_is i) (call_is i) (next_ballot (round_is i) me (call_is i)) members in
       let rounds_are : after.rounds ≡ round_used node.round b = used ∙ (λ i. round_used (round_is i) (is_membership (m_is i) (bricks_is i) members)) in
       subst (λ (o : Outcome). ProposesAs me node (machine.proposed_in (coding layout) me node group members (Some kept)) b o after) (sym sends)

@@ -24,3 +24,4 @@ pub mod Counting
 pub mod Ballots
 pub mod CountsHere
 pub mod Proposed
+pub mod KeptBricks

@@ -1,10 +1,8 @@
 -- What a step of a brick appends to the list of its store, and how many calls of the disk's `write_at` and `sync` that makes.
 use Rattle.std.specs.Prelude.{ℕ, Option}
-use Rattle.messages.specs.declared.calls.Call.{Call}
 use Rattle.messages.specs.declared.packets.Message.{Message}
 use Rattle.messages.specs.declared.packets.Message.TheVariants as message
 use Rattle.messages.specs.declared.packets.Packet.{Packet}
-use Rattle.messages.specs.declared.replies.Reply.{Reply}
 use Rattle.brick_store.specs.Calls.{Append, calls_for}
 use Rattle.replica.specs.Calls.{learnt_append, message_append}
 use Rattle.fab_base.specs.declared.identities.BrickId.{BrickId}

@@ -23,7 +23,7 @@ returns-in-End-clause-hears c =
 goes : (c : goal.Joined-branch-2) → IsNoEnd c.in_ok-on_reply.field-0
 goes c =
     elim c.match-branch-2.branch [
-      in-Wait w ↦ subst IsNoEnd (sym w.in-Wait.is) tt
+      | in-Wait w ↦ subst IsNoEnd (sym w.in-Wait.is) tt
       | in-Send w ↦ subst IsNoEnd (sym w.in-Send.is) tt
     ]
 
@@ -31,7 +31,7 @@ goes c =
 sends : (c : goal.Joined-branch-2) → c.match-branch-2.outs ≡ record { messages = sent_by c.in_ok-on_reply.field-0; told = []; answers = []; reports = [] }
 sends c =
     elim c.match-branch-2.branch [
-      in-Wait w ↦ w.outs-is ∙ w.nothing-outs.ensures ∙ ap (λ (does : ViewNext). record { messages = sent_by does; told = []; answers = []; reports = [] }) (sym w.in-Wait.is)
+      | in-Wait w ↦ w.outs-is ∙ w.nothing-outs.ensures ∙ ap (λ (does : ViewNext). record { messages = sent_by does; told = []; answers = []; reports = [] }) (sym w.in-Wait.is)
       | in-Send w ↦ w.outs-is ∙ w.sending-outs.ensures ∙ ap (λ (does : ViewNext). record { messages = sent_by does; told = []; answers = []; reports = [] }) (sym w.in-Send.is)
     ]
 
