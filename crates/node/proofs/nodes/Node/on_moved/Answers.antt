@@ -179,7 +179,7 @@ invariant_of-self-in-Err-6 g c =
 left_so : (g : given.Over) (c : goal.Joined-turn g) → c.match-turn.self ≡ running c.self.inside.layout c.take_back.new.self c.learn.new.store
 left_so g c =
     elim c.match-turn.branch [
-      in-Ends+in-Data-1 w ↦ w.self-is
+      | in-Ends+in-Data-1 w ↦ w.self-is
       | in-Ends+in-Done-1 w ↦ w.self-is
       | in-Goes+in-Some+in-Some-turn-6 w ↦ w.self-is
       | in-Goes+in-Some+in-None-1 w ↦ w.self-is
