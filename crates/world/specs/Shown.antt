@@ -416,6 +416,10 @@ HistoryBecomes next old new = (w : World) → Tells old w → Tells new (next w)
 abbrev pub HistoryNotes : BrickId → (machine.Node → Type 0) → (World → World) → History → History → Type 0
 HistoryNotes brick Holds next old new = (w : World) → Tells old w → w.up brick.0 ≡ true → Holds (w.nodes brick.0) → Tells new (next w)
 
+-- so it does where the brick is up in that world, and its step opens there no call but one of no operation
+abbrev pub HistoryNotesAside : BrickId → machine.NodeStep → (World → World) → History → History → Type 0
+HistoryNotesAside brick step next old new = (w : World) → Tells old w → w.up brick.0 ≡ true → OpensAside w brick step → Tells new (next w)
+
 -- what events that are none or one come to
 abbrev pub came_to : Setting → World → List Event → Outcome
 came_to setting w [] = Marks

@@ -168,9 +168,9 @@ impl History {
     ghost use Rattle.protocol.specs.Settings.{Setting};
     ghost use Rattle.protocol.specs.Nodes.{NodeStep};
     ghost use Rattle.protocol.specs.Nodes.{put as changed, view_at};
-    ghost use Rattle.protocol.specs.Worlds.{World, first_world, number_of, world_began, world_stepped, world_stopped, world_tells, world_answers, with_made, with_seen, reports_of};
+    ghost use Rattle.protocol.specs.Worlds.{first_world, number_of, world_began, world_stepped, world_stopped, world_tells, world_answers, with_made, with_seen, reports_of};
     ghost use Rattle.world.specs.CallNumbers.{HasCallRoom, calls_in, call_at};
-    ghost use Rattle.world.specs.Shown.{Tells, HasStepRoom, IsOfCall, AreTold, AreAnswered, OpensNone, OpensNext, OpensAside, HistoryStays, HistoryBecomes, HistoryNotes, most_sent, calls_aside};
+    ghost use Rattle.world.specs.Shown.{Tells, HasStepRoom, IsOfCall, AreTold, AreAnswered, OpensNone, OpensNext, HistoryStays, HistoryBecomes, HistoryNotes, HistoryNotesAside, most_sent, calls_aside};
 
     /// Nothing yet.
     pub fn new(alloc: Global) -> History
@@ -405,7 +405,7 @@ impl History {
         requires call { HasCallRoom self.old.calls brick.0 }
         requires few { length outs.messages ≤ most_sent }
         ensures { (setting : Setting) (step : NodeStep) → packets_from brick outs.messages ≡ step.packets → outs.reports ≡ step.reports
-            → (w : World) → Tells self.old w → w.up brick.0 ≡ true → OpensAside w brick step → Tells self.new (world_stepped setting w brick step) }
+            → HistoryNotesAside brick step (λ w. world_stepped setting w brick step) self.old self.new }
     {
         let (messages, _, _, report) = outs.into_parts();
         self.count_call(brick, &report);
